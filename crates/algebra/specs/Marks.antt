@@ -1,0 +1,75 @@
+-- A list of marks picks some elements of a list and leaves the others.
+--
+--   pick bs xs       the elements of xs that are marked
+--   leave bs xs      the elements of xs that are not marked; an element past the marks is not marked
+--   marked bs        how many marks are set
+use mathlib.Core.Path.{_≡_, refl, ap}
+use mathlib.Core.Bool.{Bool, true, false}
+use mathlib.Core.List.{List, [], _∷_, map}
+use Prim.Native.Nat.{ℕ, suc, _+_}
+use native.Mathlib.Omega.{arith}
+use lib.ListN.{length}
+use Rattle.algebra.specs.Each.{Each, Distinct}
+
+unfoldable pub pick : {A : Type 0} → List Bool → List A → List A
+pick [] xs = []
+pick (b ∷ bs) [] = []
+pick (true ∷ bs) (x ∷ xs) = x ∷ pick bs xs
+pick (false ∷ bs) (x ∷ xs) = pick bs xs
+
+unfoldable pub leave : {A : Type 0} → List Bool → List A → List A
+leave [] xs = xs
+leave (b ∷ bs) [] = []
+leave (true ∷ bs) (x ∷ xs) = leave bs xs
+leave (false ∷ bs) (x ∷ xs) = x ∷ leave bs xs
+
+unfoldable pub marked : List Bool → ℕ
+marked [] = 0
+marked (true ∷ bs) = suc (marked bs)
+marked (false ∷ bs) = marked bs
+
+-- ---- lengths
+pub length-pick : {A : Type 0} (bs : List Bool) (xs : List A) → length bs ≡ length xs → length (pick bs xs) ≡ marked bs
+unfolding pick marked
+length-pick [] xs e = refl
+length-pick (b ∷ bs) [] e = absurd (omega (arith, e))
+length-pick (true ∷ bs) (x ∷ xs) e = ap suc (length-pick bs xs (omega (arith, e)))
+length-pick (false ∷ bs) (x ∷ xs) e = length-pick bs xs (omega (arith, e))
+
+pub length-leave : {A : Type 0} (bs : List Bool) (xs : List A) → length bs ≡ length xs → length (leave bs xs) + marked bs ≡ length xs
+unfolding leave marked
+length-leave [] [] e = refl
+length-leave [] (x ∷ xs) e = absurd (omega (arith, e))
+length-leave (b ∷ bs) [] e = absurd (omega (arith, e))
+length-leave (true ∷ bs) (x ∷ xs) e = let r = length-leave bs xs (omega (arith, e)) in omega arith
+length-leave (false ∷ bs) (x ∷ xs) e = let r = length-leave bs xs (omega (arith, e)) in omega arith
+
+-- ---- what holds of the list holds of what is left
+pub each-leave : {A : Type 0} (P : A → Type 0) (bs : List Bool) (xs : List A) → Each P xs → Each P (leave bs xs)
+unfolding leave
+each-leave P [] xs h = h
+each-leave P (b ∷ bs) [] h = tt
+each-leave P (true ∷ bs) (x ∷ xs) h = each-leave P bs xs (h .1)
+each-leave P (false ∷ bs) (x ∷ xs) h = (h .0, each-leave P bs xs (h .1))
+
+pub distinct-leave : {A : Type 0} (bs : List Bool) (xs : List A) → Distinct xs → Distinct (leave bs xs)
+unfolding leave
+distinct-leave [] xs h = h
+distinct-leave (b ∷ bs) [] h = tt
+distinct-leave (true ∷ bs) (x ∷ xs) h = distinct-leave bs xs (h .1)
+distinct-leave (false ∷ bs) (x ∷ xs) h = (each-leave (λ y. y ≡ x → ⊥) bs xs (h .0), distinct-leave bs xs (h .1))
+
+-- ---- functions go over
+pub map-pick : {A B : Type 0} (h : A → B) (bs : List Bool) (xs : List A) → map h (pick bs xs) ≡ pick bs (map h xs)
+unfolding pick
+map-pick h [] xs = refl
+map-pick h (b ∷ bs) [] = refl
+map-pick h (true ∷ bs) (x ∷ xs) = ap (_∷_ (h x)) (map-pick h bs xs)
+map-pick h (false ∷ bs) (x ∷ xs) = map-pick h bs xs
+
+pub map-leave : {A B : Type 0} (h : A → B) (bs : List Bool) (xs : List A) → map h (leave bs xs) ≡ leave bs (map h xs)
+unfolding leave
+map-leave h [] xs = refl
+map-leave h (b ∷ bs) [] = refl
+map-leave h (true ∷ bs) (x ∷ xs) = map-leave h bs xs
+map-leave h (false ∷ bs) (x ∷ xs) = ap (_∷_ (h x)) (map-leave h bs xs)

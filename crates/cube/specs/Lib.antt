@@ -1,0 +1,4 @@
+pub mod Group
+pub mod Sum
+pub mod Party
+pub mod Opening
