@@ -1,0 +1,59 @@
+-- The loop's invariant: the first i bytes of s stand in out from index at on (`paste`); a turn writes byte i (`putAt-more`).
+use mathlib.Core.Path.{_≡_, refl, ap, _∙_}
+use mathlib.Core.List.{List}
+use Prim.Native.Nat.{ℕ, _+_, _-_, _≤_}
+use native.Mathlib.Omega.{arith}
+use borrow.Author.Needs.{needs}
+use lib.ListN.{length, getD, set, length-set}
+use lib.Seq.{paste}
+use Rattle.lists.specs.Part.Laws.{putAt-none, putAt-more, putAt-all}
+use Rattle.lists.proofs.put_at.Statement.{statement}
+use Rattle.lists.proofs.put_at.Tie as tie
+
+abbrev Inv-loop : tie.InvT-loop
+Inv-loop out₀ at s i₀ out i = (i ≤ length s) × (out ≡ paste out₀ at s i) × (length out ≡ length out₀)
+
+abbrev μ-loop : tie.MeasureT-loop
+μ-loop out₀ at s i₀ out i = length s - i
+
+loop-holds : tie.Need-loop-holds Inv-loop μ-loop
+loop-holds c = (search needs, putAt-none _ (c .args .at) (c .args .s .now), refl)
+
+shared-slice-read-out : tie.Need-shared-slice-read-out Inv-loop μ-loop
+shared-slice-read-out c = omega arith
+
+add-out : tie.Need-add-out Inv-loop μ-loop
+add-out c = omega arith
+
+slice-write-out : tie.Need-slice-write-out Inv-loop μ-loop
+slice-write-out c = omega arith
+
+add-i : tie.Need-add-i Inv-loop μ-loop
+add-i c = omega arith
+
+loop-less : tie.Need-loop-less Inv-loop μ-loop
+loop-less c = omega arith
+
+loop-again : tie.Need-loop-again Inv-loop μ-loop
+loop-again c =
+    let p = c .before .before in
+    let a = p .before .args in (
+      omega arith,
+      ap (λ (l : List ℕ). set l (a .at + p .loop .i) (getD (a .s .now) (p .loop .i) 0)) (p .loop .inv .1)
+          ∙ putAt-more (a .out .now) (a .at) (a .s .now) (p .loop .i) (omega arith) (omega arith),
+      simp length-set (p .loop .inv .2),
+    )
+
+same-length : tie.Need-same-length Inv-loop μ-loop
+same-length c = c .before .loop .inv .2
+
+returns : tie.Need-returns Inv-loop μ-loop
+returns c =
+    let p = c .before in
+    let a = p .before .args in
+    let e : p .loop .i ≡ length (a .s .now) = omega arith in
+    p .loop .inv .1 ∙ ap (λ (k : ℕ). paste (a .out .now) (a .at) (a .s .now) k) e ∙ putAt-all (a .out .now) (a .at) (a .s .now)
+
+pub put-at-spec : {M : Type 1} → statement M
+put-at-spec =
+    tie.close (tie.spec Inv-loop μ-loop loop-holds shared-slice-read-out add-out slice-write-out add-i loop-less loop-again same-length returns)

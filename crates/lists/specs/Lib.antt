@@ -1,0 +1,9 @@
+pub mod Xor
+pub mod Computed
+pub mod Additive
+pub mod Part
+pub mod Sum
+pub mod Zeroed
+pub mod Blend
+pub mod Equal
+pub mod Checks

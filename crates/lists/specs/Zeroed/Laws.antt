@@ -1,0 +1,34 @@
+-- The laws of `zeroed`.
+--
+-- length-zeroed               the length stays, where the zeros fit
+-- zeroed-none, zeroed-more    a loop that zeroes d has come to `zeroed i d`
+-- zeroed-all                  all of d zeroed
+-- zeroed-front                the front `&mut w[..n]` was lent and came back as zeros
+use mathlib.Core.Path.{_≡_, refl}
+use Prim.Native.Nat.{ℕ, _+_, _≤_, _<_}
+use native.Mathlib.Omega.{arith}
+use mathlib.Core.List.{List, _++_, append-nil}
+use lib.ListN.{length, drop, set, replicate, length-append, length-drop, length-replicate}
+use lib.Seq.{drop-length}
+use borrow.Author.Fill.{fill-more}
+use Rattle.lists.specs.Zeroed.{zeroed}
+
+pub length-zeroed : (n : ℕ) (d : List ℕ) → n ≤ length d → length (zeroed n d) ≡ length d
+unfolding zeroed
+length-zeroed n d h = simp (length-append, length-replicate, length-drop) (omega arith)
+
+pub zeroed-none : (d : List ℕ) → d ≡ zeroed 0 d
+unfolding zeroed
+zeroed-none d = refl
+
+pub zeroed-more : (i : ℕ) (d : List ℕ) → i < length d → set (zeroed i d) i 0 ≡ zeroed (i + 1) d
+unfolding zeroed
+zeroed-more i d h = fill-more i 0 d h
+
+pub zeroed-all : (d : List ℕ) (n : ℕ) → length d ≡ n → zeroed n d ≡ replicate n 0
+unfolding zeroed
+zeroed-all d n e = rw (← e, drop-length) (append-nil (replicate (length d) 0))
+
+pub zeroed-front : (w ys : List ℕ) (n : ℕ) → ys ≡ replicate n 0 → ys ++ drop n w ≡ zeroed n w
+unfolding zeroed
+zeroed-front w ys n e = rw e
