@@ -1,0 +1,5 @@
+pub mod Product
+pub mod Tables
+pub mod Powers
+pub mod Inverse
+pub mod Byte

@@ -1,0 +1,4 @@
+pub mod Point
+pub mod Value
+pub mod Pairs
+pub mod Field
