@@ -1,0 +1,13 @@
+-- Both sides store the same number in lane 0.
+use mathlib.Core.Path.{refl}
+use borrow.Author.Needs.{needs}
+use Rattle.keccak.specs.Steps.{ι}
+use Rattle.keccak.proofs.steps.iota.Statement.{statement}
+use Rattle.keccak.proofs.steps.iota.Tie as tie
+
+returns : tie.Need-returns
+unfolding ι
+returns c = refl
+
+pub iota-spec : {M : Type 1} → statement M
+iota-spec = tie.close (tie.spec (λ c. search needs) (λ c. search needs) returns)

@@ -1,0 +1,37 @@
+-- A whole lane is stored at once (`given-lane`), or one byte is.
+use mathlib.Core.Path.{ap, _∙_}
+use mathlib.Core.List.{[], _∷_}
+use native.Mathlib.Omega.{arith}
+use borrow.Author.Needs.{needs}
+use lib.Seq.{sets}
+use Rattle.shake256.proofs.Lanes.{given-lane}
+use Rattle.shake256.proofs.give_some.Statement.{statement}
+use Rattle.shake256.proofs.give_some.Tie as tie
+
+returns : tie.Need-returns
+returns c =
+    let start = c .before .before .before .before .before .before .before .before in
+    record {
+      some = omega arith;
+      within = omega (arith, start);
+      room = omega (arith, start);
+      is =
+          c .before .before .store .ensures
+          ∙ ap (sets (start .args .out .now) (start .args .i)) (given-lane (start .args .lanes .now) (start .args .at) (c .before .before .before .before .before .if1 .taken));
+    }
+
+returns-2 : tie.Need-returns-2
+returns-2 c =
+    let start = c .before .before .before .before in
+    record {
+      some = omega arith;
+      within = omega (arith, start);
+      room = omega (arith, start);
+      is = λ t. sets (start .args .out .now) (start .args .i) (c .byte-of .ensures t ∷ []);
+    }
+
+pub give-some-spec : {M : Type 1} → statement M
+give-some-spec =
+    tie.close
+    (tie.spec (λ c. search needs) (λ c. search needs) (λ c. search needs) (λ c κs. search needs) (λ c. search needs) returns
+    (λ c κs. search needs) (λ c. search needs) (λ c. search needs) returns-2)
