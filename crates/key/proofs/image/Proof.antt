@@ -1,0 +1,98 @@
+-- The loop's invariant: the first i rows are written, and a is where row i starts (`rows-turn`).
+use mathlib.Core.Path.{_≡_, refl, ap, _∙_}
+use Prim.Native.Nat.{ℕ, _+_, _*_, _-_, _≤_, _<_}
+use native.Mathlib.Omega.{arith}
+use borrow.Author.Needs.{needs}
+use lib.ListN.{length, take, drop, length-set}
+use native.Mathlib.Nat.{suc-mul}
+use native.Mathlib.Numerals.{add-one}
+use Rattle.lists.specs.Part.Laws.{part-fits}
+use Rattle.lists.specs.Blend.{blend}
+use Rattle.lists.specs.Blend.Laws.{blend-none, blend-all}
+use Rattle.key.specs.Key.{dot, rows}
+use Rattle.key.specs.Key.Vector.{length-rows}
+use Rattle.key.specs.Loops.Image.{rows-turn}
+use Rattle.key.proofs.image.Statement.{statement}
+use Rattle.key.proofs.image.Tie as tie
+
+abbrev Inv-loop : tie.InvT-loop
+Inv-loop x matrix out₀ log pow k n a₀ i₀ out a i =
+    (i ≤ n) × (a ≡ i * length x) × (out ≡ blend i (rows (length out₀) matrix x) out₀) × (length out ≡ length out₀)
+
+abbrev μ-loop : tie.MeasureT-loop
+μ-loop x matrix out₀ log pow k n a₀ i₀ out a i = n - i
+
+-- the row ends within the matrix
+inside : (p : tie.At-loop Inv-loop μ-loop) → p .loop .i < length (p .before .before .before .before .args .out .now)
+    → p .loop .a + length (p .before .before .before .before .args .x .now) ≤ length (p .before .before .before .before .args .matrix .now)
+inside p h =
+    let a = p .before .before .before .before .args in
+    omega (arith, part-fits (p .loop .i) (length (a .out .now)) (length (a .x .now)) h)
+
+loop-holds : tie.Need-loop-holds Inv-loop μ-loop
+loop-holds c = (omega arith, omega arith, blend-none _ _, refl)
+
+add-e : tie.Need-add-e Inv-loop μ-loop
+add-e c = omega (arith, inside (c .before) (c .loop-test .taken))
+
+sub-row : tie.Need-sub-row Inv-loop μ-loop
+sub-row c = search needs
+
+part-row-start : tie.Need-part-row-start Inv-loop μ-loop
+part-row-start c = search needs
+
+part-row-end : tie.Need-part-row-end Inv-loop μ-loop
+part-row-end c = omega (arith, inside (c .before) (c .loop-test .taken))
+
+row-requires : tie.Need-row-requires Inv-loop μ-loop
+row-requires c κs = search needs
+
+slice-write-out : tie.Need-slice-write-out Inv-loop μ-loop
+slice-write-out c = search needs
+
+add-i : tie.Need-add-i Inv-loop μ-loop
+add-i c = search needs
+
+loop-less : tie.Need-loop-less Inv-loop μ-loop
+loop-less c = search needs
+
+loop-again : tie.Need-loop-again Inv-loop μ-loop
+loop-again c =
+    let p = c .before .before .before in
+    let a = p .before .before .before .before .args in
+    let k : (p .loop .a + length (a .x .now)) - p .loop .a ≡ length (a .x .now) = omega arith in (
+      omega arith,
+      ap (λ (j : ℕ). j + length (a .x .now)) (p .loop .inv .1)
+          ∙ omega (arith, suc-mul (p .loop .i) (length (a .x .now)), ap (λ (j : ℕ). j * length (a .x .now)) (add-one (p .loop .i))),
+      rows-turn (a .matrix .now) (a .x .now) (p .loop .i) (p .loop .a) _ (a .out .now) (p .loop .out) (omega arith) (p .loop .inv .1) (p .loop .inv .2)
+          (c .row .ensures ∙ ap (λ (j : ℕ). dot (take j (drop (p .loop .a) (a .matrix .now))) (a .x .now)) k),
+      simp length-set (p .loop .inv .3),
+    )
+
+same-length : tie.Need-same-length Inv-loop μ-loop
+same-length c = c .before .loop .inv .3
+
+returns : tie.Need-returns Inv-loop μ-loop
+returns c =
+    let a = c .before .before .before .before .before .args in
+    c .before .loop .inv .2
+    ∙ blend-all (c .before .loop .i) _ _ (length-rows (length (a .out .now)) (a .matrix .now) (a .x .now)) (omega arith)
+
+pub image-spec : {M : Type 1} → statement M
+image-spec =
+    tie.close
+    (tie.spec
+    Inv-loop
+    μ-loop
+    loop-holds
+    add-e
+    sub-row
+    part-row-start
+    part-row-end
+    row-requires
+    slice-write-out
+    add-i
+    loop-less
+    loop-again
+    same-length
+    returns)

@@ -1,0 +1,174 @@
+-- The laws of S and F.
+--
+--   length-ascending, ascending-at    the points in a row
+--   points-distinct                   no two interpolation points are equal bytes
+--   length-interpolant                S has m coefficients
+--   interpolant-takes                 S(f_i) = x_i for all i
+--   interpolant-unique                no other m bytes as coefficients have these values
+--   interpolant-values, -only         both over the field of bytes
+--   interpolant-xor                   S of a sum is the sum of both S, for all numbers: "Addition is xor"
+--   bytes-interpolant                 S of bytes has bytes as coefficients
+--   length-vanishing                  F has m + 1 coefficients
+--   vanishing-in-field                F over the field of bytes
+--   vanishing-monic                   F is m low coefficients and a leading 1
+--   vanishing-leading                 the same over the field of bytes
+--   vanishing-zero, vanishing-not     F is zero at each f_i, and at no other byte
+--   bytes-vanishing                   F has bytes as coefficients
+use mathlib.Core.Path.{_≡_, refl, sym, ap, ap₂, _∙_}
+use mathlib.Core.List.{List, [], _∷_, _++_}
+use Prim.Native.Nat.{ℕ, zero, suc, _+_, _≤_, _<_}
+use native.Mathlib.Nat.{not-suc-le-zero, le-of-suc-le-suc}
+use native.Mathlib.Omega.{arith}
+use lib.Dec.{lit<}
+use lib.ListN.{length, take, getD, length-map}
+use Rattle.lists.specs.Sum.{xorList}
+use Rattle.lists.specs.Sum.Laws.{length-xorList}
+use Rattle.algebra.specs.Ring.{ops}
+use Rattle.algebra.specs.Each.{Each, Distinct}
+use Rattle.algebra.specs.Polynomial.{eval, plus, product, vanishing, interpolate, values}
+use Rattle.algebra.specs.Polynomial.Lengths.{length-product, length-interpolate}
+use Rattle.algebra.specs.Polynomial.Linear.{interpolate-sum}
+use Rattle.algebra.specs.Polynomial.Interpolation.{interpolate-values, interpolate-unique}
+use Rattle.algebra.specs.Polynomial.Products.{product-roots, leading-product}
+use Rattle.algebra.specs.Polynomial.Quotients.{vanishing-elsewhere}
+use Rattle.algebra.specs.Polynomial.Maps.{map-eval, map-interpolate, map-product}
+use Rattle.bytefield.specs.Product.{byteOps}
+use Rattle.bytefield.specs.Product.Laws.{byte-linear}
+use Rattle.bytefield.specs.Inverse.{inverse}
+use Rattle.bytefield.specs.Byte.{Byte, byte, byteRing, byteField, byteInverse, byte-one, byte-inverse, byte-homomorphism, val-byte}
+use Rattle.polynomial.specs.Bytes.{Bytes, inField, xorList-plus, bytes-equal, byte-eval, bytes-monic, bytes-interpolate, bytes-product}
+use Rattle.polynomial.specs.Interpolant.{ascending, interpolationPoints, interpolantOf, vanishingOf}
+
+-- ---- the points
+
+pub length-ascending : (a n : ℕ) → length (ascending a n) ≡ n
+unfolding ascending
+length-ascending a zero = refl
+length-ascending a (suc n) = ap suc (length-ascending (suc a) n)
+
+pub ascending-at : (a n i : ℕ) → i < n → getD (ascending a n) i 0 ≡ a + i
+unfolding ascending
+ascending-at a zero i h = absurd (not-suc-le-zero h)
+ascending-at a (suc n) zero h = omega arith
+ascending-at a (suc n) (suc i) h = ascending-at (suc a) n i (le-of-suc-le-suc h) ∙ omega arith
+
+byte-differs : (a b : ℕ) → a < 256 → b < 256 → (a ≡ b → ⊥) → byte a ≡ byte b → ⊥
+byte-differs a b ha hb n e = n (sym (val-byte a ha) ∙ ap (λ (x : Byte). x .0) e ∙ val-byte b hb)
+
+ascending-differs : (f a n : ℕ) → f < a → a + n ≤ 256 → Each (λ y. y ≡ byte f → ⊥) (inField (ascending a n))
+unfolding ascending
+ascending-differs f a zero h k = tt
+ascending-differs f a (suc n) h k =
+    (byte-differs a f (omega arith) (omega arith) (λ e. omega arith), ascending-differs f (suc a) n (omega arith) (omega arith))
+
+ascending-distinct : (a n : ℕ) → a + n ≤ 256 → Distinct (inField (ascending a n))
+unfolding ascending
+ascending-distinct a zero k = tt
+ascending-distinct a (suc n) k = (ascending-differs a (suc a) n (omega arith) (omega arith), ascending-distinct (suc a) n (omega arith))
+
+pub points-distinct : (m : ℕ) → m < 256 → Distinct (inField (interpolationPoints m))
+points-distinct m h = ascending-distinct 1 m (omega arith)
+
+pub length-points : (m : ℕ) → length (inField (interpolationPoints m)) ≡ m
+length-points m = length-map (interpolationPoints m) byte ∙ length-ascending 1 m
+
+-- ---- S
+
+pub length-interpolant : (x : List ℕ) → length (interpolantOf x) ≡ length x
+unfolding interpolantOf
+length-interpolant x =
+    length-interpolate byteOps inverse (interpolationPoints (length x)) x (length-ascending 1 (length x)) ∙ length-ascending 1 (length x)
+
+pub bytes-interpolant : (x : List ℕ) → Bytes x → Bytes (interpolantOf x)
+unfolding interpolantOf
+bytes-interpolant x h = bytes-interpolate (interpolationPoints (length x)) x h
+
+module _ (x : List ℕ) (short : length x < 256) where
+  in-field : inField (interpolantOf x) ≡ interpolate (ops byteRing) byteInverse (inField (interpolationPoints (length x))) (inField x)
+  unfolding interpolantOf
+  in-field = map-interpolate byteOps (ops byteRing) byte byte-homomorphism inverse byteInverse byte-inverse (interpolationPoints (length x)) x
+
+  as-many : length (inField (interpolationPoints (length x))) ≡ length (inField x)
+  as-many = length-points (length x) ∙ sym (length-map x byte)
+
+  pub interpolant-values : values (ops byteRing) (inField (interpolantOf x)) (inField (interpolationPoints (length x))) ≡ inField x
+  interpolant-values =
+      ap (λ (p : List Byte). values (ops byteRing) p (inField (interpolationPoints (length x)))) in-field
+      ∙ interpolate-values byteField (inField (interpolationPoints (length x))) (inField x) as-many (points-distinct (length x) short)
+
+  pub interpolant-only : (p : List Byte) → length p ≡ length x
+      → values (ops byteRing) p (inField (interpolationPoints (length x))) ≡ inField x → p ≡ inField (interpolantOf x)
+  interpolant-only p l e =
+      interpolate-unique byteField (inField (interpolationPoints (length x))) (inField x) p as-many (points-distinct (length x) short)
+      (l ∙ sym (length-points (length x))) e
+      ∙ sym in-field
+
+  -- ---- the same on numbers
+  values-in-field : (p fs : List ℕ) → inField (values byteOps p fs) ≡ values (ops byteRing) (inField p) (inField fs)
+  values-in-field p [] = refl
+  values-in-field p (f ∷ fs) = ap₂ _∷_ (map-eval byteOps (ops byteRing) byte byte-homomorphism p f) (values-in-field p fs)
+
+  bytes-values : (p fs : List ℕ) → Bytes p → Bytes (values byteOps p fs)
+  bytes-values p [] h = tt
+  bytes-values p (f ∷ fs) h = (byte-eval p f h, bytes-values p fs h)
+
+  pub interpolant-takes : Bytes x → values byteOps (interpolantOf x) (interpolationPoints (length x)) ≡ x
+  interpolant-takes h =
+      bytes-equal (values byteOps (interpolantOf x) (interpolationPoints (length x))) x
+      (bytes-values (interpolantOf x) (interpolationPoints (length x)) (bytes-interpolant x h)) h
+      (values-in-field (interpolantOf x) (interpolationPoints (length x)) ∙ interpolant-values)
+
+  pub interpolant-unique : (p : List ℕ) → Bytes x → Bytes p → length p ≡ length x
+      → values byteOps p (interpolationPoints (length x)) ≡ x → p ≡ interpolantOf x
+  interpolant-unique p h k l e =
+      bytes-equal p (interpolantOf x) k (bytes-interpolant x h)
+      (interpolant-only (inField p) (length-map p byte ∙ l) (sym (values-in-field p (interpolationPoints (length x))) ∙ ap inField e))
+
+-- ---- S of a sum
+
+pub interpolant-xor : (x y : List ℕ) → length x ≡ length y → interpolantOf (xorList x y) ≡ xorList (interpolantOf x) (interpolantOf y)
+unfolding interpolantOf
+interpolant-xor x y e =
+    let n : length (xorList x y) ≡ length x = length-xorList x y (omega arith) in
+    ap₂ (λ (n : ℕ) (l : List ℕ). interpolate byteOps inverse (interpolationPoints n) l) n (xorList-plus x y)
+    ∙ interpolate-sum byteOps byte-linear inverse (interpolationPoints (length x)) x y (length-ascending 1 (length x)) e
+    ∙ ap (λ (n : ℕ). plus byteOps (interpolantOf x) (interpolate byteOps inverse (interpolationPoints n) y)) e
+    ∙ sym (xorList-plus (interpolantOf x) (interpolantOf y))
+
+-- ---- F
+
+pub length-vanishing : (m : ℕ) → length (vanishingOf m) ≡ m + 1
+unfolding vanishingOf
+length-vanishing m =
+    let a = length-product byteOps (1 ∷ []) (interpolationPoints m) in
+    let b = length-ascending 1 m in
+    omega arith
+
+pub bytes-vanishing : (m : ℕ) → Bytes (vanishingOf m)
+unfolding vanishingOf
+bytes-vanishing m = bytes-product (1 ∷ []) (interpolationPoints m) (lit< tt, tt)
+
+pub vanishing-in-field : (m : ℕ) → inField (vanishingOf m) ≡ vanishing (ops byteRing) (inField (interpolationPoints m))
+unfolding vanishingOf
+vanishing-in-field m =
+    map-product byteOps (ops byteRing) byte byte-homomorphism (1 ∷ []) (interpolationPoints m)
+    ∙ ap (λ (o : Byte). product (ops byteRing) (o ∷ []) (inField (interpolationPoints m))) byte-one
+
+pub vanishing-leading : (m : ℕ) → (low : List Byte) × (inField (vanishingOf m) ≡ low ++ (byteRing .one ∷ []))
+vanishing-leading m =
+    let l = leading-product byteRing [] (byteRing .one) (inField (interpolationPoints m)) in
+    (l .0, vanishing-in-field m ∙ l .1)
+
+pub vanishing-monic : (m : ℕ) → vanishingOf m ≡ take m (vanishingOf m) ++ (1 ∷ [])
+vanishing-monic m =
+    let l = vanishing-leading m in
+    bytes-monic m (vanishingOf m) (l .0) (bytes-vanishing m) (length-vanishing m) (l .1)
+
+pub vanishing-zero : (m : ℕ) → Each (λ f. eval (ops byteRing) (inField (vanishingOf m)) f ≡ byteRing .zero) (inField (interpolationPoints m))
+vanishing-zero m = rw (vanishing-in-field m) (product-roots byteRing (byteRing .one ∷ []) (inField (interpolationPoints m)))
+
+pub vanishing-not : (m : ℕ) (x : Byte) → Each (λ f. x ≡ f → ⊥) (inField (interpolationPoints m))
+    → eval (ops byteRing) (inField (vanishingOf m)) x ≡ byteRing .zero → ⊥
+vanishing-not m x n e =
+    vanishing-elsewhere byteField (inField (interpolationPoints m)) x n
+    (ap (λ (p : List Byte). eval (ops byteRing) p x) (sym (vanishing-in-field m)) ∙ e)

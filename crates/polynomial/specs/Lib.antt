@@ -1,0 +1,6 @@
+pub mod Sums
+pub mod Division
+pub mod Bytes
+pub mod Interpolant
+pub mod Evaluation
+pub mod Loops
