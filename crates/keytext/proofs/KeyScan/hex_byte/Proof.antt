@@ -1,0 +1,21 @@
+-- The hex field is that of the scanner of hex.
+use mathlib.Core.Path.{ap}
+use borrow.Author.Needs.{needs}
+use Rattle.text.specs.Scanner.Hex.{HexHeld}
+use Rattle.keytext.specs.Scan.{withHex}
+use Rattle.keytext.proofs.KeyScan.hex_byte.Statement.{statement}
+use Rattle.keytext.proofs.KeyScan.hex_byte.Tie as tie
+
+push-requires : tie.Need-push-requires
+push-requires c κs = search needs
+
+same-length : tie.Need-same-length
+same-length c = search needs
+
+returns : tie.Need-returns
+returns c =
+    let p = c .before .before in
+    ap (λ (g : HexHeld). (withHex (p .before .before .before .before .args .self) (g .scan), g .out)) (p .push .ensures)
+
+pub hex-byte-spec : {M : Type 1} → statement M
+hex-byte-spec = tie.close (tie.spec push-requires same-length returns)

@@ -1,0 +1,79 @@
+-- What was scanned is the whole input, into slices of the lengths that are asked for (`finish-listing`).
+use mathlib.Core.Path.{ap, _∙_}
+use native.Mathlib.Omega.{arith}
+use borrow.Author.Needs.{needs}
+use lib.ListN.{length}
+use Rattle.lists.specs.Part.{putAt}
+use Rattle.text.specs.Fold.{fold}
+use Rattle.keytext.specs.declared.KeyScan.{KeyScan}
+use Rattle.keytext.specs.Scan.{held, step}
+use Rattle.listing.specs.Finish.Laws.{finished, finish-listing, room}
+use Rattle.listing.proofs.listing.Statement.{statement}
+use Rattle.listing.proofs.listing.Tie as tie
+
+matrix-room-requires : tie.Need-matrix-room-requires
+matrix-room-requires c κs = search needs
+
+vector-room-requires : tie.Need-vector-room-requires
+vector-room-requires c κs = search needs
+
+vector-room-requires-2 : tie.Need-vector-room-requires-2
+vector-room-requires-2 c κs = search needs
+
+new-requires : tie.Need-new-requires
+new-requires c κs = search needs
+
+slice-aggregate-feed : tie.Need-slice-aggregate-feed
+slice-aggregate-feed c = search needs
+
+slice-aggregate-feed-2 : tie.Need-slice-aggregate-feed-2
+slice-aggregate-feed-2 c = search needs
+
+slice-aggregate-feed-3 : tie.Need-slice-aggregate-feed-3
+slice-aggregate-feed-3 c = search needs
+
+feed-requires : tie.Need-feed-requires
+feed-requires c κs = search needs
+
+slice-aggregate-finish : tie.Need-slice-aggregate-finish
+slice-aggregate-finish c = search needs
+
+slice-aggregate-finish-2 : tie.Need-slice-aggregate-finish-2
+slice-aggregate-finish-2 c = search needs
+
+slice-aggregate-finish-3 : tie.Need-slice-aggregate-finish-3
+slice-aggregate-finish-3 c = search needs
+
+finish-requires : tie.Need-finish-requires
+finish-requires c κs = search needs
+
+returns : tie.Need-returns
+returns c =
+    let a = c .before .before .before .before .before .before .before .before .before .before .before .before .before .before .before .before .before .args in
+    let f = c .before .before .before .before .before .before .before .before .feed in
+    let m = c .before .before .before .before .before .before .before .before .before .before .before .before .before .before .before .matrix-room in
+    let y = c .before .before .before .before .before .before .before .before .before .before .before .before .before .before .vector-room in
+    let x = c .before .before .before .before .before .before .before .before .before .before .before .before .before .vector-room2 in
+    let s = c .before .before .before .before .before .before .before .before .before .before .before .before .new in
+    let e =
+    ap finished (f .ensures ∙ ap (λ (k : KeyScan). fold step (held k (m .result) (y .result) (x .result)) (a .input .now)) (s .ensures))
+    ∙ finish-listing (a .input .now) (m .result) (y .result) (x .result) (room 16256 (m .ensures) (omega arith)) (room 254 (y .ensures) (omega arith)) (room 254 (x .ensures) (omega arith)) in
+    (c .finish .ensures .0 ∙ ap length e, c .finish .ensures .1 ∙ ap (putAt (a .out .now) 0) e)
+
+pub listing-spec : {M : Type 1} → statement M
+listing-spec =
+    tie.close
+    (tie.spec
+    matrix-room-requires
+    vector-room-requires
+    vector-room-requires-2
+    new-requires
+    slice-aggregate-feed
+    slice-aggregate-feed-2
+    slice-aggregate-feed-3
+    feed-requires
+    slice-aggregate-finish
+    slice-aggregate-finish-2
+    slice-aggregate-finish-3
+    finish-requires
+    returns)

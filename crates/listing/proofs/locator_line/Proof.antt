@@ -1,0 +1,40 @@
+-- The line of what was made in the lent slice.
+use native.Mathlib.Omega.{arith}
+use borrow.Author.Needs.{needs}
+use Rattle.listing.specs.Listing.{locatorWord}
+use Rattle.listing.proofs.locator_line.Statement.{statement}
+use Rattle.listing.proofs.locator_line.Tie as tie
+
+locator-requires : tie.Need-locator-requires
+locator-requires c κs = search needs
+
+slice-aggregate-result-line : tie.Need-slice-aggregate-result-line
+slice-aggregate-result-line c = search needs
+
+result-line-requires : tie.Need-result-line-requires
+result-line-requires c κs = search needs
+
+same-length : tie.Need-same-length
+same-length c = search needs
+
+same-length-2 : tie.Need-same-length-2
+same-length-2 c = search needs
+
+returns : tie.Need-returns
+unfolding locatorWord
+returns c =
+    let v = c .before .before .result-line in
+    let g = c .before .before .before .before .before .before .before .before .locator in
+    let p = c .before .before .before .before .before .before .before .before .before .before .before .before .before in
+    (rw (g .ensures) at (v .ensures .0), omega (arith, v .ensures .1, g .kept .1 .1 .0, p .pre .1 .2))
+
+pub locator-line-spec : {M : Type 1} → statement M
+locator-line-spec =
+    tie.close
+    (tie.spec
+    locator-requires
+    slice-aggregate-result-line
+    result-line-requires
+    same-length
+    same-length-2
+    returns)
