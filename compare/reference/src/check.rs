@@ -1,0 +1,92 @@
+//! The checks of an opening, numbers 5, 6 and 7, and the strings hashed in making them.
+
+use crate::challenge::Challenge;
+use crate::key::PublicKey;
+use crate::leaves::{disclosed_leaves, give_aux, numbered_shares, Leaf};
+use crate::messages::{Messages, Opening};
+use crate::numbers::{require, Number, COMMITMENT_DIFFERS, RESPONSE_DIFFERS, SUMS_DIFFER};
+use crate::parameters::Parameters;
+use crate::parties::{Axis, Computation, Hidden};
+use crate::strings::{axes_string, commitments_string, digest, Digest, Salt};
+use crate::tree::Tree;
+
+/// The strings of layers 4 to 7 hashed in checking an opening.
+#[derive(Clone, Debug, PartialEq, Eq)]
+pub struct OpeningStrings {
+    /// Layer 4, by leaf; none for the hidden one.
+    pub leaves: Vec<Option<Vec<u8>>>,
+    /// Layer 5.
+    pub commitments: Vec<u8>,
+    /// Layer 6, axis 1 first.
+    pub axes: Vec<Vec<u8>>,
+    /// Layer 7.
+    pub response: Vec<u8>,
+}
+
+/// An opening recomputed: its disclosed leaves, its axes and its strings.
+pub struct Recomputed {
+    /// The disclosed leaves, ascending, leaf n−1 with aux.
+    pub leaves: Vec<Leaf>,
+    /// What the parties of axes 1 to D send.
+    pub axes: Vec<Axis>,
+    /// The strings hashed.
+    pub strings: OpeningStrings,
+}
+
+fn leaves_of_opening(parameters: &Parameters, salt: &Salt, hidden: usize, opening: &Opening) -> Vec<Leaf> {
+    let tree = Tree::from_siblings(parameters.axes, salt, hidden, &opening.siblings);
+    let mut leaves = disclosed_leaves(parameters, salt, &tree);
+    if let Some(aux) = &opening.aux {
+        give_aux(parameters, &mut leaves, aux);
+    }
+    leaves
+}
+
+/// What the parties send, recomputed from the disclosed leaves and the hidden leaf's α and β.
+fn axes_of_opening(
+    parameters: &Parameters,
+    key: PublicKey,
+    messages: &Messages,
+    leaves: &[Leaf],
+    opening: &Opening,
+) -> Vec<Axis> {
+    let shares = numbered_shares(parameters, &messages.salt(), leaves);
+    let hidden = Hidden { leaf: messages.hidden_leaf(), alpha_beta: opening.alpha_beta.clone() };
+    let challenge = Challenge::from_message(messages.message_2);
+    Computation::new(parameters, key, &challenge).axes(&shares, Some(&hidden))
+}
+
+/// Recomputes an opening whose messages have their lengths and whose leaf is below n.
+pub fn recompute(parameters: &Parameters, key: PublicKey, messages: &Messages) -> Recomputed {
+    let salt = messages.salt();
+    let hidden = messages.hidden_leaf();
+    let opening = Opening::from_bytes(parameters, hidden, messages.message_5);
+    let leaves = leaves_of_opening(parameters, &salt, hidden, &opening);
+    let mut leaf_strings = vec![None; parameters.leaves()];
+    for leaf in &leaves {
+        leaf_strings[leaf.number] = Some(leaf.string(&salt));
+    }
+    let commitment = |string: &Option<Vec<u8>>| string.as_ref().map_or(opening.commitment, |string| digest(string));
+    let commitments: Vec<Digest> = leaf_strings.iter().map(commitment).collect();
+    let axes = axes_of_opening(parameters, key, messages, &leaves, &opening);
+    let axis_strings: Vec<Vec<u8>> = axes.iter().map(|axis| axis.string(&salt)).collect();
+    let axis_digests: Vec<Digest> = axis_strings.iter().map(|string| digest(string)).collect();
+    let strings = OpeningStrings {
+        leaves: leaf_strings,
+        commitments: commitments_string(&salt, &commitments),
+        axes: axis_strings,
+        response: axes_string(&salt, &axis_digests),
+    };
+    Recomputed { leaves, axes, strings }
+}
+
+/// Recomputes an opening and refuses it with 5, 6 or 7 unless it is accepted.
+pub fn check(parameters: &Parameters, key: PublicKey, messages: &Messages) -> Result<Recomputed, Number> {
+    let recomputed = recompute(parameters, key, messages);
+    let strings = &recomputed.strings;
+    let sums_agree = recomputed.axes.iter().all(|axis| axis.sums() == recomputed.axes[0].sums());
+    require(digest(&strings.commitments) == messages.h(), COMMITMENT_DIFFERS)?;
+    require(sums_agree, SUMS_DIFFER)?;
+    require(digest(&strings.response) == messages.message_3, RESPONSE_DIFFERS)?;
+    Ok(recomputed)
+}

@@ -1,0 +1,84 @@
+//! With a valid key, every start, message 2 and leaf lead to acceptance.
+
+use reference::parameters::Parameters;
+use reference::sampling::exchanges::{honest_exchange, verdict, Start};
+use reference::sampling::keys::{key_of_vector, valid_key, vector_of_weight};
+use reference::sampling::parameter_sets::{extreme_sets, random_set};
+use reference::sampling::Random;
+
+fn assert_accepted(random: &mut Random, parameters: &Parameters, leaves: &[usize]) {
+    let key = valid_key(random, parameters);
+    let start = Start::random(random, parameters);
+    for &leaf in leaves {
+        let exchange = honest_exchange(&key, &start, leaf as u8);
+        assert_eq!(verdict(parameters, key.public(), &exchange), 0, "{parameters:?}, leaf {leaf}");
+    }
+}
+
+#[test]
+fn every_leaf_of_small_cubes() {
+    let mut random = Random::new(10);
+    for axes in 1..=4 {
+        for _ in 0..8 {
+            let set = Parameters { axes, ..random_set(&mut random, 20, 1) };
+            let leaves: Vec<usize> = (0..set.leaves()).collect();
+            assert_accepted(&mut random, &set, &leaves);
+        }
+    }
+}
+
+#[test]
+fn every_leaf_of_a_large_cube() {
+    let mut random = Random::new(11);
+    let leaves: Vec<usize> = (0..256).collect();
+    assert_accepted(&mut random, &Parameters::new(6, 3, 2, 8, 1), &leaves);
+}
+
+#[test]
+fn extreme_parameters() {
+    let mut random = Random::new(12);
+    for set in extreme_sets() {
+        let between = random.below(set.leaves());
+        assert_accepted(&mut random, &set, &[0, between, set.last_leaf()]);
+    }
+}
+
+#[test]
+fn random_parameters() {
+    let mut random = Random::new(13);
+    for _ in 0..60 {
+        let set = random_set(&mut random, 255, 5);
+        let leaf = random.below(set.leaves());
+        assert_accepted(&mut random, &set, &[leaf]);
+    }
+}
+
+#[test]
+fn every_weight_up_to_w() {
+    let mut random = Random::new(14);
+    let set = Parameters::new(12, 5, 12, 2, 2);
+    for weight in 0..=12 {
+        let x = vector_of_weight(&mut random, 12, weight);
+        let key = key_of_vector(&mut random, &set, &x);
+        assert_eq!(key.vector(), x);
+        let start = Start::random(&mut random, &set);
+        for leaf in 0..4 {
+            let exchange = honest_exchange(&key, &start, leaf);
+            assert_eq!(verdict(&set, key.public(), &exchange), 0);
+        }
+    }
+}
+
+#[test]
+fn challenges_of_zeros_and_interpolation_points() {
+    let mut random = Random::new(15);
+    let set = Parameters::new(10, 4, 3, 3, 2);
+    let key = valid_key(&mut random, &set);
+    let point_1_and_255: [u8; 16] = [1, 0, 0, 0, 10, 0, 0, 0, 1, 0, 0, 0, 255, 0, 0, 0];
+    for message_2 in [[0; 16], [0xff; 16], point_1_and_255] {
+        let start = Start { message_2: message_2.to_vec(), ..Start::random(&mut random, &set) };
+        for leaf in 0..8 {
+            assert_eq!(verdict(&set, key.public(), &honest_exchange(&key, &start, leaf)), 0);
+        }
+    }
+}

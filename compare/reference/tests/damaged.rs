@@ -1,0 +1,142 @@
+//! Damaged exchanges are refused with 5 or 7 and never with 6.
+
+use reference::messages::Messages;
+use reference::numbers::{CARRIED_OUT, COMMITMENT_DIFFERS, RESPONSE_DIFFERS};
+use reference::parameters::Parameters;
+use reference::sampling::damage::flip_bit;
+use reference::sampling::exchanges::{honest_exchange, verdict, Exchange, Start};
+use reference::sampling::keys::{valid_key, Key};
+use reference::sampling::parameter_sets::random_set;
+use reference::sampling::Random;
+
+/// A random honest exchange under a random key. Points and multipliers are no bytes, at which a change could go unseen.
+fn random_exchange(random: &mut Random) -> (Key, Exchange) {
+    let set = random_set(random, 16, 4);
+    let key = valid_key(random, &set);
+    let mut start = Start::random(random, &set);
+    start.message_2 = (0..set.message_2_bytes()).map(|_| random.nonzero_byte()).collect();
+    let leaf = random.below(set.leaves()) as u8;
+    let exchange = honest_exchange(&key, &start, leaf);
+    (key, exchange)
+}
+
+/// Where α of the hidden leaf starts in message 5.
+fn alpha_place(set: &Parameters) -> usize {
+    16 * set.axes + 32
+}
+
+fn assert_verdict(key: &Key, exchange: &Exchange, expected: u8) {
+    assert_eq!(verdict(&key.parameters, key.public(), exchange), expected, "{:?}", key.parameters);
+}
+
+#[test]
+fn message_1_gives_5() {
+    let mut random = Random::new(20);
+    for _ in 0..100 {
+        let (key, mut exchange) = random_exchange(&mut random);
+        flip_bit(&mut random, &mut exchange.message_1);
+        assert_verdict(&key, &exchange, COMMITMENT_DIFFERS);
+    }
+}
+
+#[test]
+fn message_3_gives_7() {
+    let mut random = Random::new(21);
+    for _ in 0..100 {
+        let (key, mut exchange) = random_exchange(&mut random);
+        flip_bit(&mut random, &mut exchange.message_3);
+        assert_verdict(&key, &exchange, RESPONSE_DIFFERS);
+    }
+}
+
+#[test]
+fn siblings_and_commitment_give_5() {
+    let mut random = Random::new(22);
+    for _ in 0..100 {
+        let (key, mut exchange) = random_exchange(&mut random);
+        flip_bit(&mut random, &mut exchange.message_5[..alpha_place(&key.parameters)]);
+        assert_verdict(&key, &exchange, COMMITMENT_DIFFERS);
+    }
+}
+
+#[test]
+fn alpha_and_beta_give_7() {
+    let mut random = Random::new(23);
+    for _ in 0..100 {
+        let (key, mut exchange) = random_exchange(&mut random);
+        let place = alpha_place(&key.parameters);
+        flip_bit(&mut random, &mut exchange.message_5[place..place + 8 * key.parameters.t]);
+        assert_verdict(&key, &exchange, RESPONSE_DIFFERS);
+    }
+}
+
+#[test]
+fn aux_gives_5() {
+    let mut random = Random::new(24);
+    for _ in 0..100 {
+        let (key, mut exchange) = random_exchange(&mut random);
+        let aux = alpha_place(&key.parameters) + 8 * key.parameters.t;
+        if exchange.message_5.len() > aux {
+            flip_bit(&mut random, &mut exchange.message_5[aux..]);
+            assert_verdict(&key, &exchange, COMMITMENT_DIFFERS);
+        }
+    }
+}
+
+#[test]
+fn changed_points_multipliers_or_syndrome_give_7() {
+    let mut random = Random::new(25);
+    for _ in 0..100 {
+        let (mut key, mut exchange) = random_exchange(&mut random);
+        if random.once_in(2) {
+            let multipliers = key.parameters.position_bytes();
+            flip_bit(&mut random, &mut exchange.message_2[multipliers..]);
+        } else {
+            flip_bit(&mut random, &mut key.y);
+        }
+        assert_verdict(&key, &exchange, RESPONSE_DIFFERS);
+    }
+}
+
+#[test]
+fn random_message_5_gives_5() {
+    let mut random = Random::new(26);
+    for _ in 0..100 {
+        let (key, mut exchange) = random_exchange(&mut random);
+        exchange.message_5 = random.bytes(exchange.message_5.len());
+        assert_verdict(&key, &exchange, COMMITMENT_DIFFERS);
+    }
+}
+
+#[test]
+fn number_6_is_never_seen() {
+    let mut random = Random::new(27);
+    for _ in 0..300 {
+        let (mut key, mut exchange) = random_exchange(&mut random);
+        for _ in 0..random.between(1, 3) {
+            match random.below(6) {
+                0 => flip_bit(&mut random, &mut exchange.message_1),
+                1 => flip_bit(&mut random, &mut exchange.message_2),
+                2 => flip_bit(&mut random, &mut exchange.message_3),
+                3 => flip_bit(&mut random, &mut exchange.message_5),
+                4 => flip_bit(&mut random, &mut key.matrix),
+                _ => flip_bit(&mut random, &mut key.y),
+            }
+        }
+        let number = verdict(&key.parameters, key.public(), &exchange);
+        assert!([CARRIED_OUT, COMMITMENT_DIFFERS, RESPONSE_DIFFERS].contains(&number), "{number}");
+    }
+}
+
+/// The sums that number 6 compares agree on all axes for any message 5 at all, whether or not h is right.
+#[test]
+fn sums_agree_on_all_axes_for_any_opening() {
+    let mut random = Random::new(28);
+    for _ in 0..300 {
+        let (key, mut exchange) = random_exchange(&mut random);
+        exchange.message_5 = random.bytes(exchange.message_5.len());
+        let messages: Messages = exchange.messages();
+        let axes = reference::check::recompute(&key.parameters, key.public(), &messages).axes;
+        assert!(axes.iter().all(|axis| axis.sums() == axes[0].sums()));
+    }
+}

@@ -1,0 +1,391 @@
+//! Sessions: which call is due, the order of the numbers, and what a refused call leaves as it was.
+
+use reference::numbers::*;
+use reference::parameters::Parameters;
+use reference::prover::Prover;
+use reference::sampling::calls::{Effect, LentBytes, ProverCall, ProverInput, VerifierCall};
+use reference::sampling::exchanges::{honest_exchange, Exchange, Start};
+use reference::sampling::keys::{overweight_key, valid_key, Key};
+use reference::sampling::Random;
+use reference::verifier::Verifier;
+
+const SET: Parameters = Parameters::new(9, 4, 3, 3, 2);
+
+fn sample_key() -> Key {
+    valid_key(&mut Random::new(50), &SET)
+}
+
+fn sample_start() -> Start {
+    Start::random(&mut Random::new(51), &SET)
+}
+
+fn lent() -> LentBytes {
+    let key = sample_key();
+    LentBytes { matrix: key.matrix, y: key.y, work: vec![0xa5; SET.work_bytes() + 5] }
+}
+
+fn begin_with(salt: u8, root: u8) -> ProverCall {
+    let x_a = sample_key().x_a;
+    let input = ProverInput::Begin { parameters: SET, x_a, salt: vec![salt; 32], root: vec![root; 16] };
+    ProverCall { input, lent: lent(), output: vec![0xa5; 64] }
+}
+
+fn points() -> ProverCall {
+    let message_2 = sample_start().message_2;
+    ProverCall { input: ProverInput::Points { message_2 }, lent: lent(), output: vec![0xa5; 32] }
+}
+
+fn leaf(leaf: u8) -> ProverCall {
+    let output = vec![0xa5; SET.message_5_bytes(usize::from(leaf))];
+    ProverCall { input: ProverInput::Leaf { leaf }, lent: lent(), output }
+}
+
+/// Makes a call that must be carried out: it fills its output and clears the named part of the work area.
+fn carry_out(prover: &mut Prover, call: &ProverCall) -> Vec<u8> {
+    let effect = call.make(prover);
+    assert_eq!(effect.number, CARRIED_OUT);
+    let named = SET.work_bytes();
+    assert!(effect.work[..named].iter().all(|&byte| byte == 0));
+    assert_eq!(effect.work[named..], call.lent.work[named..]);
+    assert_ne!(effect.output, call.output);
+    effect.output
+}
+
+/// Makes a call that must be refused and change nothing.
+fn refuse(prover: &mut Prover, call: &ProverCall, number: Number) {
+    let before = prover.clone();
+    let effect = call.make(prover);
+    let expected = Effect { number, work: call.lent.work.clone(), output: call.output.clone() };
+    assert_eq!(effect, expected);
+    assert_eq!(*prover, before);
+}
+
+#[test]
+fn prover_calls_are_due_in_turn() {
+    let mut prover = Prover::default();
+    refuse(&mut prover, &points(), NOT_DUE);
+    refuse(&mut prover, &leaf(0), NOT_DUE);
+    carry_out(&mut prover, &begin_with(1, 1));
+    refuse(&mut prover, &leaf(0), NOT_DUE);
+    carry_out(&mut prover, &points());
+    refuse(&mut prover, &points(), NOT_DUE);
+    carry_out(&mut prover, &leaf(0));
+    refuse(&mut prover, &leaf(0), CLOSED);
+    refuse(&mut prover, &leaf(1), CLOSED);
+    refuse(&mut prover, &points(), CLOSED);
+    carry_out(&mut prover, &begin_with(1, 2));
+    refuse(&mut prover, &leaf(0), NOT_DUE);
+}
+
+#[test]
+fn prover_begins_afresh_at_any_time() {
+    let mut prover = Prover::default();
+    let first = carry_out(&mut prover, &begin_with(1, 1));
+    let second = carry_out(&mut prover, &begin_with(2, 1));
+    carry_out(&mut prover, &points());
+    let third = carry_out(&mut prover, &begin_with(1, 1));
+    assert_eq!(first, third);
+    assert_ne!(first, second);
+    refuse(&mut prover, &leaf(0), NOT_DUE);
+}
+
+#[test]
+fn salt_and_root_of_the_exchange_held_give_13() {
+    let mut prover = Prover::default();
+    carry_out(&mut prover, &begin_with(1, 1));
+    refuse(&mut prover, &begin_with(1, 1), SALT_AND_ROOT_HELD);
+    carry_out(&mut prover, &points());
+    refuse(&mut prover, &begin_with(1, 1), SALT_AND_ROOT_HELD);
+    carry_out(&mut prover, &leaf(7));
+    refuse(&mut prover, &begin_with(1, 1), SALT_AND_ROOT_HELD);
+    carry_out(&mut prover, &begin_with(1, 2));
+    carry_out(&mut prover, &begin_with(2, 2));
+    carry_out(&mut prover, &begin_with(1, 1));
+}
+
+#[test]
+fn salt_and_root_of_zeros_may_start_a_session() {
+    carry_out(&mut Prover::default(), &begin_with(0, 0));
+}
+
+#[test]
+fn a_refused_begin_keeps_the_exchange() {
+    let mut prover = Prover::default();
+    carry_out(&mut prover, &begin_with(1, 1));
+    let mut outside = begin_with(2, 2);
+    set_parameters(&mut outside, Parameters { t: 9, ..SET });
+    refuse(&mut prover, &outside, PARAMETER_OUTSIDE_LIMITS);
+    refuse(&mut prover, &begin_with(1, 1), SALT_AND_ROOT_HELD);
+    carry_out(&mut prover, &points());
+}
+
+fn set_parameters(call: &mut ProverCall, parameters: Parameters) {
+    if let ProverInput::Begin { parameters: given, .. } = &mut call.input {
+        *given = parameters;
+    }
+}
+
+/// A change that damages a call of the prover.
+type Change = fn(&mut ProverCall);
+
+const LENT_CHANGES: [Change; 6] = [
+    |call| call.lent.matrix.push(0),
+    |call| call.lent.matrix.truncate(19),
+    |call| call.lent.y.push(0),
+    |call| call.lent.work.truncate(SET.work_bytes() - 1),
+    |call| call.output.push(0),
+    |call| call.output.clear(),
+];
+
+#[test]
+fn wrong_lengths_give_2() {
+    let mut prover = Prover::default();
+    for call in [begin_with(1, 1), points(), leaf(3)] {
+        for change in LENT_CHANGES {
+            let mut damaged = call.clone();
+            change(&mut damaged);
+            refuse(&mut prover, &damaged, WRONG_LENGTH);
+        }
+        carry_out(&mut prover, &call);
+    }
+}
+
+#[test]
+fn wrong_lengths_of_begin_give_2() {
+    let mut prover = Prover::default();
+    for length in [0, 15, 17, 31, 33] {
+        for place in 0..3 {
+            let mut call = begin_with(1, 1);
+            if let ProverInput::Begin { x_a, salt, root, .. } = &mut call.input {
+                [x_a, salt, root][place].resize(length, 0);
+            }
+            refuse(&mut prover, &call, WRONG_LENGTH);
+        }
+    }
+}
+
+#[test]
+fn wrong_lengths_of_message_2_give_2() {
+    let mut prover = Prover::default();
+    carry_out(&mut prover, &begin_with(1, 1));
+    for length in [0, 8, 15, 17] {
+        let input = ProverInput::Points { message_2: vec![0; length] };
+        refuse(&mut prover, &ProverCall { input, ..points() }, WRONG_LENGTH);
+    }
+}
+
+#[test]
+fn longer_length_counts_for_leaves_not_below_n() {
+    let mut prover = Prover::default();
+    carry_out(&mut prover, &begin_with(1, 1));
+    carry_out(&mut prover, &points());
+    for number in [8, 9, 255] {
+        let call = leaf(number);
+        assert_eq!(call.output.len(), SET.message_5_bytes(0));
+        refuse(&mut prover, &call, LEAF_NOT_BELOW_N);
+        let output = vec![0xa5; SET.message_5_bytes(7)];
+        refuse(&mut prover, &ProverCall { output, ..call }, WRONG_LENGTH);
+    }
+    carry_out(&mut prover, &leaf(7));
+}
+
+/// Faults are added from the last number of the order to the first; each time the earlier number wins.
+#[test]
+fn begin_answers_in_order() {
+    let mut prover = Prover::default();
+    carry_out(&mut prover, &begin_with(1, 1));
+    let mut call = begin_with(1, 1);
+    refuse(&mut prover, &call, SALT_AND_ROOT_HELD);
+    let overweight = overweight_key(&mut Random::new(52), &SET).expect("w is below m");
+    call.lent.matrix = overweight.matrix;
+    call.lent.y = overweight.y;
+    if let ProverInput::Begin { x_a, .. } = &mut call.input {
+        *x_a = overweight.x_a;
+    }
+    refuse(&mut prover, &call, OVERWEIGHT);
+    call.output.pop();
+    refuse(&mut prover, &call, WRONG_LENGTH);
+    set_parameters(&mut call, Parameters { m: 256, ..SET });
+    refuse(&mut prover, &call, PARAMETER_OUTSIDE_LIMITS);
+}
+
+/// State comes before the arguments: a call that is not due is 11 or 12 whatever it is lent.
+#[test]
+fn state_comes_before_lengths_and_leaves() {
+    let mut prover = Prover::default();
+    let mut damaged_leaf = leaf(255);
+    damaged_leaf.lent.work.clear();
+    let mut damaged_points = points();
+    damaged_points.output.clear();
+    refuse(&mut prover, &damaged_leaf, NOT_DUE);
+    carry_out(&mut prover, &begin_with(1, 1));
+    refuse(&mut prover, &damaged_leaf, NOT_DUE);
+    carry_out(&mut prover, &points());
+    refuse(&mut prover, &damaged_points, NOT_DUE);
+    carry_out(&mut prover, &leaf(0));
+    refuse(&mut prover, &damaged_leaf, CLOSED);
+    refuse(&mut prover, &damaged_points, CLOSED);
+}
+
+/// x is held; the parties take the matrix and y of each call.
+#[test]
+fn matrix_and_y_are_those_of_the_call() {
+    let run = |damaged: [bool; 3]| -> [Vec<u8>; 3] {
+        let mut prover = Prover::default();
+        let mut calls = [begin_with(1, 1), points(), leaf(2)];
+        for (call, _) in calls.iter_mut().zip(damaged).filter(|(_, damaged)| *damaged) {
+            call.lent.matrix[3] ^= 1;
+            call.lent.y[0] ^= 1;
+        }
+        calls.map(|call| carry_out(&mut prover, &call))
+    };
+    let plain = run([false; 3]);
+    let other_points = run([false, true, false]);
+    let other_leaf = run([false, false, true]);
+    assert_eq!(plain[0], other_points[0]);
+    assert_ne!(plain[1], other_points[1]);
+    assert_eq!(plain[2], other_points[2]);
+    assert_eq!(plain[..2], other_leaf[..2]);
+    let beta = 16 * SET.axes + 32 + 4 * SET.t;
+    assert_eq!(plain[2][..beta], other_leaf[2][..beta]);
+    assert_ne!(plain[2][beta..beta + 4 * SET.t], other_leaf[2][beta..beta + 4 * SET.t]);
+    assert_eq!(plain[2][beta + 4 * SET.t..], other_leaf[2][beta + 4 * SET.t..]);
+}
+
+fn sample_exchange(leaf: u8) -> Exchange {
+    honest_exchange(&sample_key(), &sample_start(), leaf)
+}
+
+/// The verifier's five calls on an exchange.
+fn verifier_calls(exchange: &Exchange) -> [VerifierCall; 5] {
+    [
+        VerifierCall::Begin { parameters: SET, message_1: exchange.message_1.clone() },
+        VerifierCall::Points { message_2: exchange.message_2.clone() },
+        VerifierCall::Response { message_3: exchange.message_3.clone() },
+        VerifierCall::Leaf { leaf: exchange.leaf },
+        VerifierCall::Opening { message_5: exchange.message_5.clone(), lent: lent() },
+    ]
+}
+
+fn verifier_refuses(verifier: &mut Verifier, call: &VerifierCall, number: Number) {
+    let before = verifier.clone();
+    let effect = call.make(verifier);
+    assert_eq!(effect.number, number, "{call:?}");
+    assert_eq!(*verifier, before);
+    if let VerifierCall::Opening { lent, .. } = call {
+        assert_eq!(effect.work, lent.work);
+    }
+}
+
+/// A verifier that has carried out so many calls of an exchange.
+fn verifier_after(exchange: &Exchange, calls: usize) -> Verifier {
+    let mut verifier = Verifier::default();
+    for call in &verifier_calls(exchange)[..calls] {
+        assert_eq!(call.make(&mut verifier).number, CARRIED_OUT);
+    }
+    verifier
+}
+
+#[test]
+fn verifier_calls_are_due_in_turn() {
+    let exchange = sample_exchange(5);
+    let calls = verifier_calls(&exchange);
+    for done in 0..=5 {
+        let mut verifier = verifier_after(&exchange, done);
+        let number = if done == 5 { CLOSED } else { NOT_DUE };
+        for (place, call) in calls.iter().enumerate().skip(1).filter(|(place, _)| *place != done || done == 5) {
+            println!("call {place} after {done}");
+            verifier_refuses(&mut verifier, call, number);
+        }
+        assert_eq!(calls[0].make(&mut verifier).number, CARRIED_OUT);
+        assert_eq!(verifier, verifier_after(&exchange, 1));
+    }
+}
+
+#[test]
+fn verifier_state_comes_before_lengths() {
+    let exchange = sample_exchange(5);
+    let calls = [
+        VerifierCall::Points { message_2: vec![] },
+        VerifierCall::Response { message_3: vec![] },
+        VerifierCall::Leaf { leaf: 255 },
+        VerifierCall::Opening { message_5: vec![], lent: LentBytes::default() },
+    ];
+    for call in &calls {
+        verifier_refuses(&mut Verifier::default(), call, NOT_DUE);
+        verifier_refuses(&mut verifier_after(&exchange, 5), call, CLOSED);
+    }
+    for (place, call) in calls.iter().enumerate() {
+        let due = if place == 2 { LEAF_NOT_BELOW_N } else { WRONG_LENGTH };
+        verifier_refuses(&mut verifier_after(&exchange, place + 1), call, due);
+    }
+}
+
+#[test]
+fn verifier_begin_refuses_with_1_before_2() {
+    let exchange = sample_exchange(5);
+    for calls in [0, 3, 5] {
+        let mut verifier = verifier_after(&exchange, calls);
+        for length in [0, 63, 65] {
+            let message_1 = vec![0; length];
+            let parameters = Parameters { axes: 9, ..SET };
+            let outside = VerifierCall::Begin { parameters, message_1: message_1.clone() };
+            verifier_refuses(&mut verifier, &outside, PARAMETER_OUTSIDE_LIMITS);
+            verifier_refuses(&mut verifier, &VerifierCall::Begin { parameters: SET, message_1 }, WRONG_LENGTH);
+        }
+    }
+}
+
+/// Message 5 has the length for the leaf held: the shorter one for leaf n−1 alone.
+#[test]
+fn opening_length_follows_the_leaf_held() {
+    for (held, other) in [(5, 7), (7, 5)] {
+        let mut verifier = verifier_after(&sample_exchange(held), 4);
+        let message_5 = sample_exchange(other).message_5;
+        verifier_refuses(&mut verifier, &VerifierCall::Opening { message_5, lent: lent() }, WRONG_LENGTH);
+    }
+}
+
+#[test]
+fn opening_lengths_give_2() {
+    let exchange = sample_exchange(5);
+    let mut verifier = verifier_after(&exchange, 4);
+    for place in 0..4 {
+        let (mut message_5, mut lent) = (exchange.message_5.clone(), lent());
+        match place {
+            0 => message_5.push(0),
+            1 => lent.matrix.push(0),
+            2 => lent.y.truncate(1),
+            _ => lent.work.truncate(SET.work_bytes() - 1),
+        }
+        verifier_refuses(&mut verifier, &VerifierCall::Opening { message_5, lent }, WRONG_LENGTH);
+    }
+    assert_eq!(verifier_calls(&exchange)[4].make(&mut verifier).number, CARRIED_OUT);
+}
+
+/// Accepted or refused with 5 or 7, the opening closes the session and clears the named part of the work area.
+#[test]
+fn openings_close_and_clear() {
+    let beta = 16 * SET.axes + 32 + 4 * SET.t;
+    for (place, number) in [(None, CARRIED_OUT), (Some(0), COMMITMENT_DIFFERS), (Some(beta), RESPONSE_DIFFERS)] {
+        let mut exchange = sample_exchange(5);
+        if let Some(place) = place {
+            exchange.message_5[place] ^= 1;
+        }
+        let mut verifier = verifier_after(&exchange, 4);
+        let effect = verifier_calls(&exchange)[4].make(&mut verifier);
+        assert_eq!(effect.number, number);
+        let expected = [vec![0; SET.work_bytes()], vec![0xa5; 5]].concat();
+        assert_eq!(effect.work, expected);
+        verifier_refuses(&mut verifier, &verifier_calls(&exchange)[4], CLOSED);
+    }
+}
+
+/// An opening with several faults gets the first number of the order: 5 before 7.
+#[test]
+fn h_comes_before_the_response() {
+    let mut exchange = sample_exchange(5);
+    exchange.message_3[0] ^= 1;
+    exchange.message_5[0] ^= 1;
+    assert_eq!(verifier_calls(&exchange)[4].make(&mut verifier_after(&exchange, 4)).number, COMMITMENT_DIFFERS);
+}
