@@ -1,0 +1,11 @@
+pub mod Layout
+pub mod Sequences
+pub mod Strings
+pub mod Reading
+pub mod Tree
+pub mod Leaf
+pub mod Values
+pub mod Parties
+pub mod Messages
+pub mod Opening
+pub mod Extractor

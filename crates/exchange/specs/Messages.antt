@@ -1,0 +1,84 @@
+-- The prover's messages, from what its session holds (parameters p, x, salt, root), the matrix and y lent at the call,
+-- message 2 and the leaf.
+--
+-- ownState i        the state of leaf i
+-- drawn             the sum of all shares with no aux: what the leaves sum to so far
+-- wanted            what x_A, Q, P and c are to sum to: those of x, and 'c = a·b at each position'
+-- ownAux            'its aux = x_A, Q, P, c makes the sums come right'
+-- ownShare i, ownCommitment i   share and commitment of leaf i
+-- ownAnnounced j    what the parties of axis j announce; 'α̂ and β̂ are the sums over the parties of the axis'
+-- message1          'salt, h'
+-- message3          'h''
+-- message5 i        'D sibling seeds from the root side down, commitment of i*, its α and β, then aux unless i* = n−1';
+--                   'The hidden leaf's own α and β have none' of the constants
+use mathlib.Core.Bool.{true, false, cond}
+use mathlib.Core.List.{List, [], _++_}
+use Prim.Native.Nat.{ℕ, _*_}
+use lib.Dec.{eqb}
+use lib.ListN.{getD, take, drop}
+use Rattle.lists.specs.Sum.{xorList}
+use Rattle.points.specs.Field.{Point}
+use Rattle.parameters.specs.declared.Parameters.{Parameters}
+use Rattle.key.specs.Key.{locatorOf, quotientOf}
+use Rattle.exchange.specs.Layout.{side, levels, leaves, isLast}
+use Rattle.exchange.specs.Strings.{string5, string7}
+use Rattle.exchange.specs.Tree.{leafSeeds, siblingSeeds}
+use Rattle.exchange.specs.Leaf.{state, share, commitment}
+use Rattle.exchange.specs.Reading.{encode, _⊠_}
+use Rattle.exchange.specs.Values.{Key, aOf, bOf, alpha, beta, partV}
+use Rattle.exchange.specs.Parties.{Announced, total, partyOf, sums, axisString}
+pub mod Laws
+pub mod Opened
+pub mod Sum
+pub mod Agreement
+
+module _ (hash : List ℕ → ℕ → List ℕ) (p : Parameters) (x salt root : List ℕ) where
+  unfoldable pub ownState : ℕ → List ℕ
+  ownState i = state hash salt i (getD (leafSeeds hash salt (levels p) 1 root) i [])
+
+  unfoldable pub drawn : List ℕ
+  drawn = total p (λ i. true) (λ i. share hash p salt i (ownState i) []) (leaves p)
+
+  unfoldable pub wanted : List ℕ
+  wanted =
+      take (p .k) x
+      ++ (take (p .w) (locatorOf (p .w) x) ++ (quotientOf (p .w) x ++ encode (λ l. aOf p drawn l ⊠ bOf p drawn l) (p .t)))
+
+  unfoldable pub ownAux : List ℕ
+  ownAux = xorList wanted (drop (8 * p .t) drawn)
+
+  unfoldable pub ownShare : ℕ → List ℕ
+  ownShare i = share hash p salt i (ownState i) ownAux
+
+  unfoldable pub ownCommitment : ℕ → List ℕ
+  ownCommitment i = commitment hash p salt i (ownState i) ownAux
+
+  unfoldable pub message1 : List ℕ
+  message1 = salt ++ hash (string5 salt ownCommitment (leaves p)) 32
+
+  module _ (key : Key) (m2 : List ℕ) where
+    unfoldable pub ownParty : ℕ → ℕ → List ℕ
+    ownParty j c = total p (partyOf p j c) ownShare (leaves p)
+
+    unfoldable pub ownAlpha : ℕ → ℕ → ℕ → Point
+    ownAlpha j c l = alpha p key m2 (eqb c 0) (ownParty j c) l
+
+    unfoldable pub ownBeta : ℕ → ℕ → ℕ → Point
+    ownBeta j c l = beta p key m2 (eqb c 0) (ownParty j c) l
+
+    unfoldable pub ownAnnounced : ℕ → Announced
+    ownAnnounced j = record {
+      α = ownAlpha j;
+      β = ownBeta j;
+      v = λ c l. partV p key m2 (eqb c 0) (ownParty j c) (sums (λ c. ownAlpha j c l) (side p)) (sums (λ c. ownBeta j c l) (side p)) l;
+    }
+
+    unfoldable pub message3 : List ℕ
+    message3 = hash (string7 salt (λ j. hash (axisString p salt j (ownAnnounced j)) 32) (p .d)) 32
+
+    unfoldable pub message5 : ℕ → List ℕ
+    message5 i =
+        siblingSeeds hash salt (levels p) 1 root i
+        ++ (ownCommitment i
+        ++ (encode (alpha p key m2 false (ownShare i)) (p .t)
+        ++ (encode (beta p key m2 false (ownShare i)) (p .t) ++ cond (isLast p i) [] ownAux)))

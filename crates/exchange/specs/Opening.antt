@@ -1,0 +1,129 @@
+-- An exchange as its verifier sees it: what the messages hold, and what follows from them.
+--
+-- Exchange             salt and h of message 1, messages 2 to 5; message 4 is the hidden leaf
+-- exchange m1 .. m5    read from the messages
+-- pathOf, commitmentOf, alphaOf, betaOf, auxOf   what message 5 holds, in its order
+-- openedState i        the state of leaf i, from the sibling seeds; of the hidden leaf it means nothing
+-- openedShare i        its share
+-- leafString i         layer 4's string of leaf i
+-- leafCommitment i     its commitment; the hidden leaf's is the one in message 5
+-- commitmentString     layer 5's string
+-- disclosed j c        the sum of the disclosed leaves of party c on axis j
+-- partyAlpha, partyBeta   'The verifier's party that holds the hidden leaf sums its disclosed leaves, adds that leaf's α and β'
+-- partyV               '.. and takes the v that makes the axis sum zero'
+-- announced j          what the parties of axis j announce
+-- responseString       layer 7's string
+-- verdict              'An opening is accepted exactly when the recomputed h is message 1's, the sums of α, β and v agree on all
+--                      axes, and the recomputed h' is message 3's'; else 5, 6 or 7, in this order
+use mathlib.Core.Bool.{Bool, true, _&&_, not, cond}
+use mathlib.Core.List.{List, [], _∷_}
+use Prim.Native.Nat.{ℕ, zero, suc, _+_, _*_}
+use lib.Dec.{eqb}
+use lib.ListN.{getD, take, drop}
+use Rattle.lists.specs.Equal.{eqList}
+use Rattle.points.specs.Field.{Point}
+use Rattle.answers.specs.declared.Answer.{Answer}
+use Rattle.answers.specs.declared.Refusal.the-variants.{Commitment, Sums, Response}
+use Rattle.answers.specs.Checks.{checks}
+use Rattle.parameters.specs.declared.Parameters.{Parameters}
+use Rattle.exchange.specs.Layout.{side, levels, leaves, digit, isLast}
+use Rattle.exchange.specs.Strings.{string4, string5, string7}
+use Rattle.exchange.specs.Tree.{openedSeeds}
+use Rattle.exchange.specs.Leaf.{state, share}
+use Rattle.exchange.specs.Reading.{pointAt, _⊞_, 𝟎}
+use Rattle.exchange.specs.Values.{Key, alpha, beta, partV}
+use Rattle.exchange.specs.Parties.{Announced, total, partyOf, sums, axisString, sumsOf}
+pub mod Laws
+pub mod Cube
+
+pub record Exchange : Type 0 where
+  pub prefix : List ℕ
+  pub h : List ℕ
+  pub message2 : List ℕ
+  pub message3 : List ℕ
+  pub leaf : ℕ
+  pub message5 : List ℕ
+
+unfoldable pub exchange : List ℕ → List ℕ → List ℕ → ℕ → List ℕ → Exchange
+exchange m1 m2 m3 leaf m5 = record { prefix = take 32 m1; h = drop 32 m1; message2 = m2; message3 = m3; leaf = leaf; message5 = m5 }
+
+-- ---- what message 5 holds
+
+module _ (p : Parameters) (e : Exchange) where
+  unfoldable pub pathOf : List ℕ
+  pathOf = take (16 * levels p) (e .message5)
+
+  unfoldable pub commitmentOf : List ℕ
+  commitmentOf = take 32 (drop (16 * levels p) (e .message5))
+
+  unfoldable pub alphaOf : ℕ → Point
+  alphaOf l = pointAt (e .message5) (16 * levels p + 32 + 4 * l)
+
+  unfoldable pub betaOf : ℕ → Point
+  betaOf l = pointAt (e .message5) (16 * levels p + 32 + 4 * p .t + 4 * l)
+
+  unfoldable pub auxOf : List ℕ
+  auxOf = drop (16 * levels p + 32 + 8 * p .t) (e .message5)
+
+-- ---- the leaves
+
+module _ (hash : List ℕ → ℕ → List ℕ) (p : Parameters) (e : Exchange) where
+  unfoldable pub openedState : ℕ → List ℕ
+  openedState i = state hash (e .prefix) i (getD (openedSeeds hash (e .prefix) (levels p) 1 (e .leaf) (pathOf p e)) i [])
+
+  unfoldable pub openedShare : ℕ → List ℕ
+  openedShare i = share hash p (e .prefix) i (openedState i) (auxOf p e)
+
+  unfoldable pub leafString : ℕ → List ℕ
+  leafString i = string4 p (e .prefix) i (openedState i) (auxOf p e)
+
+  unfoldable pub leafCommitment : ℕ → List ℕ
+  leafCommitment i = cond (eqb i (e .leaf)) (commitmentOf p e) (hash (leafString i) 32)
+
+  unfoldable pub commitmentString : List ℕ
+  commitmentString = string5 (e .prefix) leafCommitment (leaves p)
+
+  unfoldable pub disclosed : ℕ → ℕ → List ℕ
+  disclosed j c = total p (λ i. partyOf p j c i && not (eqb i (e .leaf))) openedShare (leaves p)
+
+  -- ---- the parties of axis j
+
+  module _ (key : Key) (j : ℕ) where
+    -- the party that holds the hidden leaf
+    abbrev pub hiddenParty : ℕ
+    hiddenParty = digit p j (e .leaf)
+
+    unfoldable pub partyAlpha : ℕ → ℕ → Point
+    partyAlpha c l = alpha p key (e .message2) (eqb c 0) (disclosed j c) l ⊞ cond (eqb c hiddenParty) (alphaOf p e l) 𝟎
+
+    unfoldable pub partyBeta : ℕ → ℕ → Point
+    partyBeta c l = beta p key (e .message2) (eqb c 0) (disclosed j c) l ⊞ cond (eqb c hiddenParty) (betaOf p e l) 𝟎
+
+    -- v by the formula, for the parties whose leaves are all disclosed
+    unfoldable pub formulaV : ℕ → ℕ → Point
+    formulaV c l =
+        partV p key (e .message2) (eqb c 0) (disclosed j c) (sums (λ c. partyAlpha c l) (side p)) (sums (λ c. partyBeta c l) (side p)) l
+
+    unfoldable pub partyV : ℕ → ℕ → Point
+    partyV c l = cond (eqb c hiddenParty) (sums (λ c. cond (eqb c hiddenParty) 𝟎 (formulaV c l)) (side p)) (formulaV c l)
+
+    unfoldable pub announced : Announced
+    announced = record { α = partyAlpha; β = partyBeta; v = partyV }
+
+  module _ (key : Key) where
+    unfoldable pub responseString : List ℕ
+    responseString = string7 (e .prefix) (λ j. hash (axisString p (e .prefix) j (announced key j)) 32) (p .d)
+
+    -- the sums on each axis below n are those on the first axis
+    unfoldable pub sumsAgree : ℕ → Bool
+    sumsAgree zero = true
+    sumsAgree (suc n) = sumsAgree n && eqList (sumsOf p (announced key n)) (sumsOf p (announced key 0))
+
+    unfoldable pub verdict : Answer
+    verdict =
+        checks (
+        (eqList (hash commitmentString 32) (e .h), Commitment)
+        ∷ (sumsAgree (p .d), Sums)
+        ∷ (eqList (hash responseString 32) (e .message3), Response)
+        ∷ []
+        )

@@ -1,0 +1,139 @@
+-- The laws of sums over leaves and of what is hashed of an axis.
+--
+-- total-yes, total-no     one leaf more, picked or not
+-- total-ext               the sum depends on the shares of the picked leaves alone
+-- length-total            a sum of shares is as long as a share
+-- bytes-total             a sum of bytes is bytes
+-- total-rest              the sum of the leaves that are not picked, from the sum of all and that of the picked ones
+-- string-inj              equal strings of one layer and prefix have the same rest
+-- length-announcedBytes, announced-inj   what a party announces has 12t bytes, which determine α, β and v
+-- axisString-inj          equal strings of one axis say that the parties announce the same
+use mathlib.Core.Path.{_≡_, refl, sym, ap, ap₂, _∙_}
+use mathlib.Core.Bool.{Bool, true, false, cond, not}
+use mathlib.Core.List.{List, _++_}
+use Prim.Native.Nat.{ℕ, zero, suc, _+_, _*_, _≤_, _<_}
+use native.Mathlib.Nat.{le-refl}
+use native.Mathlib.Omega.{arith}
+use lib.ListN.{length, drop, replicate, length-append, length-replicate}
+use lib.Dec.{lit<}
+use Rattle.lists.specs.Sum.{xorList}
+use Rattle.lists.specs.Sum.Laws.{length-xorList, xorList-comm, xorList-assoc, xorList-self, xorList-zeros}
+use Rattle.polynomial.specs.Bytes.{Bytes, bytes-xorList}
+use Rattle.parameters.specs.declared.Parameters.{Parameters}
+use Rattle.exchange.specs.Layout.{side, shareLength}
+use Rattle.exchange.specs.Sequences.Laws.{append-inj, joined-inj}
+use Rattle.exchange.specs.Strings.{string, string6}
+use Rattle.exchange.specs.Reading.{encode}
+use Rattle.exchange.specs.Reading.Laws.{length-encode, encode-inj}
+use Rattle.exchange.specs.Parties.{Announced, total, sums, announcedBytes, axisString}
+
+-- ---- sums of shares
+
+module _ (p : Parameters) (picks : ℕ → Bool) where
+  pub total-yes : (s : ℕ → List ℕ) (n : ℕ) → picks n ≡ true → total p picks s (suc n) ≡ xorList (total p picks s n) (s n)
+  unfolding total
+  total-yes s n e = rw e
+
+  pub total-no : (s : ℕ → List ℕ) (n : ℕ) → picks n ≡ false → total p picks s (suc n) ≡ total p picks s n
+  unfolding total
+  total-no s n e = rw e
+
+  pub total-ext : (s t : ℕ → List ℕ) (n : ℕ) → ((i : ℕ) → i < n → picks i ≡ true → s i ≡ t i) → total p picks s n ≡ total p picks t n
+  unfolding total
+  total-ext s t zero h = refl
+  total-ext s t (suc n) h = go (picks n) refl (total-ext s t n (λ i l. h i (omega arith)))
+    where
+      go : (b : Bool) → picks n ≡ b → total p picks s n ≡ total p picks t n
+          → cond b (xorList (total p picks s n) (s n)) (total p picks s n) ≡ cond b (xorList (total p picks t n) (t n)) (total p picks t n)
+      go true e ih = ap₂ xorList ih (h n (le-refl (suc n)) e)
+      go false e ih = ih
+
+  pub length-total : (s : ℕ → List ℕ) (n : ℕ) → ((i : ℕ) → i < n → picks i ≡ true → length (s i) ≤ shareLength p)
+      → length (total p picks s n) ≡ shareLength p
+  unfolding total
+  length-total s zero h = length-replicate (shareLength p) 0
+  length-total s (suc n) h = go (picks n) refl (length-total s n (λ i l. h i (omega arith)))
+    where
+      go : (b : Bool) → picks n ≡ b → length (total p picks s n) ≡ shareLength p
+          → length (cond b (xorList (total p picks s n) (s n)) (total p picks s n)) ≡ shareLength p
+      go true e ih = let k = h n (le-refl (suc n)) e in length-xorList (total p picks s n) (s n) (omega arith) ∙ ih
+      go false e ih = ih
+
+  bytes-zeros : (n : ℕ) → Bytes (replicate n 0)
+  bytes-zeros zero = tt
+  bytes-zeros (suc n) = (lit< tt, bytes-zeros n)
+
+  pub bytes-total : (s : ℕ → List ℕ) (n : ℕ) → ((i : ℕ) → i < n → picks i ≡ true → Bytes (s i)) → Bytes (total p picks s n)
+  unfolding total
+  bytes-total s zero h = bytes-zeros (shareLength p)
+  bytes-total s (suc n) h = go (picks n) refl (bytes-total s n (λ i l. h i (omega arith)))
+    where
+      go : (b : Bool) → picks n ≡ b → Bytes (total p picks s n) → Bytes (cond b (xorList (total p picks s n) (s n)) (total p picks s n))
+      go true e ih = bytes-xorList (total p picks s n) (s n) ih (h n (le-refl (suc n)) e)
+      go false e ih = ih
+
+-- ---- the leaves that are not picked
+
+move : (a b c : List ℕ) → xorList (xorList a b) c ≡ xorList (xorList a c) b
+move a b c = xorList-assoc a b c ∙ ap (xorList a) (xorList-comm b c) ∙ sym (xorList-assoc a c b)
+
+twice : (a b c : List ℕ) (n : ℕ) → length a ≡ n → length b ≡ n → length c ≤ n → xorList (xorList a c) (xorList b c) ≡ xorList a b
+twice a b c n ea eb h =
+    let e : length (xorList a b) ≡ length a = length-xorList a b (omega arith) in
+    sym (xorList-assoc (xorList a c) b c) ∙ ap (λ (l : List ℕ). xorList l c) (move a c b) ∙ xorList-assoc (xorList a b) c c
+    ∙ ap (xorList (xorList a b)) (xorList-self c) ∙ xorList-zeros (xorList a b) (length c) (omega arith)
+
+module _ (p : Parameters) (picks : ℕ → Bool) (s : ℕ → List ℕ) where
+  pub total-rest : (n : ℕ) → ((i : ℕ) → i < n → length (s i) ≤ shareLength p)
+      → total p (λ i. not (picks i)) s n ≡ xorList (total p (λ i. true) s n) (total p picks s n)
+  unfolding total
+  total-rest zero h = sym (xorList-self (replicate (shareLength p) 0) ∙ ap (λ (n : ℕ). replicate n 0) (length-replicate (shareLength p) 0))
+  total-rest (suc n) h = go (picks n) (total-rest n (λ i l. h i (omega arith)))
+    where
+      size : (picks : ℕ → Bool) → length (total p picks s n) ≡ shareLength p
+      size picks = length-total p picks s n (λ i l e. h i (omega arith))
+
+      go : (b : Bool) → total p (λ i. not (picks i)) s n ≡ xorList (total p (λ i. true) s n) (total p picks s n)
+          → cond (not b) (xorList (total p (λ i. not (picks i)) s n) (s n)) (total p (λ i. not (picks i)) s n)
+          ≡ xorList (xorList (total p (λ i. true) s n) (s n)) (cond b (xorList (total p picks s n) (s n)) (total p picks s n))
+      go true ih =
+          ih ∙ sym (twice (total p (λ i. true) s n) (total p picks s n) (s n) (shareLength p) (size (λ i. true)) (size picks) (h n (le-refl (suc n))))
+      go false ih = ap (λ (l : List ℕ). xorList l (s n)) ih ∙ move (total p (λ i. true) s n) (total p picks s n) (s n)
+
+-- ---- strings
+
+pub string-inj : (layer : ℕ) (prefix a b : List ℕ) → string layer prefix a ≡ string layer prefix b → a ≡ b
+unfolding string
+string-inj layer prefix a b e = append-inj prefix a prefix b refl (ap (drop 1) e) .1
+
+module _ (p : Parameters) where
+  pub length-announcedBytes : (A : Announced) (c : ℕ) → length (announcedBytes p A c) ≡ 12 * p .t
+  unfolding announcedBytes
+  length-announcedBytes A c =
+      length-append (encode (A .α c) (p .t)) (encode (A .β c) (p .t) ++ encode (A .v c) (p .t))
+      ∙ ap₂ _+_ (length-encode (A .α c) (p .t))
+      (length-append (encode (A .β c) (p .t)) (encode (A .v c) (p .t))
+      ∙ ap₂ _+_ (length-encode (A .β c) (p .t)) (length-encode (A .v c) (p .t)))
+      ∙ omega arith
+
+  pub announced-inj : (A B : Announced) (c : ℕ) → announcedBytes p A c ≡ announcedBytes p B c
+      → (l : ℕ) → l < p .t → (A .α c l ≡ B .α c l) × (A .β c l ≡ B .β c l) × (A .v c l ≡ B .v c l)
+  unfolding announcedBytes
+  announced-inj A B c e l h =
+      let front = append-inj (encode (A .α c) (p .t)) _ (encode (B .α c) (p .t)) _
+      (length-encode (A .α c) (p .t) ∙ sym (length-encode (B .α c) (p .t))) e in
+      let back = append-inj (encode (A .β c) (p .t)) _ (encode (B .β c) (p .t)) _
+      (length-encode (A .β c) (p .t) ∙ sym (length-encode (B .β c) (p .t))) (front .1) in (
+        encode-inj (A .α c) (B .α c) (p .t) (front .0) l h,
+        encode-inj (A .β c) (B .β c) (p .t) (back .0) l h,
+        encode-inj (A .v c) (B .v c) (p .t) (back .1) l h,
+      )
+
+  pub axisString-inj : (prefix : List ℕ) (j : ℕ) (A B : Announced) → axisString p prefix j A ≡ axisString p prefix j B
+      → (c l : ℕ) → c < side p → l < p .t → (A .α c l ≡ B .α c l) × (A .β c l ≡ B .β c l) × (A .v c l ≡ B .v c l)
+  unfolding axisString string6
+  axisString-inj prefix j A B e c l hc hl =
+      announced-inj A B c
+      (joined-inj (announcedBytes p A) (announcedBytes p B) (side p) (12 * p .t) (λ c h. length-announcedBytes A c)
+      (λ c h. length-announcedBytes B c)
+      (ap (drop 1) (string-inj 6 prefix _ _ e)) c hc) l hl
