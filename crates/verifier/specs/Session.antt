@@ -1,0 +1,192 @@
+-- The verifier's five calls as functions on values: the session, the arguments and what the lent slices hold go in; the answer,
+-- the session and, for the opening, the work area come out.
+--
+-- fresh                a session before its first begin
+-- holds s              the session holds an exchange. A session that no call made, with parameters outside their limits or a leaf
+--                      not below n, counts as one that was never begun
+-- closed s             'exchange closed, only begin is due'
+-- due s here           'call not due; so is every call but begin before a session's first begin'
+-- Outcome, Judged      answer and session; of the opening, also the work area
+-- settle               a refusal leaves 'the session unchanged'
+-- begin, points, response, leaf   'begin (parameters, message 1), points, response, leaf': each takes its message
+-- opening              'opening (closes with accepted, 5, 6 or 7)'; 'Closing changes nothing else that a session holds'
+use mathlib.Core.Bool.{Bool, true, false, _&&_, not}
+use mathlib.Core.List.{List, [], _∷_}
+use Prim.Native.Nat.{ℕ, _*_, _-_}
+use lib.Dec.{eqb, leb, ltb}
+use lib.ListN.{length, replicate, take}
+use Rattle.lists.specs.Part.{putAt}
+use Rattle.lists.specs.Zeroed.{zeroed}
+use Rattle.lists.specs.Checks.{allTrue}
+use Rattle.answers.specs.declared.Answer.{Answer}
+use Rattle.answers.specs.declared.Answer.the-variants.{Done, Refused}
+use Rattle.answers.specs.declared.Refusal.{Refusal}
+use Rattle.answers.specs.declared.Refusal.the-variants.{Parameter, Length, Leaf, NotDue, Closed as ExchangeClosed}
+use Rattle.answers.specs.Checks.{checks}
+use Rattle.parameters.specs.declared.Parameters.{Parameters}
+use Rattle.parameters.specs.Limits.{withinLimits}
+use Rattle.exchange.specs.Layout.{leaves, message2Length, message5Length, workLength}
+use Rattle.exchange.specs.Values.{Key}
+use Rattle.exchange.specs.Opening.{Exchange, exchange, verdict}
+use Rattle.verifier.specs.declared.Phase.{Phase}
+use Rattle.verifier.specs.declared.Phase.the-variants.{Fresh, Begun, Pointed, Responded, Chosen, Closed}
+use Rattle.verifier.specs.declared.Verifier.{Verifier}
+use Rattle.verifier.specs.declared.Called.{Called}
+
+-- ---- what a session holds
+
+unfoldable pub fresh : Verifier
+fresh = record {
+  phase = Fresh;
+  parameters = record { m = 0; k = 0; w = 0; d = 0; t = 0 };
+  message1 = replicate 64 0;
+  message2 = replicate 64 0;
+  message3 = replicate 32 0;
+  leaf = 0;
+}
+
+-- the phases in their order
+abbrev pub step : Phase → ℕ
+step Fresh = 0
+step Begun = 1
+step Pointed = 2
+step Responded = 3
+step Chosen = 4
+step Closed = 5
+
+unfoldable pub holds : Verifier → Bool
+holds s = not (eqb (step (s .phase)) (step Fresh)) && (withinLimits (s .parameters) && ltb (s .leaf) (leaves (s .parameters)))
+
+unfoldable pub closed : Verifier → Bool
+closed s = holds s && eqb (step (s .phase)) (step Closed)
+
+unfoldable pub due : Verifier → Phase → Bool
+due s here = holds s && eqb (step (s .phase)) (step here)
+
+-- the messages held, with message 5
+unfoldable pub heldExchange : Verifier → List ℕ → Exchange
+heldExchange s m5 = exchange (s .message1) (take (message2Length (s .parameters)) (s .message2)) (s .message3) (s .leaf) m5
+
+-- ---- what a call gives
+
+pub record Outcome : Type 0 where
+  pub answer : Answer
+  pub verifier : Verifier
+
+pub record Judged : Type 0 where
+  pub answer : Answer
+  pub verifier : Verifier
+  pub work : List ℕ
+
+abbrev pub settle : Answer → Verifier → Verifier → Outcome
+settle Done s next = record { answer = Done; verifier = next }
+settle (Refused r) s next = record { answer = Refused r; verifier = s }
+
+-- what a method returned, and left in the work area
+abbrev pub given : Called → Outcome
+given c = record { answer = c .answer; verifier = c .verifier }
+
+abbrev pub judged : Called → List ℕ → Judged
+judged c work = record { answer = c .answer; verifier = c .verifier; work = work }
+
+-- the calls after begin: 12 and 11 come first
+abbrev pub afterBegin : Verifier → Phase → List (Bool × Refusal) → Answer
+afterBegin s here cs = checks ((not (closed s), ExchangeClosed) ∷ (due s here, NotDue) ∷ cs)
+
+-- ---- begin, points, response, leaf: the checks of each, the session after it, and the call
+
+unfoldable pub beginChecks : Parameters → List ℕ → Answer
+beginChecks p m1 = checks ((withinLimits p, Parameter) ∷ (eqb (length m1) 64, Length) ∷ [])
+
+unfoldable pub begun : Parameters → List ℕ → Verifier
+begun p m1 = record { phase = Begun; parameters = p; message1 = m1; message2 = replicate 64 0; message3 = replicate 32 0; leaf = 0 }
+
+unfoldable pub begin : Verifier → Parameters → List ℕ → Outcome
+begin s p m1 = settle (beginChecks p m1) s (begun p m1)
+
+unfoldable pub pointsChecks : Verifier → List ℕ → Answer
+pointsChecks s m2 = afterBegin s Begun ((eqb (length m2) (message2Length (s .parameters)), Length) ∷ [])
+
+unfoldable pub pointed : Verifier → List ℕ → Verifier
+pointed s m2 = record {
+  phase = Pointed;
+  parameters = s .parameters;
+  message1 = s .message1;
+  message2 = putAt (replicate 64 0) 0 m2;
+  message3 = s .message3;
+  leaf = s .leaf;
+}
+
+unfoldable pub points : Verifier → List ℕ → Outcome
+points s m2 = settle (pointsChecks s m2) s (pointed s m2)
+
+unfoldable pub responseChecks : Verifier → List ℕ → Answer
+responseChecks s m3 = afterBegin s Pointed ((eqb (length m3) 32, Length) ∷ [])
+
+unfoldable pub responded : Verifier → List ℕ → Verifier
+responded s m3 = record {
+  phase = Responded;
+  parameters = s .parameters;
+  message1 = s .message1;
+  message2 = s .message2;
+  message3 = m3;
+  leaf = s .leaf;
+}
+
+unfoldable pub response : Verifier → List ℕ → Outcome
+response s m3 = settle (responseChecks s m3) s (responded s m3)
+
+unfoldable pub leafChecks : Verifier → ℕ → Answer
+leafChecks s i = afterBegin s Responded ((ltb i (leaves (s .parameters)), Leaf) ∷ [])
+
+unfoldable pub chosen : Verifier → ℕ → Verifier
+chosen s i = record {
+  phase = Chosen;
+  parameters = s .parameters;
+  message1 = s .message1;
+  message2 = s .message2;
+  message3 = s .message3;
+  leaf = i;
+}
+
+unfoldable pub leaf : Verifier → ℕ → Outcome
+leaf s i = settle (leafChecks s i) s (chosen s i)
+
+-- ---- the opening
+
+-- the session closed
+unfoldable pub ended : Verifier → Verifier
+ended s = record {
+  phase = Closed;
+  parameters = s .parameters;
+  message1 = s .message1;
+  message2 = s .message2;
+  message3 = s .message3;
+  leaf = s .leaf;
+}
+
+module _ (hash : List ℕ → ℕ → List ℕ) (s : Verifier) (m5 : List ℕ) (key : Key) (work : List ℕ) where
+  abbrev p : Parameters
+  p = s .parameters
+
+  unfoldable pub openingChecks : Answer
+  openingChecks =
+      afterBegin s Chosen ((
+        allTrue (
+            eqb (length m5) (message5Length p (s .leaf))
+            ∷ eqb (length (key .matrix)) ((p .m - p .k) * p .k)
+            ∷ eqb (length (key .y)) (p .m - p .k)
+            ∷ leb (workLength p) (length work)
+            ∷ []
+            ),
+        Length,
+      )
+      ∷ []
+      )
+
+  unfoldable pub judge : Answer → Judged
+  judge Done = record { answer = verdict hash p (heldExchange s m5) key; verifier = ended s; work = zeroed (workLength p) work }
+  judge (Refused r) = record { answer = Refused r; verifier = s; work = work }
+
+  unfoldable pub opening : Judged
+  opening = judge openingChecks
