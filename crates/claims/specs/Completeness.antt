@@ -1,0 +1,114 @@
+-- Demand 2, its last clause: 'with a valid key, its matrix and y unchanged throughout, every root and salt that an exchange may start
+-- with, all points and multipliers and every leaf of the cube lead to acceptance.' It is about the calls, from any two sessions, so
+-- that a second exchange counts like the first; of the hash only the length of what it gives is used.
+--
+-- ValidKey p key xA     'a valid key': parameters within their limits, matrix, y and x_A of the lengths that document 01 gives them,
+--                       y and x_A of bytes, and x of at most w nonzero entries
+-- MayStart s salt root  'root and salt that an exchange may start with': of their lengths, and not refused by 13 in the session s
+-- Slices                the work area and the output that each call is lent
+-- Fitting p i lent      outputs of their messages' lengths; 'a work area may be longer, never shorter than 2·D·(k+2w+12t)'
+-- proverBegin, verifierBegin, verifierPoints, proverPoints, verifierResponse, verifierLeaf, proverLeaf, verifierOpening
+--                       the eight calls in their order, each given what the other session's call wrote, and the same matrix and y
+-- LeadsToAcceptance     all eight are carried out, and the opening is accepted
+-- Complete hash         the clause
+use mathlib.Core.Path.{_≡_}
+use mathlib.Core.Bool.{false}
+use mathlib.Core.List.{List}
+use Prim.Native.Nat.{ℕ, _≤_, _<_}
+use lib.ListN.{length}
+use Rattle.answers.specs.declared.Answer.the-variants.{Done}
+use Rattle.parameters.specs.declared.Parameters.{Parameters}
+use Rattle.parameters.specs.Limits.{Within}
+use Rattle.polynomial.specs.Bytes.{Bytes}
+use Rattle.key.specs.Key.{weightOf, vectorOf}
+use Rattle.exchange.specs.Layout.{leaves, message2Length, message5Length, workLength}
+use Rattle.exchange.specs.Values.{Key}
+use Rattle.prover.specs.declared.Prover.{Prover}
+use Rattle.prover.specs.Session as prover
+use Rattle.verifier.specs.declared.Verifier.{Verifier}
+use Rattle.verifier.specs.Session as verifier
+use Rattle.claims.specs.Words.{Lent}
+pub mod Sessions
+pub mod Calls
+pub mod Sample
+
+-- ---- what is given
+
+pub record ValidKey (p : Parameters) (key : Key) (xA : List ℕ) : Type 0 where
+  pub within : Within p
+  pub lent : Lent p key
+  pub long : length xA ≡ p .k
+  pub light : weightOf (vectorOf (key .matrix) (key .y) xA) ≤ p .w
+  pub bytes-y : Bytes (key .y)
+  pub bytes-xA : Bytes xA
+
+pub record MayStart (s : Prover) (salt root : List ℕ) : Type 0 where
+  pub salt-length : length salt ≡ 32
+  pub root-length : length root ≡ 16
+  pub not-repeated : prover.repeated s salt root ≡ false
+
+pub record Slices : Type 0 where
+  pub begin-work : List ℕ
+  pub begin-out : List ℕ
+  pub points-work : List ℕ
+  pub points-out : List ℕ
+  pub leaf-work : List ℕ
+  pub leaf-out : List ℕ
+  pub opening-work : List ℕ
+
+pub record Fitting (p : Parameters) (i : ℕ) (lent : Slices) : Type 0 where
+  pub begin-work : workLength p ≤ length (lent .begin-work)
+  pub begin-out : length (lent .begin-out) ≡ 64
+  pub points-work : workLength p ≤ length (lent .points-work)
+  pub points-out : length (lent .points-out) ≡ 32
+  pub leaf-work : workLength p ≤ length (lent .leaf-work)
+  pub leaf-out : length (lent .leaf-out) ≡ message5Length p i
+  pub opening-work : workLength p ≤ length (lent .opening-work)
+
+-- ---- the eight calls
+
+module _ (hash : List ℕ → ℕ → List ℕ) (p : Parameters) (key : Key) (xA : List ℕ) (s : Prover) (v : Verifier) (salt root m2 : List ℕ) (i : ℕ) (lent : Slices) where
+  abbrev pub proverBegin : prover.Outcome
+  proverBegin = prover.begin hash s p xA salt root key (lent .begin-work) (lent .begin-out)
+
+  abbrev pub verifierBegin : verifier.Outcome
+  verifierBegin = verifier.begin v p (proverBegin .out)
+
+  abbrev pub verifierPoints : verifier.Outcome
+  verifierPoints = verifier.points (verifierBegin .verifier) m2
+
+  abbrev pub proverPoints : prover.Outcome
+  proverPoints = prover.points hash (proverBegin .prover) m2 key (lent .points-work) (lent .points-out)
+
+  abbrev pub verifierResponse : verifier.Outcome
+  verifierResponse = verifier.response (verifierPoints .verifier) (proverPoints .out)
+
+  abbrev pub verifierLeaf : verifier.Outcome
+  verifierLeaf = verifier.leaf (verifierResponse .verifier) i
+
+  abbrev pub proverLeaf : prover.Outcome
+  proverLeaf = prover.leaf hash (proverPoints .prover) i key (lent .leaf-work) (lent .leaf-out)
+
+  abbrev pub verifierOpening : verifier.Judged
+  verifierOpening = verifier.opening hash (verifierLeaf .verifier) (proverLeaf .out) key (lent .opening-work)
+
+  pub record LeadsToAcceptance : Type 0 where
+    pub prover-begin : proverBegin .answer ≡ Done
+    pub verifier-begin : verifierBegin .answer ≡ Done
+    pub verifier-points : verifierPoints .answer ≡ Done
+    pub prover-points : proverPoints .answer ≡ Done
+    pub verifier-response : verifierResponse .answer ≡ Done
+    pub verifier-leaf : verifierLeaf .answer ≡ Done
+    pub prover-leaf : proverLeaf .answer ≡ Done
+    -- of the opening, `Done` is accepted
+    pub accepted : verifierOpening .answer ≡ Done
+
+-- ---- the clause
+
+abbrev pub Complete : (List ℕ → ℕ → List ℕ) → Type 0
+Complete hash = (p : Parameters) (key : Key) (xA : List ℕ) → ValidKey p key xA
+    → (s : Prover) (v : Verifier) (salt root : List ℕ) → MayStart s salt root
+    → (m2 : List ℕ) → length m2 ≡ message2Length p
+    → (i : ℕ) → i < leaves p
+    → (lent : Slices) → Fitting p i lent
+    → LeadsToAcceptance hash p key xA s v salt root m2 i lent

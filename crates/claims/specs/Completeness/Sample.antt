@@ -1,0 +1,80 @@
+-- What demand 2's last clause supposes can be had: document 01's sample key is valid, a session before its first begin may start with
+-- every salt and root, and there are slices that fit.
+--
+-- sample, sampleKey, sampleXA   the set, matrix, syndrome and key of document 01's key listing
+-- sample-valid                  they are a valid key
+-- fresh-start                   before the first begin no salt and root is refused
+-- blank, blank-fits             slices of zeros, of the least lengths that fit
+use mathlib.Core.Path.{_≡_, refl, sym}
+use mathlib.Core.List.{List, [], _∷_}
+use Prim.Native.Nat.{ℕ}
+use native.Mathlib.Nat.{le-of-eq}
+use lib.Dec.{lit<}
+use lib.ListN.{length, replicate, length-replicate}
+use Rattle.lists.specs.Xor.{_⊕_}
+use Rattle.lists.specs.Sum.{xorList}
+use Rattle.bytefield.specs.Product.{reduction, xtime, timesBits, _⊗_}
+use Rattle.parameters.specs.declared.Parameters.{Parameters}
+use Rattle.parameters.specs.Limits.{Within, limits, withinLimits}
+use Rattle.parameters.specs.Limits.Laws.{test-within}
+use Rattle.key.specs.Key.{dot, rows, vectorOf, weightOf}
+use Rattle.exchange.specs.Layout.{message5Length, workLength}
+use Rattle.exchange.specs.Values.{Key}
+use Rattle.prover.specs.Session.{fresh, holds, repeated}
+use Rattle.claims.specs.Completeness.{ValidKey, MayStart, Slices, Fitting}
+
+abbrev pub sample : Parameters
+sample = record { m = 2; k = 1; w = 1; d = 1; t = 1 }
+
+abbrev pub sampleKey : Key
+sampleKey = record { matrix = 0x01 ∷ []; y = 0x05 ∷ [] }
+
+abbrev pub sampleXA : List ℕ
+sampleXA = 0x05 ∷ []
+
+sample-within : Within sample
+unfolding limits withinLimits
+sample-within = test-within sample refl
+
+sample-weight : weightOf (vectorOf (sampleKey .matrix) (sampleKey .y) sampleXA) ≡ 1
+unfolding weightOf vectorOf rows dot xorList _⊗_ timesBits xtime reduction _⊕_
+sample-weight = refl
+
+pub sample-valid : ValidKey sample sampleKey sampleXA
+sample-valid = record {
+  within = sample-within;
+  lent = record { matrix = refl; y = refl };
+  long = refl;
+  light = le-of-eq sample-weight;
+  bytes-y = (lit< tt, tt);
+  bytes-xA = (lit< tt, tt);
+}
+
+pub fresh-start : (salt root : List ℕ) → length salt ≡ 32 → length root ≡ 16 → MayStart fresh salt root
+unfolding fresh holds repeated
+fresh-start salt root h k = record { salt-length = h; root-length = k; not-repeated = refl }
+
+abbrev pub blank : Parameters → ℕ → Slices
+blank p i = record {
+  begin-work = replicate (workLength p) 0;
+  begin-out = replicate 64 0;
+  points-work = replicate (workLength p) 0;
+  points-out = replicate 32 0;
+  leaf-work = replicate (workLength p) 0;
+  leaf-out = replicate (message5Length p i) 0;
+  opening-work = replicate (workLength p) 0;
+}
+
+pub blank-fits : (p : Parameters) (i : ℕ) → Fitting p i (blank p i)
+blank-fits p i = record {
+  begin-work = le-of-eq (sym (zeros (workLength p)));
+  begin-out = zeros 64;
+  points-work = le-of-eq (sym (zeros (workLength p)));
+  points-out = zeros 32;
+  leaf-work = le-of-eq (sym (zeros (workLength p)));
+  leaf-out = zeros (message5Length p i);
+  opening-work = le-of-eq (sym (zeros (workLength p)));
+}
+  where
+    zeros : (n : ℕ) → length {A = ℕ} (replicate n 0) ≡ n
+    zeros n = length-replicate n 0

@@ -1,0 +1,180 @@
+-- The sums over all leaves are the parts of one sum of shares.
+--
+-- whole p s                the sum of the shares of all leaves
+-- length-summed, summed-ext   lengths, and on what a sum of lists depends
+-- summed-is                an additive part of a share, of the sum of shares: the sum of the parts
+-- xSum-ext, QSum-ext, PSum-ext, aSum-ext, bSum-ext, cSum-ext   the sums depend on the shares of the leaves alone
+-- xSum-is, QSum-is, PSum-is, aSum-is, bSum-is, cSum-is   the sums are x, Q, P, a, b, c of the summed share, with the constants
+-- syndrome-holds           Hx = y
+-- bytes-xSum               where shares and y are bytes, x is
+use mathlib.Core.Path.{_≡_, refl, sym, ap, ap₂, _∙_}
+use mathlib.Core.Bool.{true, false}
+use mathlib.Core.List.{List, [], _∷_, _++_}
+use Prim.Native.Nat.{ℕ, zero, suc, _+_, _-_, _<_}
+use native.Mathlib.Nat.{le-refl}
+use native.Mathlib.Omega.{arith}
+use lib.ListN.{length, getD, take, drop, replicate, length-replicate}
+use lib.Seq.{take-at, drop-at}
+use Rattle.cube.specs.Sum.Laws.{sum-ext}
+use Rattle.lists.specs.Sum.{xorList}
+use Rattle.lists.specs.Sum.Laws.{length-xorList, xorList-comm, xorList-assoc, xorList-self, xorList-zeros}
+use Rattle.polynomial.specs.Bytes.{Bytes, byte-at, bytes-append, bytes-xorList}
+use Rattle.key.specs.Key.Vector.{bytes-rows}
+use Rattle.parameters.specs.declared.Parameters.{Parameters}
+use Rattle.exchange.specs.Layout.{leaves, shareLength, atX, atQ}
+use Rattle.exchange.specs.Reading.{bytesAt}
+use Rattle.exchange.specs.Reading.Laws.{length-bytesAt, bytesAt-is, bytesAt-xor}
+use Rattle.exchange.specs.Values.{Key, xAOf, QOf, POf, aOf, bOf, cOf, imageOf, xOf}
+use Rattle.exchange.specs.Values.Laws.{length-xAOf, length-imageOf, length-xOf, length-POf, xOf-plain, xOf-xor, POf-xor, aOf-xor, bOf-xor, cOf-xor}
+use Rattle.exchange.specs.Parties.{total}
+use Rattle.exchange.specs.Parties.Laws.{bytes-total}
+use Rattle.exchange.specs.Parties.Cube.{G, total-additive}
+use Rattle.claims.specs.Words.{leafX, summed, plainX, xSum, QSum, PSum, aSum, bSum, cSum}
+
+abbrev pub whole : Parameters → (ℕ → List ℕ) → List ℕ
+whole p s = total p (λ i. true) s (leaves p)
+
+-- ---- sums of lists
+
+pub length-summed : (size : ℕ) (f : ℕ → List ℕ) (n : ℕ) → ((i : ℕ) → i < n → length (f i) ≡ size) → length (summed size f n) ≡ size
+unfolding summed
+length-summed size f zero h = length-replicate size 0
+length-summed size f (suc n) h =
+    let a = length-summed size f n (λ i l. h i (omega arith)) in
+    let b = h n (le-refl (suc n)) in
+    length-xorList (summed size f n) (f n) (omega arith) ∙ a
+
+pub summed-ext : (size : ℕ) (f g : ℕ → List ℕ) (n : ℕ) → ((i : ℕ) → i < n → f i ≡ g i) → summed size f n ≡ summed size g n
+unfolding summed
+summed-ext size f g zero h = refl
+summed-ext size f g (suc n) h = ap₂ xorList (summed-ext size f g n (λ i l. h i (omega arith))) (h n (le-refl (suc n)))
+
+module _ (p : Parameters) (φ : List ℕ → List ℕ) (size : ℕ) (φ-xor : (s t : List ℕ) → φ (xorList s t) ≡ xorList (φ s) (φ t))
+    (φ-length : (s : List ℕ) → length (φ s) ≡ size) where
+  -- the zeros are their own sum
+  φ-zeros : (n : ℕ) → φ (replicate n 0) ≡ replicate size 0
+  φ-zeros n =
+      ap φ (ap (λ (k : ℕ). replicate k 0) (sym (length-replicate n 0)) ∙ sym (xorList-self (replicate n 0)))
+      ∙ φ-xor (replicate n 0) (replicate n 0) ∙ xorList-self (φ (replicate n 0)) ∙ ap (λ (k : ℕ). replicate k 0) (φ-length (replicate n 0))
+
+  pub summed-is : (s : ℕ → List ℕ) (n : ℕ) → summed size (λ i. φ (s i)) n ≡ φ (total p (λ i. true) s n)
+  unfolding total summed
+  summed-is s zero = sym (φ-zeros (shareLength p))
+  summed-is s (suc n) =
+      ap (λ (l : List ℕ). xorList l (φ (s n))) (summed-is s n) ∙ sym (φ-xor (total p (λ i. true) s n) (s n))
+
+-- ---- on what they depend
+
+module _ (p : Parameters) (key : Key) (s s′ : ℕ → List ℕ) (same : (i : ℕ) → i < leaves p → s i ≡ s′ i) where
+  pub xSum-ext : xSum p key s ≡ xSum p key s′
+  unfolding xSum
+  xSum-ext = rw (summed-ext (p .m) (λ i. leafX p key (s i)) (λ i. leafX p key (s′ i)) (leaves p) (λ i h. ap (leafX p key) (same i h)))
+
+  pub QSum-ext : QSum p key s ≡ QSum p key s′
+  unfolding QSum
+  QSum-ext =
+      rw (summed-ext (p .w) (λ i. bytesAt (s i) (atQ p) (p .w)) (λ i. bytesAt (s′ i) (atQ p) (p .w)) (leaves p)
+      (λ i h. ap (λ (l : List ℕ). bytesAt l (atQ p) (p .w)) (same i h)))
+
+  pub PSum-ext : PSum p key s ≡ PSum p key s′
+  unfolding PSum
+  PSum-ext = summed-ext (p .w) (λ i. POf p (s i)) (λ i. POf p (s′ i)) (leaves p) (λ i h. ap (POf p) (same i h))
+
+  module _ (l : ℕ) where
+    pub aSum-ext : aSum p key s l ≡ aSum p key s′ l
+    unfolding aSum
+    aSum-ext = sum-ext G (λ i. aOf p (s i) l) (λ i. aOf p (s′ i) l) (leaves p) (λ i h. ap (λ (t : List ℕ). aOf p t l) (same i h))
+
+    pub bSum-ext : bSum p key s l ≡ bSum p key s′ l
+    unfolding bSum
+    bSum-ext = sum-ext G (λ i. bOf p (s i) l) (λ i. bOf p (s′ i) l) (leaves p) (λ i h. ap (λ (t : List ℕ). bOf p t l) (same i h))
+
+    pub cSum-ext : cSum p key s l ≡ cSum p key s′ l
+    unfolding cSum
+    cSum-ext = sum-ext G (λ i. cOf p (s i) l) (λ i. cOf p (s′ i) l) (leaves p) (λ i h. ap (λ (t : List ℕ). cOf p t l) (same i h))
+
+-- ---- Q, P, a, b, c
+
+module _ (p : Parameters) (key : Key) (s : ℕ → List ℕ) where
+  pub QSum-is : QSum p key s ≡ QOf p true (whole p s)
+  unfolding QSum QOf
+  QSum-is =
+      ap (λ (l : List ℕ). l ++ (1 ∷ []))
+      (summed-is p (λ s. bytesAt s (atQ p) (p .w)) (p .w) (λ s t. bytesAt-xor s t (atQ p) (p .w)) (λ s. length-bytesAt s (atQ p) (p .w)) s (leaves p))
+
+  pub PSum-is : PSum p key s ≡ POf p (whole p s)
+  unfolding PSum
+  PSum-is = summed-is p (POf p) (p .w) (POf-xor p) (length-POf p) s (leaves p)
+
+  module _ (l : ℕ) where
+    pub aSum-is : aSum p key s l ≡ aOf p (whole p s) l
+    unfolding aSum
+    aSum-is = sym (total-additive p (λ s. aOf p s l) (λ s t. aOf-xor p s t l) (λ i. true) s (leaves p))
+
+    pub bSum-is : bSum p key s l ≡ bOf p (whole p s) l
+    unfolding bSum
+    bSum-is = sym (total-additive p (λ s. bOf p s l) (λ s t. bOf-xor p s t l) (λ i. true) s (leaves p))
+
+    pub cSum-is : cSum p key s l ≡ cOf p (whole p s) l
+    unfolding cSum
+    cSum-is = sym (total-additive p (λ s. cOf p s l) (λ s t. cOf-xor p s t l) (λ i. true) s (leaves p))
+
+-- ---- x
+
+module _ (p : Parameters) (key : Key) (short : p .k < p .m) (y-length : length (key .y) ≡ p .m - p .k) (s : ℕ → List ℕ) where
+  -- x_A of the summed share, and its image
+  abbrev front : List ℕ
+  front = xAOf p (whole p s)
+
+  abbrev image : List ℕ
+  image = imageOf p key front
+
+  plain-is : plainX p key s ≡ front ++ image
+  unfolding leafX
+  plain-is =
+      summed-ext (p .m) (λ i. xAOf p (s i) ++ imageOf p key (xAOf p (s i))) (λ i. xOf p key false (s i)) (leaves p)
+      (λ i l. sym (xOf-plain p key (s i)))
+      ∙ summed-is p (xOf p key false) (p .m) (xOf-xor p key) (λ s. length-xOf p key false s short) s (leaves p)
+      ∙ xOf-plain p key (whole p s)
+
+  y-whole : bytesAt (key .y) 0 (p .m - p .k) ≡ key .y
+  y-whole = bytesAt-is (key .y) 0 (p .m - p .k) (key .y) y-length (λ k l. let z : 0 + k ≡ k = omega arith in ap (λ (n : ℕ). getD (key .y) n 0) z)
+
+  parts : xSum p key s ≡ front ++ xorList image (key .y)
+  unfolding xSum
+  parts =
+      ap (λ (l : List ℕ). take (p .k) l ++ xorList (drop (p .k) l) (key .y)) plain-is
+      ∙ ap₂ (λ (a b : List ℕ). a ++ xorList b (key .y)) (take-at front image (p .k) (length-xAOf p (whole p s)))
+      (drop-at front image (p .k) (length-xAOf p (whole p s)))
+
+  pub xSum-is : xSum p key s ≡ xOf p key true (whole p s)
+  unfolding xOf
+  xSum-is = parts ∙ ap (λ (l : List ℕ). front ++ xorList image l) (sym y-whole)
+
+  pub length-xSum : length (xSum p key s) ≡ p .m
+  length-xSum = ap length xSum-is ∙ length-xOf p key true (whole p s) short
+
+  -- a list added twice is gone
+  twice : (a b : List ℕ) → length a ≡ length b → xorList a (xorList a b) ≡ b
+  twice a b e =
+      sym (xorList-assoc a a b) ∙ ap (λ (l : List ℕ). xorList l b) (xorList-self a) ∙ xorList-comm (replicate (length a) 0) b
+      ∙ xorList-zeros b (length a) (omega arith)
+
+  pub syndrome-holds : xorList (imageOf p key (take (p .k) (xSum p key s))) (drop (p .k) (xSum p key s)) ≡ key .y
+  syndrome-holds =
+      ap (λ (l : List ℕ). xorList (imageOf p key (take (p .k) l)) (drop (p .k) l)) parts
+      ∙ ap₂ (λ (a b : List ℕ). xorList (imageOf p key a) b) (take-at front (xorList image (key .y)) (p .k) (length-xAOf p (whole p s)))
+      (drop-at front (xorList image (key .y)) (p .k) (length-xAOf p (whole p s)))
+      ∙ twice image (key .y) (length-imageOf p key front ∙ sym y-length)
+
+  bytes-bytesAt : (l : List ℕ) (i n : ℕ) → Bytes l → Bytes (bytesAt l i n)
+  unfolding bytesAt
+  bytes-bytesAt l i zero h = tt
+  bytes-bytesAt l i (suc n) h = (byte-at i l h, bytes-bytesAt l (suc i) n h)
+
+  pub bytes-xSum : ((i : ℕ) → i < leaves p → Bytes (s i)) → Bytes (key .y) → Bytes (xSum p key s)
+  bytes-xSum h y-bytes =
+      rw parts
+      (bytes-append front (xorList image (key .y))
+      (unfold xAOf in bytes-bytesAt (whole p s) (atX p) (p .k) (bytes-total p (λ i. true) s (leaves p) (λ i l t. h i l)))
+      (bytes-xorList image (key .y) (unfold imageOf in bytes-rows (p .m - p .k) (key .matrix) front) y-bytes))

@@ -1,0 +1,10 @@
+pub mod Conduct
+pub mod Verifier
+pub mod Demand1
+pub mod Words
+pub mod Extraction
+pub mod Weight
+pub mod Acceptance
+pub mod Completeness
+pub mod Demand2
+pub mod Demand3

@@ -1,0 +1,183 @@
+-- Demand 3, second half: its proof.
+--
+-- relation-met          the relation of a pair that meets r with ε, over the sums of any one pair of the list
+-- low-claim             the claim for every hash, of which only the length of what it gives is used
+-- weight-claim          the claim for a hash that gives bytes, and messages of bytes
+use mathlib.Core.Path.{_≡_, sym, _∙_}
+use mathlib.Core.List.{List, [], _∷_}
+use Prim.Native.Nat.{ℕ, _+_, _-_, _*_, _≤_, _<_}
+use native.Mathlib.Decide.{ℕ-discrete}
+use native.Mathlib.Omega.{arith}
+use lib.ListN.{length}
+use Rattle.algebra.specs.Each.{Each, each-map, Distinct}
+use Rattle.points.specs.Field.{Point}
+use Rattle.parameters.specs.declared.Parameters.{Parameters}
+use Rattle.parameters.specs.Limits.{Within}
+use Rattle.polynomial.specs.Bytes.{Bytes}
+use Rattle.polynomial.specs.Interpolant.{interpolantOf}
+use Rattle.key.specs.Key.{weightOf}
+use Rattle.exchange.specs.Layout.{levels, leaves, atQ, workLength, outputLength}
+use Rattle.exchange.specs.Sequences.Laws.{bytes-drop}
+use Rattle.exchange.specs.Reading.{bytesAt, value, _⊞_, _⊠_}
+use Rattle.exchange.specs.Reading.Laws.{length-bytesAt}
+use Rattle.exchange.specs.Leaf.Laws.{bytes-share}
+use Rattle.exchange.specs.Values.{Key, POf, pointOf, multiplierOf, F}
+use Rattle.exchange.specs.Values.Laws.{length-POf}
+use Rattle.exchange.specs.Opening.{exchange, auxOf}
+use Rattle.extractor.specs.Call.{Transcript, exchangeOf, extraction}
+use Rattle.claims.specs.Words.{leafState, auxState, leafShare, summed, Witness, States, xSum, QSum, PSum, aSum, bSum, cSum}
+use Rattle.claims.specs.Extraction.Sums.{length-summed, length-xSum, bytes-xSum, xSum-ext, QSum-ext, PSum-ext, aSum-ext, bSum-ext, cSum-ext}
+use Rattle.claims.specs.Weight.{Pair, lowBytes, InBytes, In, openings, Meets, MeetsTwice, Under, Free, Meeting, xOfPair, OneX, OneLightX}
+use Rattle.claims.specs.Weight.Light.{lowBytes-bytes, Twice, defect, light-low}
+use Rattle.claims.specs.Weight.Common.{each-in, good, pair-given, pairShares, one-share}
+
+-- the relation of one family of shares, with the point and multiplier named, said of an equal family
+carried : (p : Parameters) (key : Key) (s s₀ : ℕ → List ℕ) → ((i : ℕ) → i < leaves p → s i ≡ s₀ i) → (m2 : List ℕ) → Witness p key s m2
+    → (l : ℕ) → l < p .t → (r ε : Point) → pointOf p m2 l ≡ r → multiplierOf p m2 l ≡ ε
+    → ε ⊠ (value (interpolantOf (xSum p key s₀)) r ⊠ value (QSum p key s₀) r ⊞ value (PSum p key s₀) r ⊠ value (F p) r)
+    ≡ cSum p key s₀ l ⊞ aSum p key s₀ l ⊠ bSum p key s₀ l
+carried p key s s₀ same m2 w l h r ε is-r is-ε =
+    rw (
+      ← is-r,
+      ← is-ε,
+      ← xSum-ext p key s s₀ same,
+      ← QSum-ext p key s s₀ same,
+      ← PSum-ext p key s s₀ same,
+      ← aSum-ext p key s s₀ same l,
+      ← bSum-ext p key s s₀ same l,
+      ← cSum-ext p key s s₀ same l,
+    )
+    (w .relation l h)
+
+module _ (hash : List ℕ → ℕ → List ℕ) (hash-length : (s : List ℕ) (n : ℕ) → length (hash s n) ≡ n) (p : Parameters) (key : Key) (m1 : List ℕ)
+    (qs : List Pair) (under : Each (Under hash p key m1) qs) (free : Free hash p key (openings qs)) (work out : List ℕ)
+    (work-length : workLength p ≤ length work) (out-length : length out ≡ outputLength p) where
+  abbrev shares : Pair → ℕ → List ℕ
+  shares = pairShares hash hash-length p key m1 qs under free work out work-length out-length
+
+  -- ---- one pair's sums serve for all
+
+  module _ {q₀ : Pair} (i₀ : In q₀ qs) where
+    -- the low coefficients of the summed Q
+    lowQ : List ℕ
+    lowQ = summed (p .w) (λ i. bytesAt (shares q₀ i) (atQ p) (p .w)) (leaves p)
+
+    x₀ : List ℕ
+    x₀ = xSum p key (shares q₀)
+
+    length-x₀ : length x₀ ≡ p .m
+    unfolding x₀
+    length-x₀ = length-xSum p key (good hash hash-length p key m1 qs under free i₀ .comparable .within .k-most)
+        (good hash hash-length p key m1 qs under free i₀ .comparable .lent .y) (shares q₀)
+
+    length-lowQ : length lowQ ≡ p .w
+    unfolding lowQ
+    length-lowQ =
+        length-summed (p .w) (λ i. bytesAt (shares q₀ i) (atQ p) (p .w)) (leaves p) (λ i h. length-bytesAt (shares q₀ i) (atQ p) (p .w))
+
+    length-PSum : length (PSum p key (shares q₀)) ≡ p .w
+    unfolding PSum
+    length-PSum = length-summed (p .w) (λ i. POf p (shares q₀ i)) (leaves p) (λ i h. length-POf p (shares q₀ i))
+
+    short : p .m < 256
+    short = let h = good hash hash-length p key m1 qs under free i₀ .comparable .within .m-most in omega arith
+
+    -- what the extractor wrote
+    abbrev written : List ℕ
+    written = extraction hash p (q₀ .one) (q₀ .other) key work out .out
+
+    -- x is bytes, where the hash gives bytes, and messages 5 and y are
+    bytes-x₀ : ((s : List ℕ) (n : ℕ) → Bytes (hash s n)) → Bytes (key .y) → InBytes q₀ → Bytes x₀
+    bytes-x₀ hash-bytes y-bytes sent =
+        unfold x₀ pairShares leafShare in
+        bytes-xSum p key (good hash hash-length p key m1 qs under free i₀ .comparable .within .k-most)
+        (good hash hash-length p key m1 qs under free i₀ .comparable .lent .y) (shares q₀)
+        (λ i h. bytes-share hash hash-bytes p (exchangeOf (q₀ .one) .prefix) i (leafState written i) (auxState p written)
+        (go (ℕ-discrete (leaves p - 1) (exchangeOf (q₀ .one) .leaf)))) y-bytes
+      where
+        given : States hash p key (exchangeOf (q₀ .one)) (exchangeOf (q₀ .other)) written
+        given = pair-given hash hash-length p key m1 qs under free i₀ work out work-length out-length .1
+
+        bytes-aux : (t : Transcript) → Bytes (t .message5) → Bytes (auxOf p (exchangeOf t))
+        bytes-aux t h = unfold auxOf exchangeOf exchange in bytes-drop (16 * levels p + 32 + 8 * p .t) (t .message5) h
+
+        -- aux from an opening that discloses leaf n−1
+        go : Dec (leaves p - 1 ≡ exchangeOf (q₀ .one) .leaf) → Bytes (auxState p written)
+        go (no n) = rw (given .aux n) (bytes-aux (q₀ .one) (sent .one))
+        go (yes z) =
+            rw (given .aux′ (λ z′. good hash hash-length p key m1 qs under free i₀ .comparable .hidden (unfold exchangeOf exchange in sym z ∙ z′)))
+            (bytes-aux (q₀ .other) (sent .other))
+
+    abbrev defect₀ : Point → Point
+    defect₀ = defect (p .m) (p .w) x₀ lowQ (PSum p key (shares q₀)) length-x₀ short length-lowQ length-PSum
+
+    abbrev z₀ : ℕ → Point
+    z₀ l = cSum p key (shares q₀) l ⊞ aSum p key (shares q₀) l ⊠ bSum p key (shares q₀) l
+
+    relation-met : {q : Pair} → In q qs → (l : ℕ) → l < p .t → (r ε : Point) → Meets p q l r ε → ε ⊠ defect₀ r ≡ z₀ l
+    relation-met {q} i l h r ε met =
+        unfold defect x₀ lowQ QSum F in
+        carried p key (shares q) (shares q₀) (one-share hash hash-length p key m1 qs under free work out work-length out-length i i₀) (q .one .message2)
+        (unfold pairShares exchangeOf exchange in pair-given hash hash-length p key m1 qs under free i work out work-length out-length .1 .witness)
+        l h r ε (met .point) (met .multiplier)
+
+  -- ---- the bound
+
+  module _ (l : ℕ) (position : l < p .t) (rs : List Point) (different : Distinct rs) (enough : p .m + p .w ≤ length rs)
+      (met : Each (MeetsTwice p qs l) rs) {q₀ : Pair} (i₀ : In q₀ qs) where
+    light₀ : weightOf (lowBytes (x₀ i₀)) ≤ p .w
+    light₀ =
+        light-low (p .m) (p .w) (x₀ i₀) (lowQ i₀) (PSum p key (shares q₀)) (length-x₀ i₀) (short i₀) (length-lowQ i₀) (length-PSum i₀) (z₀ i₀ l)
+        rs different enough (each-map twice rs met)
+      where
+        twice : (r : Point) → MeetsTwice p qs l r → Twice (defect₀ i₀ r) (z₀ i₀ l)
+        twice r m = record {
+          ε = m .ε;
+          ε′ = m .ε′;
+          unequal = m .unequal;
+          product = relation-met i₀ (m .in-list) l position r (m .ε) (m .meets);
+          product′ = relation-met i₀ (m .in-list′) l position r (m .ε′) (m .meets′);
+        }
+
+    one-x : OneX hash p key qs work out
+    one-x = record {
+      x = x₀ i₀;
+      extracted = λ q i. pair-given hash hash-length p key m1 qs under free i work out work-length out-length .0;
+      same = λ q i.
+          unfold xOfPair x₀ pairShares in
+          xSum-ext p key (shares q) (shares q₀) (one-share hash hash-length p key m1 qs under free work out work-length out-length i i₀);
+      light = light₀;
+    }
+
+    one-light-x : ((s : List ℕ) (n : ℕ) → Bytes (hash s n)) → Bytes (key .y) → InBytes q₀ → OneLightX hash p key qs work out
+    unfolding one-x
+    one-light-x hash-bytes y-bytes sent = record {
+      x = x₀ i₀;
+      extracted = one-x .extracted;
+      same = one-x .same;
+      light = rw (lowBytes-bytes (x₀ i₀) (bytes-x₀ i₀ hash-bytes y-bytes sent)) at light₀;
+    }
+
+-- ---- the claims
+
+-- there are m + w points, so the list has a pair
+first-pair : (p : Parameters) (qs : List Pair) (l : ℕ) (rs : List Point) → Within p → p .m + p .w ≤ length rs → Each (MeetsTwice p qs l) rs
+    → (q : Pair) × In q qs
+first-pair p qs l [] within n met = absurd (let a = within .m-least in omega arith)
+first-pair p qs l (r ∷ rs) within n met = (met .0 .pair, met .0 .in-list)
+
+pub low-claim : (hash : List ℕ → ℕ → List ℕ) → ((s : List ℕ) (n : ℕ) → length (hash s n) ≡ n)
+    → (p : Parameters) (key : Key) (m1 : List ℕ) (qs : List Pair) (l : ℕ) (rs : List Point) → Within p → Meeting hash p key m1 qs l rs
+    → (work out : List ℕ) → workLength p ≤ length work → length out ≡ outputLength p → OneX hash p key qs work out
+low-claim hash hash-length p key m1 qs l rs within h work out work-length out-length =
+    one-x hash hash-length p key m1 qs (h .under) (h .free) work out work-length out-length l (h .position) rs (h .different) (h .enough) (h .met)
+    (first-pair p qs l rs within (h .enough) (h .met) .1)
+
+pub weight-claim : (hash : List ℕ → ℕ → List ℕ) → ((s : List ℕ) (n : ℕ) → length (hash s n) ≡ n) → ((s : List ℕ) (n : ℕ) → Bytes (hash s n))
+    → (p : Parameters) (key : Key) (m1 : List ℕ) (qs : List Pair) (l : ℕ) (rs : List Point) → Within p → Meeting hash p key m1 qs l rs
+    → Bytes (key .y) → Each InBytes qs
+    → (work out : List ℕ) → workLength p ≤ length work → length out ≡ outputLength p → OneLightX hash p key qs work out
+weight-claim hash hash-length hash-bytes p key m1 qs l rs within h y-bytes sent work out work-length out-length =
+    let first = first-pair p qs l rs within (h .enough) (h .met) in
+    one-light-x hash hash-length p key m1 qs (h .under) (h .free) work out work-length out-length l (h .position) rs (h .different) (h .enough)
+    (h .met) (first .1) hash-bytes y-bytes (each-in InBytes sent (first .1))

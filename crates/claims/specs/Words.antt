@@ -1,0 +1,135 @@
+-- The words of demand 3, as document 01 explains them ('The words of demand 3'). Key is parameters, matrix and y; commitment is h;
+-- response digest is h'.
+--
+-- Lent p key               matrix and y have the lengths that document 01 gives them
+-- Sent p t                 messages 1, 2, 3 and 5 have theirs, and message 4 is below n
+-- Comparable               two openings 'that are accepted under the same key, salt, commitment, points, multipliers and response digest
+--                          and hide different leaves'; 'Accepted: what Parties says, for this key and these messages'
+-- leafState, auxState      'A leaf's state: its seed and rho, and for leaf n−1 also aux', as the extractor's output holds them
+-- leafShare                'its shares follow by layer 3 and aux'
+-- leafX                    'A leaf's x is its x_A followed by H'x_A'
+-- summed size f n          a sum of n lists: 'Sums run over all n leaves'
+-- xSum, QSum               'y is then added once to x_B, the leading 1 once to Q'
+-- PSum, aSum, bSum, cSum   the sums of P, a, b and c
+-- Witness                  'satisfy Hx = y and ε(SQ − PF)(r) = c − ab at each position': 'S interpolates the summed x, F stands above,
+--                          Hx is H'x_A + x_B'
+-- At layer number ps       the layer and number stand in the list
+-- Clash                    the two strings at a layer and number are unequal and 'hashed to one digest', and no two before them in the order of
+--                          comparison are unequal: 'The first unequal pair is the answer'
+-- States                   the output is every leaf's state: what the openings disclose, and what their commitments are made of
+use mathlib.Core.Path.{_≡_}
+use mathlib.Core.List.{List, [], _∷_, _++_}
+use Prim.Native.Nat.{ℕ, zero, suc, _+_, _-_, _*_, _<_}
+use lib.ListN.{length, take, drop, replicate}
+use Rattle.lists.specs.Sum.{xorList}
+use Rattle.points.specs.Field.{Point}
+use Rattle.parameters.specs.declared.Parameters.{Parameters}
+use Rattle.parameters.specs.Limits.{Within}
+use Rattle.polynomial.specs.Interpolant.{interpolantOf}
+use Rattle.exchange.specs.Layout.{leaves, atQ, message2Length, message5Length}
+use Rattle.exchange.specs.Reading.{bytesAt, value, _⊞_, _⊠_}
+use Rattle.exchange.specs.Leaf.{share, commitment}
+use Rattle.exchange.specs.Values.{Key, xAOf, POf, aOf, bOf, cOf, pointOf, multiplierOf, imageOf, F}
+use Rattle.exchange.specs.Parties.{sums}
+use Rattle.exchange.specs.Opening.{Exchange, auxOf, openedState, leafCommitment}
+use Rattle.exchange.specs.Opening.Laws.{Accepted}
+use Rattle.exchange.specs.Extractor.{compared, stringAt}
+use Rattle.extractor.specs.Call.{Transcript, exchangeOf}
+
+-- ---- two openings
+
+pub record Lent (p : Parameters) (key : Key) : Type 0 where
+  pub matrix : length (key .matrix) ≡ (p .m - p .k) * p .k
+  pub y : length (key .y) ≡ p .m - p .k
+
+pub record Sent (p : Parameters) (t : Transcript) : Type 0 where
+  pub message1 : length (t .message1) ≡ 64
+  pub message2 : length (t .message2) ≡ message2Length p
+  pub message3 : length (t .message3) ≡ 32
+  pub leaf : t .leaf < leaves p
+  pub message5 : length (t .message5) ≡ message5Length p (t .leaf)
+
+pub record Comparable (hash : List ℕ → ℕ → List ℕ) (p : Parameters) (key : Key) (t t′ : Transcript) : Type 0 where
+  pub within : Within p
+  pub lent : Lent p key
+  pub sent : Sent p t
+  pub sent′ : Sent p t′
+  pub salt-and-h : t .message1 ≡ t′ .message1
+  pub points-and-multipliers : t .message2 ≡ t′ .message2
+  pub response : t .message3 ≡ t′ .message3
+  pub hidden : t .leaf ≡ t′ .leaf → ⊥
+  pub accepted : Accepted hash p (exchangeOf t) key
+  pub accepted′ : Accepted hash p (exchangeOf t′) key
+
+-- ---- the states in an output, and what follows from them
+
+unfoldable pub leafState : List ℕ → ℕ → List ℕ
+leafState out i = take 32 (drop (32 * i) out)
+
+unfoldable pub auxState : Parameters → List ℕ → List ℕ
+auxState p out = drop (32 * leaves p) out
+
+unfoldable pub leafShare : (List ℕ → ℕ → List ℕ) → Parameters → List ℕ → List ℕ → ℕ → List ℕ
+leafShare hash p salt out i = share hash p salt i (leafState out i) (auxState p out)
+
+unfoldable pub leafX : Parameters → Key → List ℕ → List ℕ
+leafX p key s = xAOf p s ++ imageOf p key (xAOf p s)
+
+unfoldable pub summed : ℕ → (ℕ → List ℕ) → ℕ → List ℕ
+summed size f zero = replicate size 0
+summed size f (suc n) = xorList (summed size f n) (f n)
+
+-- ---- the sums over all leaves, s i being the share of leaf i
+
+module _ (p : Parameters) (key : Key) (s : ℕ → List ℕ) where
+  -- with no y yet
+  abbrev pub plainX : List ℕ
+  plainX = summed (p .m) (λ i. leafX p key (s i)) (leaves p)
+
+  unfoldable pub xSum : List ℕ
+  xSum = take (p .k) plainX ++ xorList (drop (p .k) plainX) (key .y)
+
+  unfoldable pub QSum : List ℕ
+  QSum = summed (p .w) (λ i. bytesAt (s i) (atQ p) (p .w)) (leaves p) ++ (1 ∷ [])
+
+  unfoldable pub PSum : List ℕ
+  PSum = summed (p .w) (λ i. POf p (s i)) (leaves p)
+
+  unfoldable pub aSum : ℕ → Point
+  aSum l = sums (λ i. aOf p (s i) l) (leaves p)
+
+  unfoldable pub bSum : ℕ → Point
+  bSum l = sums (λ i. bOf p (s i) l) (leaves p)
+
+  unfoldable pub cSum : ℕ → Point
+  cSum l = sums (λ i. cOf p (s i) l) (leaves p)
+
+  pub record Witness (m2 : List ℕ) : Type 0 where
+    pub syndrome : xorList (imageOf p key (take (p .k) xSum)) (drop (p .k) xSum) ≡ key .y
+    pub relation : (l : ℕ) → l < p .t → multiplierOf p m2 l
+        ⊠ (value (interpolantOf xSum) (pointOf p m2 l) ⊠ value QSum (pointOf p m2 l) ⊞ value PSum (pointOf p m2 l) ⊠ value (F p) (pointOf p m2 l))
+        ≡ cSum l ⊞ aSum l ⊠ bSum l
+
+-- ---- what the extractor gives
+
+pub data At (layer number : ℕ) : List (ℕ × ℕ) → Type 0 where
+  here : {ps : List (ℕ × ℕ)} → At layer number ((layer, number) ∷ ps)
+  later : {q : ℕ × ℕ} {ps : List (ℕ × ℕ)} → At layer number ps → At layer number (q ∷ ps)
+
+module _ (hash : List ℕ → ℕ → List ℕ) (p : Parameters) (key : Key) (e e′ : Exchange) where
+  pub record Clash (layer number : ℕ) : Type 0 where
+    pub earlier : List (ℕ × ℕ)
+    pub later : List (ℕ × ℕ)
+    pub is-compared : compared p e e′ ≡ earlier ++ ((layer, number) ∷ later)
+    pub first : (l n : ℕ) → At l n earlier → stringAt hash p key e l n ≡ stringAt hash p key e′ l n
+    pub unequal : stringAt hash p key e layer number ≡ stringAt hash p key e′ layer number → ⊥
+    pub one-digest : hash (stringAt hash p key e layer number) 32 ≡ hash (stringAt hash p key e′ layer number) 32
+
+  pub record States (out : List ℕ) : Type 0 where
+    pub opened : (i : ℕ) → i < leaves p → (i ≡ e .leaf → ⊥) → leafState out i ≡ openedState hash p e i
+    pub opened′ : (i : ℕ) → i < leaves p → (i ≡ e′ .leaf → ⊥) → leafState out i ≡ openedState hash p e′ i
+    pub aux : (leaves p - 1 ≡ e .leaf → ⊥) → auxState p out ≡ auxOf p e
+    pub aux′ : (leaves p - 1 ≡ e′ .leaf → ⊥) → auxState p out ≡ auxOf p e′
+    pub commitments : (i : ℕ) → i < leaves p → commitment hash p (e .prefix) i (leafState out i) (auxState p out) ≡ leafCommitment hash p e i
+    pub commitments′ : (i : ℕ) → i < leaves p → commitment hash p (e .prefix) i (leafState out i) (auxState p out) ≡ leafCommitment hash p e′ i
+    pub witness : Witness p key (leafShare hash p (e .prefix) out) (e .message2)
