@@ -1,0 +1,184 @@
+//! The extractor: what it makes of two openings, honest ones and, under a weakened hash, unequal ones with one digest.
+
+use crate::antt::{list, parameters, public_key, transcript, Module};
+use crate::sample::{changed, Part, Sample, OUTPUT, WORK};
+use reference::extractor::Answer;
+use reference::sampling::calls::{ExtractorCall, LentBytes};
+use reference::sampling::exchanges::{extraction, Exchange};
+use reference::stand_in::{under, Weakness};
+
+const USES: [(&str, &[&str]); 3] = [
+    ("Rattle.exchange.specs.Extractor", &["extract"]),
+    ("Rattle.extractor.specs.Call", &["Transcript", "exchangeOf", "Outcome", "extraction"]),
+    ("Rattle.trial.specs.Definitions", &["definitions", "findingLists", "extractionNumbers"]),
+];
+
+/// The hash of a weakness.
+fn hash(weakness: Weakness) -> String {
+    match weakness {
+        Weakness::Nothing => "standIn".into(),
+        Weakness::Layer(layer) => format!("(weak {layer})"),
+        Weakness::Leaves => "weakLeaves".into(),
+    }
+}
+
+/// The messages of an exchange by a name: the one that they have, or this one.
+fn named(module: &mut Module, name: &str, exchange: &Exchange) -> String {
+    let term = transcript(exchange);
+    if module.name_of(&term).is_none() {
+        module.value(name, "Transcript", &term);
+    }
+    module.argument(&term)
+}
+
+/// Two exchanges under one key, and the weakness of the hash that they are made with.
+struct Pair<'a> {
+    weakness: Weakness,
+    sample: &'a Sample,
+    first: Exchange,
+    second: Exchange,
+}
+
+impl<'a> Pair<'a> {
+    /// Honest exchanges that hide these leaves, with these parts of their messages 5 changed.
+    fn new(weakness: Weakness, sample: &'a Sample, leaves: [usize; 2], parts: [Option<Part>; 2]) -> Pair<'a> {
+        let set = sample.key.parameters;
+        let [first, second] = [0, 1].map(|i| {
+            let honest = under(weakness, || sample.exchange(leaves[i]));
+            parts[i].map_or(honest.clone(), |part| changed(&set, &honest, part))
+        });
+        Pair { weakness, sample, first, second }
+    }
+
+    /// States what `extract` finds.
+    fn finding(&self, module: &mut Module, name: &str) {
+        let Sample { key, .. } = self.sample;
+        let (answer, output) =
+            under(self.weakness, || extraction(&key.parameters, key.public(), &self.first, &self.second));
+        let found = match answer {
+            Answer::Refused(number) => panic!("{name} is refused with {number}"),
+            Answer::Unequal { layer, number } => format!("({layer} ∷ {number} ∷ []) ∷ []"),
+            Answer::Extracted { axis } => format!("({axis} ∷ []) ∷ {} ∷ []", list(&output)),
+        };
+        let hash = hash(self.weakness);
+        let first = named(module, &format!("{name}A"), &self.first);
+        let second = named(module, &format!("{name}B"), &self.second);
+        let computed = format!("findingLists (extract {hash} p key (exchangeOf {first}) (exchangeOf {second}))");
+        module.fact(&format!("{name}-found"), &computed, &found);
+    }
+
+    /// The extractor's call, with a work area longer than its named length.
+    fn call(&self) -> ExtractorCall {
+        let Sample { key, .. } = self.sample;
+        let work = vec![WORK; key.parameters.work_bytes() + 2];
+        let lent = LentBytes { matrix: key.matrix.clone(), y: key.y.clone(), work };
+        let output = vec![OUTPUT; key.parameters.extractor_bytes()];
+        ExtractorCall {
+            parameters: key.parameters,
+            first: self.first.clone(),
+            second: self.second.clone(),
+            lent,
+            output,
+        }
+    }
+}
+
+/// Names a call, and states what it answers and leaves in output and work area.
+fn call_fact(module: &mut Module, name: &str, weakness: Weakness, call: &ExtractorCall) {
+    let (answer, work, output) = under(weakness, || call.make());
+    let numbers = match answer {
+        Answer::Refused(number) => format!("{number} ∷ []"),
+        Answer::Unequal { layer, number } => format!("0 ∷ {layer} ∷ {number} ∷ []"),
+        Answer::Extracted { axis } => format!("0 ∷ {axis} ∷ []"),
+    };
+    let lent = &call.lent;
+    let first = named(module, &format!("{name}A"), &call.first);
+    let second = named(module, &format!("{name}B"), &call.second);
+    let set = module.argument(&parameters(&call.parameters));
+    let key = module.argument(&public_key(&lent.matrix, &lent.y));
+    let (lent_work, lent_output) = (module.list(&lent.work), module.list(&call.output));
+    let hash = hash(weakness);
+    let term = format!("extraction {hash} {set} {first} {second} {key} {lent_work} {lent_output}");
+    module.value(name, "Outcome", &term);
+    let computed = format!("extractionNumbers ({name} .answer) ∷ {name} .out ∷ {name} .work ∷ []");
+    let expected = format!("({numbers}) ∷ {} ∷ {} ∷ []", list(&output), list(&work));
+    module.fact(&format!("{name}-gives"), &computed, &expected);
+}
+
+fn findings_module(name: &'static str, title: &str, sample: &Sample) -> Module {
+    let comment = [
+        title,
+        "",
+        "p, key       parameters, matrix and y",
+        "..A, ..B     the messages of two exchanges, accepted under the hash named in the fact",
+        "..-found     what the extractor finds in them: layer and number; or the axis, then the output",
+    ];
+    let mut module = Module::new(name, &comment, &USES);
+    module.key(&sample.key);
+    module
+}
+
+/// What the extractor finds: the states, and an unequal pair at layers 6, 5 and 4.
+pub fn findings(one_axis: &Sample, two_axes: &Sample) -> [Module; 2] {
+    let changed_second = |part| [None, Some(part)];
+    let mut one = findings_module("OneAxisFindings", "The extractor at D 1.", one_axis);
+    let commitments = Pair::new(Weakness::Layer(5), one_axis, [0, 1], changed_second(Part::Commitment));
+    commitments.finding(&mut one, "commitments");
+
+    let mut two = findings_module("TwoAxesFindings", "The extractor at D 2.", two_axes);
+    // Leaves 1 and 3 are of one party on axis 1: the same change of α changes its string in the same way.
+    let axes = Pair::new(Weakness::Layer(6), two_axes, [1, 3], [Some(Part::Alpha); 2]);
+    let leaves = Pair::new(Weakness::Leaves, two_axes, [0, 3], changed_second(Part::Sibling(1)));
+    Pair::new(Weakness::Nothing, two_axes, [1, 3], [None; 2]).finding(&mut two, "states");
+    axes.finding(&mut two, "axes");
+    leaves.finding(&mut two, "leaves");
+    [one, two]
+}
+
+/// The calls that are refused, each with two faults, of which the one that comes first in the order counts.
+fn refused(honest: &ExtractorCall) -> Vec<(&'static str, ExtractorCall)> {
+    let set = honest.parameters;
+    let beyond = |call: &mut ExtractorCall| call.first.leaf = set.leaves() as u8;
+    let multiplier = |call: &mut ExtractorCall| call.second.message_2[7] ^= 1;
+    let same_leaf = |call: &mut ExtractorCall| call.second = call.first.clone();
+    let commitment = |call: &mut ExtractorCall| call.first = changed(&set, &call.first, Part::Commitment);
+    let with = |changes: [&dyn Fn(&mut ExtractorCall); 2]| {
+        let mut call = honest.clone();
+        changes.iter().for_each(|change| change(&mut call));
+        call
+    };
+    vec![
+        ("parameterOutside", with([&|call| call.parameters.k = set.m, &beyond])),
+        ("workAreaShort", with([&|call| call.lent.work.truncate(set.work_bytes() - 1), &beyond])),
+        ("outputLong", with([&|call| call.output.push(OUTPUT), &multiplier])),
+        ("leafBeyond", with([&beyond, &multiplier])),
+        ("multiplierDiffers", with([&same_leaf, &multiplier])),
+        ("sameLeaf", with([&commitment, &same_leaf])),
+        ("commitmentDiffers", with([&commitment, &|call| call.second = changed(&set, &call.second, Part::Alpha)])),
+    ]
+}
+
+/// The extractor's call: refused, answering the states, and answering an unequal pair at layer 7.
+pub fn calls(sample: &Sample) -> Module {
+    let comment = [
+        "The extractor's call.",
+        "",
+        "p, key, work, out     parameters, matrix and y, work area and output as lent",
+        "..A, ..B              the messages of two exchanges",
+        "honest, ..            the calls, with all that they are lent",
+        "..-gives              what the call answers: a refusal's number; or 0, layer and number; or 0 and the axis;",
+        "                      then output and work area",
+    ];
+    let mut module = Module::new("ExtractorCalls", &comment, &USES);
+    let honest = Pair::new(Weakness::Nothing, sample, [0, 1], [None; 2]).call();
+    let response = Pair::new(Weakness::Layer(7), sample, [0, 1], [None, Some(Part::Alpha)]).call();
+    module.key(&sample.key);
+    module.bytes("work", &honest.lent.work);
+    module.bytes("out", &honest.output);
+    call_fact(&mut module, "honest", Weakness::Nothing, &honest);
+    for (name, call) in refused(&honest) {
+        call_fact(&mut module, name, Weakness::Nothing, &call);
+    }
+    call_fact(&mut module, "response", Weakness::Layer(7), &response);
+    module
+}

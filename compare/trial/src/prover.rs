@@ -1,0 +1,154 @@
+//! The prover's session: one call after another on one session, carried out and refused.
+
+use crate::antt::{list, parameters, public_key, Module};
+use crate::sample::{Sample, OUTPUT, WORK};
+use reference::parameters::Parameters;
+use reference::prover::Prover;
+use reference::sampling::calls::{LentBytes, ProverCall, ProverInput};
+
+const USES: [(&str, &[&str]); 2] = [
+    ("Rattle.prover.specs.Session", &["Outcome", "fresh", "begin", "points", "leaf"]),
+    ("Rattle.trial.specs.Definitions", &["definitions"]),
+];
+
+/// A session and the calls made on it so far.
+struct Script<'a> {
+    module: Module,
+    sample: &'a Sample,
+    session: Prover,
+    made: usize,
+}
+
+impl Script<'_> {
+    /// Makes a call and states what it gives.
+    fn make(&mut self, label: &str, call: &ProverCall) {
+        let effect = call.make(&mut self.session);
+        let before = if self.made == 0 { "fresh".into() } else { format!("(call{} .prover)", self.made) };
+        self.made += 1;
+        let name = format!("call{}", self.made);
+        let term = self.term(call, &before);
+        self.module.comment(&format!("{name}: {label}"));
+        self.module.value(&name, "Outcome", &term);
+        let expected = format!("({} ∷ []) ∷ {} ∷ {} ∷ []", effect.number, list(&effect.output), list(&effect.work));
+        let computed = format!("(answerNumber ({name} .answer) ∷ []) ∷ {name} .out ∷ {name} .work ∷ []");
+        self.module.fact(&format!("{name}-gives"), &computed, &expected);
+    }
+
+    /// The call on a session.
+    fn term(&self, call: &ProverCall, session: &str) -> String {
+        let module = &self.module;
+        let key = module.argument(&public_key(&call.lent.matrix, &call.lent.y));
+        let lent = format!("{key} {} {}", module.list(&call.lent.work), module.list(&call.output));
+        match &call.input {
+            ProverInput::Begin { parameters: set, x_a, salt, root } => {
+                let set = module.argument(&parameters(set));
+                let inputs = [x_a, salt, root].map(|input| module.list(input)).join(" ");
+                format!("begin standIn {session} {set} {inputs} {lent}")
+            }
+            ProverInput::Points { message_2 } => {
+                format!("points standIn {session} {} {lent}", module.list(message_2))
+            }
+            ProverInput::Leaf { leaf } => format!("leaf standIn {session} {leaf} {lent}"),
+        }
+    }
+
+    fn call(&self, input: ProverInput, output: usize) -> ProverCall {
+        let key = &self.sample.key;
+        let work = vec![WORK; key.parameters.work_bytes() + 2];
+        let lent = LentBytes { matrix: key.matrix.clone(), y: key.y.clone(), work };
+        ProverCall { input, lent, output: vec![OUTPUT; output] }
+    }
+
+    /// Begin with a root whose first byte has this added.
+    fn begin(&self, other: u8) -> ProverCall {
+        let Sample { key, start } = self.sample;
+        let mut root = start.root;
+        root[0] ^= other;
+        let input = ProverInput::Begin {
+            parameters: key.parameters,
+            x_a: key.x_a.clone(),
+            salt: start.salt.to_vec(),
+            root: root.to_vec(),
+        };
+        self.call(input, Parameters::MESSAGE_1_BYTES)
+    }
+
+    fn points(&self) -> ProverCall {
+        let input = ProverInput::Points { message_2: self.sample.start.message_2.clone() };
+        self.call(input, Parameters::MESSAGE_3_BYTES)
+    }
+
+    fn leaf(&self, leaf: usize) -> ProverCall {
+        let length = self.sample.key.parameters.message_5_bytes(leaf);
+        self.call(ProverInput::Leaf { leaf: leaf as u8 }, length)
+    }
+}
+
+/// A begin with other parameters or another x_A.
+fn changed_begin(begin: &ProverCall, change: impl Fn(&mut Parameters, &mut Vec<u8>)) -> ProverCall {
+    let mut call = begin.clone();
+    let ProverInput::Begin { parameters, x_a, .. } = &mut call.input else { unreachable!() };
+    change(parameters, x_a);
+    call
+}
+
+/// A call with an output that is a byte too long.
+fn long_output(mut call: ProverCall) -> ProverCall {
+    call.output.push(OUTPUT);
+    call
+}
+
+/// The calls in their order: every number that a prover's call can answer, and a second exchange. Where a call has two
+/// faults, the one that comes first in the order counts.
+fn script_calls(script: &Script) -> Vec<(&'static str, ProverCall)> {
+    let set = script.sample.key.parameters;
+    let begin = script.begin(0);
+    let overweight = changed_begin(&begin, |_, x_a| x_a[0] ^= 1);
+    let mut short_work = overweight.clone();
+    short_work.lent.work.truncate(set.work_bytes() - 1);
+    let mut short_opening = script.leaf(set.leaves());
+    short_opening.output.truncate(set.message_5_bytes(set.last_leaf()));
+    vec![
+        ("points before the first begin, the output a byte long", long_output(script.points())),
+        ("begin with k = m", changed_begin(&begin, |set, _| set.k = set.m)),
+        ("begin, x overweight, the work area a byte short", short_work),
+        ("begin", begin.clone()),
+        ("begin with the salt and root held, x overweight", overweight),
+        ("begin with the salt and root held", begin.clone()),
+        ("leaf before points, the output a byte long", long_output(script.leaf(0))),
+        ("points, the output a byte long", long_output(script.points())),
+        ("points", script.points()),
+        ("points again", script.points()),
+        ("leaf n, the output as short as for leaf n−1", short_opening),
+        ("leaf n", script.leaf(set.leaves())),
+        ("leaf 0", script.leaf(0)),
+        ("leaf n once closed", script.leaf(set.leaves())),
+        ("points once closed", script.points()),
+        ("begin with the salt and root held, once closed", begin),
+        ("begin with another root", script.begin(1)),
+    ]
+}
+
+/// The prover's calls on one session.
+pub fn calls(sample: &Sample) -> Module {
+    let comment = [
+        "The prover's calls, each made on the session that the call before it left; the first on a fresh one.",
+        "",
+        "p, key, xA, salt, root, m2     parameters, matrix and y, x_A, salt, root and message 2",
+        "work                           a work area, longer than its named length",
+        "call1, call2, ..               the calls, with all that they are lent",
+        "call1-gives, ..                the number that the call answers, then output and work area",
+    ];
+    let mut module = Module::new("ProverCalls", &comment, &USES);
+    module.key(&sample.key);
+    module.bytes("xA", &sample.key.x_a);
+    module.bytes("salt", &sample.start.salt);
+    module.bytes("root", &sample.start.root);
+    module.bytes("m2", &sample.start.message_2);
+    module.bytes("work", &vec![WORK; sample.key.parameters.work_bytes() + 2]);
+    let mut script = Script { module, sample, session: Prover::default(), made: 0 };
+    for (label, call) in script_calls(&script) {
+        script.make(label, &call);
+    }
+    script.module
+}

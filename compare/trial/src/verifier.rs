@@ -1,0 +1,151 @@
+//! The verifier's session: one call after another on one session, carried out and refused.
+
+use crate::antt::{list, parameters, public_key, Module};
+use crate::sample::{changed, Part, Sample, WORK};
+use reference::parameters::Parameters;
+use reference::sampling::calls::{LentBytes, VerifierCall};
+use reference::sampling::exchanges::Exchange;
+use reference::verifier::Verifier;
+
+const USES: [(&str, &[&str]); 2] = [
+    (
+        "Rattle.verifier.specs.Session",
+        &["Outcome", "Judged", "fresh", "begin", "points", "response", "leaf", "opening"],
+    ),
+    ("Rattle.trial.specs.Definitions", &["definitions"]),
+];
+
+/// A session and the calls made on it so far.
+struct Script {
+    module: Module,
+    session: Verifier,
+    made: usize,
+}
+
+impl Script {
+    /// The call on a session.
+    fn term(&self, call: &VerifierCall, session: &str) -> String {
+        let module = &self.module;
+        match call {
+            VerifierCall::Begin { parameters: set, message_1 } => {
+                format!("begin {session} {} {}", module.argument(&parameters(set)), module.list(message_1))
+            }
+            VerifierCall::Points { message_2 } => format!("points {session} {}", module.list(message_2)),
+            VerifierCall::Response { message_3 } => format!("response {session} {}", module.list(message_3)),
+            VerifierCall::Leaf { leaf } => format!("leaf {session} {leaf}"),
+            VerifierCall::Opening { message_5, lent } => {
+                let key = module.argument(&public_key(&lent.matrix, &lent.y));
+                format!("opening standIn {session} {} {key} {}", module.list(message_5), module.list(&lent.work))
+            }
+        }
+    }
+
+    /// Makes a call and states what it gives.
+    fn make(&mut self, label: &str, call: &VerifierCall) {
+        let effect = call.make(&mut self.session);
+        let before = if self.made == 0 { "fresh".into() } else { format!("(call{} .verifier)", self.made) };
+        self.made += 1;
+        let name = format!("call{}", self.made);
+        let term = self.term(call, &before);
+        let kind = if matches!(call, VerifierCall::Opening { .. }) { "Judged" } else { "Outcome" };
+        self.module.comment(&format!("{name}: {label}"));
+        self.module.value(&name, kind, &term);
+        let number = effect.number;
+        let fact = format!("{name}-gives");
+        if kind == "Judged" {
+            let expected = format!("({number} ∷ []) ∷ {} ∷ []", list(&effect.work));
+            let computed = format!("(answerNumber ({name} .answer) ∷ []) ∷ {name} .work ∷ []");
+            self.module.fact(&fact, &computed, &expected);
+        } else {
+            self.module.fact(&fact, &format!("answerNumber ({name} .answer)"), &number.to_string());
+        }
+    }
+
+    /// Makes the five calls of an exchange.
+    fn exchange(&mut self, sample: &Sample, label: &str, exchange: &Exchange) {
+        let names = ["begin", "points", "response", "leaf", "opening"];
+        for (name, call) in names.into_iter().zip(five_calls(sample, exchange)) {
+            self.make(&format!("{name}; {label}"), &call);
+        }
+    }
+}
+
+/// What the opening is lent: a work area longer than its named length.
+fn lent(sample: &Sample) -> LentBytes {
+    let work = vec![WORK; sample.key.parameters.work_bytes() + 2];
+    LentBytes { matrix: sample.key.matrix.clone(), y: sample.key.y.clone(), work }
+}
+
+/// The five calls of an exchange.
+fn five_calls(sample: &Sample, exchange: &Exchange) -> [VerifierCall; 5] {
+    [
+        VerifierCall::Begin { parameters: sample.key.parameters, message_1: exchange.message_1.clone() },
+        VerifierCall::Points { message_2: exchange.message_2.clone() },
+        VerifierCall::Response { message_3: exchange.message_3.clone() },
+        VerifierCall::Leaf { leaf: exchange.leaf },
+        VerifierCall::Opening { message_5: exchange.message_5.clone(), lent: lent(sample) },
+    ]
+}
+
+/// A message without its last byte.
+fn short(message: &[u8]) -> Vec<u8> {
+    message[..message.len() - 1].to_vec()
+}
+
+/// The calls of the first exchange, accepted, and refusals on the way. Where a call has two faults, the one that comes
+/// first in the order counts.
+fn first_calls(sample: &Sample, honest: &Exchange) -> Vec<(&'static str, VerifierCall)> {
+    let set = sample.key.parameters;
+    let short_begin = |parameters| VerifierCall::Begin { parameters, message_1: short(&honest.message_1) };
+    let short_response = VerifierCall::Response { message_3: short(&honest.message_3) };
+    let short_opening = VerifierCall::Opening { message_5: short(&honest.message_5), lent: lent(sample) };
+    let leaf_beyond = VerifierCall::Leaf { leaf: set.leaves() as u8 };
+    let [begin, points, response, leaf, opening] = five_calls(sample, honest);
+    vec![
+        ("leaf n before the first begin", leaf_beyond.clone()),
+        ("begin with t 9, message 1 a byte short", short_begin(Parameters { t: 9, ..set })),
+        ("begin, message 1 a byte short", short_begin(set)),
+        ("begin", begin),
+        ("response before points, message 3 a byte short", short_response.clone()),
+        ("points, message 2 a byte short", VerifierCall::Points { message_2: short(&honest.message_2) }),
+        ("points", points),
+        ("response, message 3 a byte short", short_response),
+        ("response", response),
+        ("leaf n", leaf_beyond.clone()),
+        ("leaf 0", leaf),
+        ("opening, message 5 a byte short", short_opening.clone()),
+        ("opening", opening),
+        ("opening once closed, message 5 a byte short", short_opening),
+        ("leaf n once closed", leaf_beyond),
+    ]
+}
+
+/// The verifier's calls on one session: three exchanges, the first accepted, the others refused with 5 and 7.
+pub fn calls(sample: &Sample) -> Module {
+    let set = sample.key.parameters;
+    let comment = [
+        "The verifier's calls, each made on the session that the call before it left; the first on a fresh one.",
+        "",
+        "p, key, m1, m2, m3, m5     parameters, matrix and y, the messages of an honest exchange",
+        "work                       a work area, longer than its named length",
+        "call1, call2, ..           the calls, with all that they are lent",
+        "call1-gives, ..            the number that the call answers; of an opening, then the work area",
+    ];
+    let honest = sample.exchange(0);
+    let mut module = Module::new("VerifierCalls", &comment, &USES);
+    module.key(&sample.key);
+    module.bytes("m1", &honest.message_1);
+    module.bytes("m2", &honest.message_2);
+    module.bytes("m3", &honest.message_3);
+    module.bytes("m5", &honest.message_5);
+    module.bytes("work", &lent(sample).work);
+    let mut script = Script { module, session: Verifier::default(), made: 0 };
+    for (label, call) in first_calls(sample, &honest) {
+        script.make(label, &call);
+    }
+    let mut response_changed = sample.exchange(set.last_leaf());
+    response_changed.message_3[31] ^= 0x80;
+    script.exchange(sample, "the commitment changed", &changed(&set, &honest, Part::Commitment));
+    script.exchange(sample, "leaf n−1 hidden, message 3 changed", &response_changed);
+    script.module
+}

@@ -1,0 +1,1 @@
+// Theory only: the computed trials of the definitions are in specs/.

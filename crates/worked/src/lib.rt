@@ -1,0 +1,1 @@
+// Theory only: the marked cases are in specs/.
