@@ -1,0 +1,37 @@
+-- What the functions ask of their slices and numbers.
+--
+-- LeafOf p i           parameters within their limits, a leaf's number of one byte
+-- State i s            a leaf's number of one byte, and room for its state
+-- ShareBytes i st      a leaf's number of one byte, and a state that begins with its seed
+-- Share p i st aux s   a leaf's state and aux where it is leaf n−1, and room for its share
+-- Commitment p i s     a leaf, and room for its commitment
+use mathlib.Core.Path.{_≡_}
+use mathlib.Core.Bool.{true}
+use mathlib.Core.List.{List}
+use Prim.Native.Nat.{ℕ, _≤_, _<_}
+use lib.ListN.{length}
+use Rattle.parameters.specs.declared.Parameters.{Parameters}
+use Rattle.parameters.specs.Limits.{Within}
+use Rattle.exchange.specs.Layout.{isLast, auxLength, shareLength}
+
+pub record LeafOf (p : Parameters) (i : ℕ) : Type 0 where
+  pub within : Within p
+  pub number : i < 256
+
+pub record State (i : ℕ) (s : List ℕ) : Type 0 where
+  pub number : i < 256
+  pub room : length s ≡ 32
+
+pub record ShareBytes (i : ℕ) (st : List ℕ) : Type 0 where
+  pub number : i < 256
+  pub seed : 16 ≤ length st
+
+pub record Commitment (p : Parameters) (i : ℕ) (s : List ℕ) : Type 0 where
+  pub of : LeafOf p i
+  pub room : length s ≡ 32
+
+pub record Share (p : Parameters) (i : ℕ) (st aux s : List ℕ) : Type 0 where
+  pub of : LeafOf p i
+  pub state : length st ≡ 32
+  pub last : isLast p i ≡ true → length aux ≡ auxLength p
+  pub room : length s ≡ shareLength p

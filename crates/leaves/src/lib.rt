@@ -1,0 +1,113 @@
+// Leaves (document 01, layers 2 to 5): state, share and commitment of a leaf, and the digest of all commitments. Each string
+// goes on from the start of its layer, which `strings::begin` makes once for all leaves.
+pub mod commitments;
+
+use lists::put_at;
+use parameters::Parameters;
+use shake256::Sponge;
+use strings::digest;
+ghost use mathlib.Core.Path.{_≡_};
+ghost use mathlib.Core.List.{List, _∷_};
+ghost use Prim.Native.Nat.{ℕ, _<_};
+ghost use lib.ListN.{length, take};
+ghost use Rattle.shake256.specs.Stream.{absorbed};
+ghost use Rattle.shake256.specs.Fips.{SHAKE256};
+ghost use Rattle.parameters.specs.Limits.{Within};
+ghost use Rattle.exchange.specs.Layout as layout;
+ghost use Rattle.exchange.specs.Strings.{string3};
+ghost use Rattle.exchange.specs.Leaf as spec;
+ghost use Rattle.strings.specs.Digest.{begun};
+ghost use Rattle.leaves.specs.Shapes.{State, ShareBytes, Share, Commitment};
+
+// The layer byte of the strings that give a leaf's state.
+pub const STATES: u8 = 2;
+
+// The layer byte of the strings that give a leaf's share.
+pub const SHARES: u8 = 3;
+
+// The layer byte of the strings that give a leaf's commitment.
+pub const COMMITMENTS: u8 = 4;
+
+// The number of leaves.
+pub fn leaf_count(p: Parameters) -> usize
+    requires { ⌜ Within p ⌝ }
+    ensures { λ r. ⌜ r ≡ layout.leaves p ⌝ }
+{
+    1 << p.d
+}
+
+// Is the leaf the last one, whose share ends with aux?
+pub fn is_last(p: Parameters, leaf: usize) -> bool
+    requires { ⌜ Within p ⌝ }
+    ensures { λ r. ⌜ r ≡ layout.isLast p leaf ⌝ }
+{
+    leaf == leaf_count(p) - 1
+}
+
+// The sponge that has absorbed a leaf's number and then s.
+fn absorb_leaf(start: Sponge, leaf: usize, s: &[u8]) -> Sponge
+    requires { ⌜ leaf < 256 ⌝ }
+    ensures { λ r. ⌜ r ≡ absorbed start (leaf ∷ now (s .entry)) ⌝ }
+{
+    let number = [leaf as u8];
+    let numbered = start.absorb(&number);
+    numbered.absorb(s)
+}
+
+// Fills out with the leaf's state, from its node's seed (layer 2).
+pub fn leaf_state(states: Sponge, leaf: usize, seed: &[u8], out: &mut [u8])
+    requires { ⌜ State leaf (now out) ⌝ }
+    ensures { λ _. ⌜ ((prefix : List ℕ) → states ≡ begun 2 prefix → now (out .exit) ≡ spec.state SHAKE256 prefix leaf (now (seed .entry))) ⌝ }
+{
+    digest(absorb_leaf(states, leaf, seed), out);
+}
+
+// Fills out with bytes of layer 3: leaf n−1 takes 8t of them, all others a whole share.
+pub fn share_bytes(shares: Sponge, leaf: usize, state: &[u8], out: &mut [u8])
+    requires { ⌜ ShareBytes leaf (now state) ⌝ }
+    ensures { λ _. ⌜ ((prefix : List ℕ) → shares ≡ begun 3 prefix → now (out .exit) ≡ SHAKE256 (string3 prefix leaf (take 16 (now (state .entry)))) (length (now (out .entry)))) ⌝ }
+{
+    digest(absorb_leaf(shares, leaf, &state[..16]), out);
+}
+
+// Fills out with the leaf's share (layer 3; for leaf n−1 its 8t bytes and then aux).
+pub fn leaf_share(
+    shares: Sponge,
+    p: Parameters,
+    leaf: usize,
+    state: &[u8],
+    aux: &[u8],
+    out: &mut [u8],
+)
+    requires { ⌜ Share p leaf (now state) (now aux) (now out) ⌝ }
+    ensures { λ _. ⌜ ((prefix : List ℕ) → shares ≡ begun 3 prefix → now (out .exit) ≡ spec.share SHAKE256 p prefix leaf (now (state .entry)) (now (aux .entry))) ⌝ }
+{
+    let last = is_last(p, leaf);
+    if last {
+        let own = 8 * p.t;
+        share_bytes(shares, leaf, state, &mut out[..own]);
+        put_at(out, own, aux);
+        return;
+    }
+    share_bytes(shares, leaf, state, out);
+}
+
+// Fills out with the leaf's commitment (layer 4; for leaf n−1 with aux).
+pub fn leaf_commitment(
+    commitments: Sponge,
+    p: Parameters,
+    leaf: usize,
+    state: &[u8],
+    aux: &[u8],
+    out: &mut [u8],
+)
+    requires { ⌜ Commitment p leaf (now out) ⌝ }
+    ensures { λ _. ⌜ ((prefix : List ℕ) → commitments ≡ begun 4 prefix → now (out .exit) ≡ spec.commitment SHAKE256 p prefix leaf (now (state .entry)) (now (aux .entry))) ⌝ }
+{
+    let s = absorb_leaf(commitments, leaf, state);
+    if is_last(p, leaf) {
+        digest(s.absorb(aux), out);
+        return;
+    }
+    digest(s, out);
+}

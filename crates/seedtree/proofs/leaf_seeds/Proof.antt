@@ -1,0 +1,10 @@
+-- The start of layer 1 is made once, and `below` does the rest from the root.
+use borrow.Author.Needs.{needs}
+use Rattle.seedtree.proofs.leaf_seeds.Statement.{statement}
+use Rattle.seedtree.proofs.leaf_seeds.Tie as tie
+
+returns : tie.Need-returns
+returns c = c .before .before .below .ensures _ (c .before .before .before .before .begin .ensures)
+
+pub leaf-seeds-spec : {M : Type 1} → statement M
+leaf-seeds-spec = tie.close (tie.spec (λ c κs. search needs) (λ c κs. search needs) (λ c. search needs) returns)

@@ -1,0 +1,80 @@
+// The seeds below a node, level by level in one buffer.
+use lists::put_at;
+use shake256::Sponge;
+use strings::digest;
+ghost use mathlib.Core.Path.{_≡_};
+ghost use mathlib.Core.List.{List, _++_};
+ghost use Prim.Native.Nat.{ℕ, _<_};
+ghost use lib.ListN.{take};
+ghost use Rattle.shake256.specs.Stream.{absorbed};
+ghost use Rattle.shake256.specs.Fips.{SHAKE256};
+ghost use Rattle.lists.specs.Part.{part, putAt};
+ghost use Rattle.exchange.specs.Strings.{nodeBytes};
+ghost use Rattle.exchange.specs.Tree as tree;
+ghost use Rattle.strings.specs.Digest.{begun};
+ghost use Rattle.seedtree.specs.Laid.{laid};
+ghost use Rattle.seedtree.specs.Levels.{grown};
+ghost use Rattle.seedtree.specs.Shapes.{Expand, Grow, Below, Subtree};
+
+// The two bytes of a node's number, low byte first.
+fn node_bytes(v: usize) -> [u8; 2]
+    requires { ⌜ v < 65536 ⌝ }
+    ensures { λ r. ⌜ r ≡ nodeBytes v ⌝ }
+{
+    [(v % 256) as u8, (v / 256) as u8]
+}
+
+// The sponge that has absorbed the string of node v, from the start of layer 1.
+fn absorb_node(nodes: Sponge, v: usize, seed: &[u8]) -> Sponge
+    requires { ⌜ v < 65536 ⌝ }
+    ensures { λ r. ⌜ r ≡ absorbed nodes (nodeBytes v ++ now (seed .entry)) ⌝ }
+{
+    let number = node_bytes(v);
+    nodes.absorb(&number).absorb(seed)
+}
+
+// The children of the seed at index `from`, that of node v, go to index `to`.
+pub fn expand(nodes: Sponge, v: usize, seeds: &mut [u8], from: usize, to: usize)
+    requires { ⌜ Expand v (now seeds) from to ⌝ }
+    ensures { λ _. ⌜ ((prefix : List ℕ) → nodes ≡ begun 1 prefix → now (seeds .exit) ≡ putAt (now (seeds .entry)) to (tree.children SHAKE256 prefix v (part (now (seeds .entry)) from 16))) ⌝ }
+{
+    let s = absorb_node(nodes, v, &seeds[from..from + 16]);
+    digest(s, &mut seeds[to..to + 32]);
+}
+
+// The first c seeds of the buffer, those of nodes v, v + 1 and so on, become their children, from the last one on.
+fn grow(nodes: Sponge, c: usize, v: usize, seeds: &mut [u8])
+    requires { ⌜ Grow c v (now seeds) ⌝ }
+    ensures { λ _. ⌜ ((prefix : List ℕ) → nodes ≡ begun 1 prefix → now (seeds .exit) ≡ putAt (now (seeds .entry)) 0 (grown SHAKE256 prefix c v (now (seeds .entry)))) ⌝ }
+{
+    let mut j = c;
+    while 0 < j {
+        j -= 1;
+        expand(nodes, v + j, seeds, 16 * j, 32 * j);
+    }
+}
+
+// The seed at the front of the buffer, that of node v, becomes the seeds of the leaves l levels below.
+fn descend(nodes: Sponge, l: usize, v: usize, seeds: &mut [u8])
+    requires { ⌜ Below l v (now seeds) ⌝ }
+    ensures { λ _. ⌜ ((prefix : List ℕ) → nodes ≡ begun 1 prefix → now (seeds .exit) ≡ laid (tree.leafSeeds SHAKE256 prefix l v (take 16 (now (seeds .entry))))) ⌝ }
+{
+    let mut i = 0;
+    let mut count = 1;
+    let mut first = v;
+    while i < l {
+        grow(nodes, count, first, seeds);
+        count = 2 * count;
+        first = 2 * first;
+        i += 1;
+    }
+}
+
+// The seeds of the leaves l levels below node v, from its seed.
+pub fn below(nodes: Sponge, l: usize, v: usize, seed: &[u8], seeds: &mut [u8])
+    requires { ⌜ Subtree l v (now seed) (now seeds) ⌝ }
+    ensures { λ _. ⌜ ((prefix : List ℕ) → nodes ≡ begun 1 prefix → now (seeds .exit) ≡ laid (tree.leafSeeds SHAKE256 prefix l v (now (seed .entry)))) ⌝ }
+{
+    put_at(seeds, 0, seed);
+    descend(nodes, l, v, seeds);
+}
