@@ -1,0 +1,5 @@
+pub mod Folded
+pub mod Weighed
+pub mod Coefficients
+pub mod Asked
+pub mod Loops

@@ -1,0 +1,5 @@
+pub mod Announced
+pub mod Table
+pub mod Filled
+pub mod Asked
+pub mod Shares
