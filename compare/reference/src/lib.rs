@@ -1,5 +1,5 @@
-//! A second implementation of document 01, written from the paper and FIPS 202 alone, with which the proved
-//! library is compared. It favours the plainest form of each definition over speed, and where document 01 allows
+//! A second implementation of document 01, written from the paper, FIPS 202 and the decisions on calls of
+//! docs/DECISIONS.md, with which the proved library is compared. It favours the plainest form of each definition over speed, and where document 01 allows
 //! several ways it takes another one than tables of logarithms, tables of round constants or Newton's slopes.
 //!
 //! Bottom up: fields and polynomials, the key, the strings hashed, leaves and parties, messages, sessions, extractor,
