@@ -25,6 +25,7 @@ pub mod Products
 pub mod Interpolation
 pub mod Linear
 pub mod Quotients
+pub mod Ratios
 pub mod Maps
 
 module _ {K : Type 0} (O : Operations K) where

@@ -4,11 +4,11 @@
 --   tables-test              the rule, computed over both tables: entry i + 1 of the powers is 03 times entry i, and the
 --                            logarithm of i + 1 is below 255 and is the place of i + 1 among the powers
 --   powers-at, logs-at, logs-small     the rule at an entry
---   power-add, -255, -cycle  powers multiply by adding exponents, modulo 255
+--   power-add, -255, -cycle, -mod     powers multiply by adding exponents, modulo 255
 --   log-sum, wrap            what the product by logarithms goes by
 use mathlib.Core.Path.{_≡_, refl, sym, ap, ap₂, _∙_}
 use mathlib.Core.Bool.{Bool}
-use Prim.Native.Nat.{ℕ, zero, suc, _+_, _-_, _*_, _≤_, _<_}
+use Prim.Native.Nat.{ℕ, zero, suc, _+_, _-_, _*_, _/_, _%_, _≤_, _<_}
 use native.Mathlib.Nat.{zero-add, suc-add, le-of-suc-le-suc, le-of-lt}
 use native.Mathlib.Omega.{arith}
 use lib.Dec.{T, eqb, eqb→eq, ltb, ltb→lt, lit<}
@@ -87,6 +87,11 @@ power-cycle (suc i) = ap power step ∙ power-255 (255 * i) ∙ power-cycle i
   where
     step : 255 * suc i ≡ 255 + 255 * i
     step = omega arith
+
+pub power-mod : (s : ℕ) → power (s % 255) ≡ power s
+power-mod s =
+    let e : s ≡ 255 * (s / 255) + s % 255 = omega arith in
+    sym (ap power e ∙ power-add (255 * (s / 255)) (s % 255) ∙ ap (λ (x : ℕ). x ⊗ power (s % 255)) (power-cycle (s / 255)) ∙ one-⊗ (power (s % 255)) (power-lt (s % 255)))
 
 pub log-sum : (a b i j : ℕ) → power i ≡ a → power j ≡ b → power (i + j) ≡ a ⊗ b
 log-sum a b i j p q = power-add i j ∙ ap₂ _⊗_ p q

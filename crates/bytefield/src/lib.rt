@@ -549,7 +549,7 @@ pub fn sum(a: u8, b: u8) -> u8
 }
 
 // 03 to the i.
-fn power_of(i: usize, pow: &[u8; 256]) -> u8
+pub fn power_of(i: usize, pow: &[u8; 256]) -> u8
     requires { ⌜ (now pow ≡ powers) × (i < 256) ⌝ }
     ensures { λ r. ⌜ r ≡ power i ⌝ }
 {
@@ -557,7 +557,7 @@ fn power_of(i: usize, pow: &[u8; 256]) -> u8
 }
 
 // The logarithm of a, which is not 0.
-fn log_of(a: u8, log: &[u8; 256]) -> usize
+pub fn log_of(a: u8, log: &[u8; 256]) -> usize
     requires { ⌜ (now log ≡ logs) × (0 < a) ⌝ }
     ensures { λ r. ⌜ (r < 255) × (power r ≡ a) ⌝ }
 {

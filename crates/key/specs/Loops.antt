@@ -5,10 +5,14 @@
 --   Weight       the nonzero entries counted
 --   Positions    the marks of E made one by one
 --   Locator      Q, a factor for each position of E
---   Quotient     S divided by a factor for each position outside E
+--   Gather       the elements of a list at the positions of E, or at the others, written one after the other
+--   Split        the points of E and then the others
+--   Quotient     values over distances, by sums of logarithms; P from them
 pub mod Image
 pub mod Vector
 pub mod Weight
 pub mod Positions
 pub mod Locator
+pub mod Gather
+pub mod Split
 pub mod Quotient

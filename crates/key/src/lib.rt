@@ -2,19 +2,24 @@
 // The tables of logarithms and powers are made once a call and lent down.
 ghost use mathlib.Core.Path.{_≡_};
 ghost use mathlib.Core.Bool.{true};
+ghost use mathlib.Core.List.{_++_};
 ghost use Prim.Native.Nat.{_+_, _-_, _*_, _<_, _≤_};
-ghost use lib.ListN.{length, drop};
+ghost use lib.ListN.{length, take, drop};
 ghost use lib.Dec.{leb};
 ghost use Rattle.lists.specs.Zeroed.{zeroed};
-ghost use Rattle.algebra.specs.Polynomial.{quotient};
+ghost use Rattle.algebra.specs.Each.{NotIn, Disjoint};
+ghost use Rattle.algebra.specs.Polynomial.{interpolate};
+ghost use Rattle.algebra.specs.Polynomial.Ratios.{distances, ratios};
 ghost use Rattle.bytefield.specs.Tables.{logs, powers};
-ghost use Rattle.bytefield.specs.Product.{byteOps};
-ghost use Rattle.key.specs.Key.{dot, rows, vectorOf, weightOf, locatorOf, quotientOf};
+ghost use Rattle.bytefield.specs.Product.{_⊗_, byteOps};
+ghost use Rattle.bytefield.specs.Powers.{power};
+ghost use Rattle.bytefield.specs.Inverse.{inverse};
+ghost use Rattle.key.specs.Key.{dot, rows, vectorOf, weightOf, positions, locatorOf, quotientOf};
 ghost use Rattle.key.specs.Light.{Light};
-ghost use Rattle.key.specs.Key.Polynomials.{outside};
+ghost use Rattle.key.specs.Key.Polynomials.{inside, outside};
 ghost use Rattle.key.specs.Loops.Positions.{chosen, spared};
 ghost use Rattle.key.specs.Loops.Locator.{rootIf, atIf};
-ghost use Rattle.key.specs.Loops.Quotient.{dividedUnless, atUnless};
+ghost use Rattle.key.specs.Loops.Gather.{wanted, selected, putIf, nextIf};
 
 // The product of the row h with x.
 fn row(h: &[u8], x: &[u8], log: &[u8; 256], pow: &[u8; 256]) -> u8
@@ -146,46 +151,112 @@ pub fn locator(w: usize, x: &[u8], out: &mut [u8], log: &[u8; 256], pow: &[u8; 2
     }
 }
 
-// The polynomial from place at on is divided by X + f, and starts one place higher, unless hit; and its place.
-fn divide_unless(
-    p: &mut [u8],
-    at: usize,
-    f: u8,
-    hit: bool,
-    log: &[u8; 256],
-    pow: &[u8; 256],
-) -> usize
-    requires { ⌜ (at ≤ length (now p)) × (at < 256) × (now log ≡ logs) × (now pow ≡ powers) ⌝ }
-    ensures { λ r. ⌜ (now (p .exit) ≡ dividedUnless hit (now (p .entry)) at f) × (r ≡ atUnless hit at) ⌝ }
+// Does a position count, of which hit says whether it is in E? Those in E do where inside is set, and the others where not.
+fn is_wanted(inside: bool, hit: bool) -> bool
+    ensures { λ r. ⌜ r ≡ wanted inside hit ⌝ }
 {
-    if hit {
-        return at;
+    if inside {
+        return hit;
     }
-    polynomial::divide(&mut p[at..], f, log, pow);
-    at + 1
+    !hit
 }
 
-// s is divided by X + f for each position outside E; what is left are its last w places.
-fn divide_outside(w: usize, x: &[u8], s: &mut [u8], log: &[u8; 256], pow: &[u8; 256])
-    requires { ⌜ Light w (now x) × (length (now s) ≡ length (now x)) × (now log ≡ logs) × (now pow ≡ powers) ⌝ }
-    ensures { λ _. ⌜ drop (length (now (x .entry)) - w) (now (s .exit)) ≡ quotient byteOps (now (s .entry)) (outside w (now (x .entry))) ⌝ }
+// b is written to place at, if hit; and the next place.
+fn put_if(out: &mut [u8], at: usize, b: u8, hit: bool) -> usize
+    requires { ⌜ (hit ≡ true → at < length (now out)) × (at ≤ length (now out)) ⌝ }
+    ensures { λ r. ⌜ (now (out .exit) ≡ putIf hit (now (out .entry)) at b) × (r ≡ nextIf hit at) ⌝ }
+{
+    if hit {
+        out[at] = b;
+        return at + 1;
+    }
+    at
+}
+
+// out becomes the elements of s at the positions of E, or at the others. s has one for each entry of x.
+fn gather(w: usize, x: &[u8], s: &[u8], inside: bool, out: &mut [u8])
+    requires { ⌜ (weightOf (now x) ≤ w) × (length (now s) ≡ length (now x))
+        × (length (now out) ≡ length (selected inside (positions w (now x)) (now s))) ⌝ }
+    ensures { λ _. ⌜ now (out .exit) ≡ selected inside (positions w (now (x .entry))) (now (s .entry)) ⌝ }
 {
     let n = x.len();
     let mut left = to_fill(w, x);
     let mut at = 0;
-    let mut f: u8 = 0;
     let mut i = 0;
     while i < n {
         let b = x[i];
-        f += 1;
-        let hit = is_chosen(b, left);
-        at = divide_unless(s, at, f, hit, log, pow);
+        let hit = is_wanted(inside, is_chosen(b, left));
+        at = put_if(out, at, s[i], hit);
         left = left_after(b, left);
         i += 1;
     }
 }
 
+// out, as long as x, becomes the interpolation points of E and then the others.
+fn split(w: usize, x: &[u8], out: &mut [u8])
+    requires { ⌜ Light w (now x) × (length (now out) ≡ length (now x)) ⌝ }
+    ensures { λ _. ⌜ now (out .exit) ≡ inside w (now (x .entry)) ++ outside w (now (x .entry)) ⌝ }
+{
+    let n = x.len();
+    let fs = polynomial::points();
+    gather(w, x, &fs[..n], true, &mut out[..w]);
+    gather(w, x, &fs[..n], false, &mut out[w..]);
+}
+
+// A logarithm of the product of the distances of f from the points gs, none of which it is.
+fn log_distances(f: u8, gs: &[u8], log: &[u8; 256]) -> usize
+    requires { ⌜ (length (now gs) < 256) × NotIn f (now gs) × (now log ≡ logs) ⌝ }
+    ensures { λ r. ⌜ power r ≡ distances byteOps f (now (gs .entry)) ⌝ }
+{
+    let n = gs.len();
+    let mut s: usize = 0;
+    let mut i = 0;
+    while i < n {
+        s += bytefield::log_of(bytefield::sum(f, gs[i]), log);
+        i += 1;
+    }
+    s
+}
+
+// y over the product of the distances of f from the points gs, none of which it is.
+fn ratio(y: u8, f: u8, gs: &[u8], log: &[u8; 256], pow: &[u8; 256]) -> u8
+    requires { ⌜ (length (now gs) < 256) × NotIn f (now gs) × (now log ≡ logs) × (now pow ≡ powers) ⌝ }
+    ensures { λ r. ⌜ r ≡ y ⊗ inverse (distances byteOps f (now (gs .entry))) ⌝ }
+{
+    if y == 0 {
+        return 0;
+    }
+    let d = bytefield::power_of(log_distances(f, gs, log) % 255, pow);
+    bytefield::product(y, bytefield::inverse(d, log, pow), log, pow)
+}
+
+// Each of the values ys at the points fs is divided by the distances of its point from the points gs.
+fn ratios(fs: &[u8], gs: &[u8], ys: &mut [u8], log: &[u8; 256], pow: &[u8; 256])
+    requires { ⌜ (length (now fs) ≡ length (now ys)) × (length (now gs) < 256) × Disjoint (now fs) (now gs)
+        × (now log ≡ logs) × (now pow ≡ powers) ⌝ }
+    ensures { λ _. ⌜ now (ys .exit) ≡ ratios byteOps inverse (now (gs .entry)) (now (fs .entry)) (now (ys .entry)) ⌝ }
+{
+    let n = ys.len();
+    let mut i = 0;
+    while i < n {
+        ys[i] = ratio(ys[i], fs[i], gs, log, pow);
+        i += 1;
+    }
+}
+
+// The values out at the first w points, each over the distances of its point from the other points, become the polynomial through them.
+fn through_ratios(w: usize, points: &[u8], out: &mut [u8], log: &[u8; 256], pow: &[u8; 256])
+    requires { ⌜ (length (now out) ≡ w) × (w ≤ length (now points)) × (length (now points) < 256)
+        × Disjoint (take w (now points)) (drop w (now points)) × (now log ≡ logs) × (now pow ≡ powers) ⌝ }
+    ensures { λ _. ⌜ now (out .exit) ≡ interpolate byteOps inverse (take w (now (points .entry)))
+        (ratios byteOps inverse (drop w (now (points .entry))) (take w (now (points .entry))) (now (out .entry))) ⌝ }
+{
+    ratios(&points[..w], &points[w..], out, log, pow);
+    polynomial::interpolate_at(&points[..w], out, log, pow);
+}
+
 // out, of w bytes, becomes P, for a vector x of at most w nonzero entries. The work area, as long as x, ends as zeros.
+// P takes at each point of E the value of x there over the distances of the point from those outside E.
 pub fn quotient(
     w: usize,
     x: &[u8],
@@ -200,10 +271,8 @@ pub fn quotient(
         × (now (work .exit) ≡ zeroed (length (now (x .entry))) (now (work .entry))) ⌝ }
 {
     let n = x.len();
-    lists::copy(work, x);
-    polynomial::interpolate(work, log, pow);
-    divide_outside(w, x, work, log, pow);
-    let a = n - w;
-    lists::copy(out, &work[a..]);
+    gather(w, x, x, true, out);
+    split(w, x, work);
+    through_ratios(w, work, out, log, pow);
     lists::zero_front(work, n);
 }

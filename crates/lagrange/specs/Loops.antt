@@ -3,13 +3,12 @@
 --   weighed-none, -turn             a sum of bytes times points
 --   up-none, -turn                  the products over the first i interpolation points
 --   distances-none, -turn, distances-made   the logarithm of a product of distances, and the weight from two of them
---   power-mod                       exponents count modulo 255
 --   mixed r m i                     Lagrange's coefficients from number i on, before it the products up
 --   down-none, -turn, -end, run-none, -turn   the table on the way down, and the product over the points behind i
 use mathlib.Core.Path.{_≡_, refl, sym, ap, ap₂, _∙_}
 use mathlib.Core.Bool.{Bool, cond}
 use mathlib.Core.List.{List, [], _∷_}
-use Prim.Native.Nat.{ℕ, suc, _+_, _-_, _*_, _/_, _%_, _≤_, _<_}
+use Prim.Native.Nat.{ℕ, suc, _+_, _-_, _*_, _%_, _≤_, _<_}
 use native.Mathlib.Decide.{decLt}
 use native.Mathlib.Numerals.{add-one}
 use native.Mathlib.Omega.{arith}
@@ -21,8 +20,7 @@ use Rattle.lists.specs.Part.{putAt}
 use Rattle.algebra.specs.Ring.{ops}
 use Rattle.cube.specs.Sum.{sum}
 use Rattle.bytefield.specs.Product.{_⊗_, byteOps}
-use Rattle.bytefield.specs.Product.Laws.{one-⊗}
-use Rattle.bytefield.specs.Powers.{power, power-lt, power-add, power-cycle}
+use Rattle.bytefield.specs.Powers.{power, power-add, power-mod}
 use Rattle.bytefield.specs.Inverse.{inverse}
 use Rattle.bytefield.specs.Byte.{byteRing}
 use Rattle.points.specs.Point.{lone, fourSum, fourTimes}
@@ -69,11 +67,6 @@ distances-none f = refl
 pub distances-turn : (f : ℕ → ℕ) (i s v : ℕ) → power s ≡ prod byteOps f i → power v ≡ f i → power (s + v) ≡ prod byteOps f (i + 1)
 unfolding prod
 distances-turn f i s v es ev = power-add s v ∙ ap₂ _⊗_ es ev ∙ ap (prod byteOps f) (sym (add-one i))
-
-pub power-mod : (s : ℕ) → power (s % 255) ≡ power s
-power-mod s =
-    let e : s ≡ 255 * (s / 255) + s % 255 = omega arith in
-    sym (ap power e ∙ power-add (255 * (s / 255)) (s % 255) ∙ ap (λ (x : ℕ). x ⊗ power (s % 255)) (power-cycle (s / 255)) ∙ one-⊗ (power (s % 255)) (power-lt (s % 255)))
 
 pub distances-made : (m k below above : ℕ) → power below ≡ prod byteOps (λ d. (1 + d) ⊕ (1 + k)) k
     → power above ≡ prod byteOps (λ d. (1 + (1 + k) + d) ⊕ (1 + k)) (m - (1 + k)) → power ((below + above) % 255) ≡ distances m k

@@ -4,6 +4,7 @@
 -- xors             the rules of _⊕_ for `simp`: an addition in which each number is its own negative
 -- digit            a proof about a number below 2 goes by its two cases
 -- ⊕-lt             two numbers of k bits give one of k bits
+-- ⊕-apart          two numbers that differ do not give 0
 -- ⊕-div, ⊕-mod     the bits from k on, and the k low bits, of an xor
 -- ⊕-double, ⊕-top  an xor shifted left by one; the single bit k joined to k bits below it
 use mathlib.Core.Path.{_≡_, refl, sym, ap, ap₂, _∙_}
@@ -90,6 +91,13 @@ pub ruleset xors = (⊕-assoc, ⊕-comm, ⊕-left-comm, ⊕-zero, zero-⊕, ⊕-
 pub ⊕-lt : (k : ℕ) {a b : ℕ} → a < 2 ^ k → b < 2 ^ k → a ⊕ b < 2 ^ k
 unfolding _⊕_
 ⊕-lt k {a} {b} ha hb = xor-lt k a b ha hb
+
+pub ⊕-apart : (a b : ℕ) → (a ≡ b → ⊥) → 0 < a ⊕ b
+⊕-apart a b n = positive (a ⊕ b) (λ e. n (sym (⊕-zero a) ∙ ap (_⊕_ a) (sym e) ∙ ⊕-self-left a b))
+  where
+    positive : (m : ℕ) → (m ≡ 0 → ⊥) → 0 < m
+    positive zero h = absurd (h refl)
+    positive (suc m) h = omega arith
 
 pub ⊕-div : (k a b : ℕ) → (a ⊕ b) / 2 ^ k ≡ a / 2 ^ k ⊕ b / 2 ^ k
 unfolding _⊕_

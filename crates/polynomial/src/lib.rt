@@ -4,11 +4,11 @@ ghost use mathlib.Core.Path.{_≡_};
 ghost use mathlib.Core.List.{_∷_, _++_};
 ghost use Prim.Native.Nat.{_+_, _-_, _<_, _≤_};
 ghost use lib.ListN.{length, take, drop};
-ghost use Rattle.algebra.specs.Polynomial.{expand, divide};
+ghost use Rattle.algebra.specs.Polynomial.{expand, slopes, interpolate};
 ghost use Rattle.bytefield.specs.Tables.{logs, powers};
 ghost use Rattle.bytefield.specs.Product.{byteOps};
-ghost use Rattle.polynomial.specs.Interpolant.{ascending, interpolantOf, vanishingOf};
-ghost use Rattle.polynomial.specs.Loops.Slopes.{slopesFrom};
+ghost use Rattle.bytefield.specs.Inverse.{inverse};
+ghost use Rattle.polynomial.specs.Interpolant.{interpolationPoints, interpolantOf, vanishingOf};
 ghost use Rattle.polynomial.specs.Loops.Newton.{newtonForm, expanded};
 
 // p, which is y and then q, becomes y + (X + f)·q.
@@ -24,33 +24,17 @@ pub fn expand(p: &mut [u8], f: u8, log: &[u8; 256], pow: &[u8; 256])
     }
 }
 
-// p becomes its remainder by X + f and then its quotient.
-pub fn divide(p: &mut [u8], f: u8, log: &[u8; 256], pow: &[u8; 256])
-    requires { ⌜ (now log ≡ logs) × (now pow ≡ powers) ⌝ }
-    ensures { λ _. ⌜ now (p .exit) ≡ divide byteOps f (now (p .entry)) ⌝ }
-{
-    let mut v: u8 = 0;
-    let mut i = p.len();
-    while 0 < i {
-        i -= 1;
-        v = bytefield::sum(p[i], bytefield::product(f, v, log, pow));
-        p[i] = v;
-    }
-}
-
-// The values zs at the points f + 1, f + 2 and so on become their slopes from the value y at f.
-fn slopes(zs: &mut [u8], f: u8, y: u8, log: &[u8; 256], pow: &[u8; 256])
-    requires { ⌜ (f + length (now zs) < 256) × (now log ≡ logs) × (now pow ≡ powers) ⌝ }
-    ensures { λ _. ⌜ now (zs .exit) ≡ slopesFrom f y (now (zs .entry)) ⌝ }
+// The values zs at the points gs become their slopes from the value y at f.
+fn slopes(zs: &mut [u8], gs: &[u8], f: u8, y: u8, log: &[u8; 256], pow: &[u8; 256])
+    requires { ⌜ (length (now gs) ≡ length (now zs)) × (now log ≡ logs) × (now pow ≡ powers) ⌝ }
+    ensures { λ _. ⌜ now (zs .exit) ≡ slopes byteOps inverse f y (now (gs .entry)) (now (zs .entry)) ⌝ }
 {
     let n = zs.len();
-    let mut g = f;
     let mut i = 0;
     while i < n {
-        g += 1;
         zs[i] = bytefield::product(
             bytefield::sum(zs[i], y),
-            bytefield::inverse(bytefield::sum(g, f), log, pow),
+            bytefield::inverse(bytefield::sum(gs[i], f), log, pow),
             log,
             pow,
         );
@@ -58,34 +42,55 @@ fn slopes(zs: &mut [u8], f: u8, y: u8, log: &[u8; 256], pow: &[u8; 256])
     }
 }
 
-// The values x at the points 1, 2 and so on become the coefficients of Newton's form.
-fn to_newton(x: &mut [u8], log: &[u8; 256], pow: &[u8; 256])
-    requires { ⌜ (length (now x) < 256) × (now log ≡ logs) × (now pow ≡ powers) ⌝ }
-    ensures { λ _. ⌜ now (x .exit) ≡ newtonForm (ascending 1 (length (now (x .entry)))) (now (x .entry)) ⌝ }
+// The values x at the points become the coefficients of Newton's form.
+fn to_newton(points: &[u8], x: &mut [u8], log: &[u8; 256], pow: &[u8; 256])
+    requires { ⌜ (length (now points) ≡ length (now x)) × (now log ≡ logs) × (now pow ≡ powers) ⌝ }
+    ensures { λ _. ⌜ now (x .exit) ≡ newtonForm (now (points .entry)) (now (x .entry)) ⌝ }
 {
     let n = x.len();
-    let mut f: u8 = 0;
     let mut j = 0;
     while j < n {
         let y = x[j];
-        f += 1;
+        let f = points[j];
         j += 1;
-        slopes(&mut x[j..], f, y, log, pow);
+        slopes(&mut x[j..], &points[j..], f, y, log, pow);
     }
 }
 
 // The coefficients of Newton's form become those of the polynomial.
-fn from_newton(x: &mut [u8], log: &[u8; 256], pow: &[u8; 256])
-    requires { ⌜ (length (now x) < 256) × (now log ≡ logs) × (now pow ≡ powers) ⌝ }
-    ensures { λ _. ⌜ now (x .exit) ≡ expanded (ascending 1 (length (now (x .entry)))) (now (x .entry)) ⌝ }
+fn from_newton(points: &[u8], x: &mut [u8], log: &[u8; 256], pow: &[u8; 256])
+    requires { ⌜ (length (now points) ≡ length (now x)) × (now log ≡ logs) × (now pow ≡ powers) ⌝ }
+    ensures { λ _. ⌜ now (x .exit) ≡ expanded (now (points .entry)) (now (x .entry)) ⌝ }
 {
     let mut j = x.len();
-    let mut f = j as u8;
     while 0 < j {
         j -= 1;
-        expand(&mut x[j..], f, log, pow);
-        f -= 1;
+        expand(&mut x[j..], points[j], log, pow);
     }
+}
+
+// The values x at the points become the coefficients of the polynomial through them.
+pub fn interpolate_at(points: &[u8], x: &mut [u8], log: &[u8; 256], pow: &[u8; 256])
+    requires { ⌜ (length (now points) ≡ length (now x)) × (now log ≡ logs) × (now pow ≡ powers) ⌝ }
+    ensures { λ _. ⌜ now (x .exit) ≡ interpolate byteOps inverse (now (points .entry)) (now (x .entry)) ⌝ }
+{
+    to_newton(points, x, log, pow);
+    from_newton(points, x, log, pow);
+}
+
+// The interpolation points of a longest x.
+pub fn points() -> [u8; 255]
+    ensures { λ r. ⌜ r ≡ interpolationPoints 255 ⌝ }
+{
+    let mut fs = [0u8; 255];
+    let mut f: u8 = 0;
+    let mut i = 0;
+    while i < 255 {
+        f += 1;
+        fs[i] = f;
+        i += 1;
+    }
+    fs
 }
 
 // The vector x, of at most 255 entries, becomes S.
@@ -93,8 +98,9 @@ pub fn interpolate(x: &mut [u8], log: &[u8; 256], pow: &[u8; 256])
     requires { ⌜ (length (now x) < 256) × (now log ≡ logs) × (now pow ≡ powers) ⌝ }
     ensures { λ _. ⌜ now (x .exit) ≡ interpolantOf (now (x .entry)) ⌝ }
 {
-    to_newton(x, log, pow);
-    from_newton(x, log, pow);
+    let n = x.len();
+    let fs = points();
+    interpolate_at(&fs[..n], x, log, pow);
 }
 
 // The polynomial behind place at is multiplied by X + f, and starts at place at.

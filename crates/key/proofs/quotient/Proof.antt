@@ -1,40 +1,37 @@
--- The work area holds x, then S, then S divided by the factors outside E, whose last w places are P (`quotient-made`).
-use mathlib.Core.Path.{_≡_, sym, ap, _∙_}
-use Prim.Native.Nat.{ℕ, _-_}
+-- P is the polynomial through the values of x at the points of E, each over its distances from the others (`quotient-made`).
+use mathlib.Core.Path.{refl, sym, _∙_}
+use Prim.Native.Nat.{ℕ}
 use native.Mathlib.Omega.{arith}
 use borrow.Author.Needs.{needs}
 use lib.ListN.{length}
-use Rattle.lists.specs.Part.Laws.{tail-part}
 use Rattle.lists.specs.Zeroed.Laws.{zeroed-all}
 use Rattle.polynomial.specs.Bytes.{bytes-from}
-use Rattle.polynomial.specs.Interpolant.{interpolantOf}
-use Rattle.key.specs.Loops.Quotient.{quotient-made}
+use Rattle.key.specs.Loops.Quotient.{length-entries, split-apart, quotient-made}
 use Rattle.key.proofs.quotient.Statement.{statement}
 use Rattle.key.proofs.quotient.Tie as tie
 
-copy-requires : tie.Need-copy-requires
-copy-requires c κs = search needs
+gather-requires : tie.Need-gather-requires
+gather-requires c κs =
+    let s = c .before .before .before .before in
+    let f = s .pre .0 in
+    (f .light, refl, s .pre .3 ∙ sym (length-entries (s .args .w) (s .args .x .now) (f .light) (f .fits)))
 
-interpolate-requires : tie.Need-interpolate-requires
-interpolate-requires c κs = search needs
+split-requires : tie.Need-split-requires
+split-requires c κs = search needs
 
-divide-outside-requires : tie.Need-divide-outside-requires
-divide-outside-requires c κs = search needs
-
-sub-a : tie.Need-sub-a
-sub-a c = search needs
-
-sub-copy : tie.Need-sub-copy
-sub-copy c = search needs
-
-part-copy-start : tie.Need-part-copy-start
-part-copy-start c = search needs
-
-part-copy-end : tie.Need-part-copy-end
-part-copy-end c = search needs
-
-copy-requires-2 : tie.Need-copy-requires-2
-copy-requires-2 c κs = search needs
+through-ratios-requires : tie.Need-through-ratios-requires
+through-ratios-requires c κs =
+    let s = c .before .before .before .before .before .before .before .before .before .before .before .before .before in
+    let f = s .pre .0 in
+    let g = c .before .before .before .before .before .before .before .before .gather in
+    let p = c .before .before .before .before .split in (
+      g .kept .1 .1 .1 .1 .0 ∙ s .pre .3,
+      omega (arith, f .fits, s .pre .2, p .kept .1 .1 .0),
+      omega (arith, f .short, s .pre .2, p .kept .1 .1 .0),
+      split-apart (s .args .w) (s .args .x .now) (f .light) (f .fits) (p .last .1 .1 .0) (p .ensures),
+      s .pre .4,
+      s .pre .5,
+    )
 
 zero-front-requires : tie.Need-zero-front-requires
 zero-front-requires c κs = search needs
@@ -47,37 +44,24 @@ same-length-2 c = search needs
 
 returns : tie.Need-returns
 returns c =
-    let c₁ = c .before .before .before .before .before .before in
-    let c₂ = c₁ .before .before .before .before .before .before in
-    let c₃ = c₂ .before .before .before .before in
-    let c₄ = c₃ .before .before .before .before in
-    let c₅ = c₄ .before .before .before .before in
-    let s = c₅ .before in
+    let s = c .before .before .before .before .before .before .before .before .before .before .before .before .before .before .before .before .before .before .before .before in
     let a = s .args in
-    let fits = s .pre .0 in
-    let n : ℕ = length (a .x .now) in
-    let d = c₂ .divide-outside in
-    let i = c₃ .interpolate in
-    let q = d .last .1 .1 .0 in
-    let l : length q ≡ n = d .kept .1 .1 .0 ∙ i .kept .0 ∙ ap length (c₄ .copy .ensures) in (
-      quotient-made (a .w) (a .x .now) (i .last .0) q _ (fits .light) (fits .fits) (s .pre .1) (fits .short)
-          (bytes-from (a .x .now) (λ j. omega (arith, c₅ .shared-slice-known .given j))) (i .ensures ∙ ap interpolantOf (c₄ .copy .ensures)) (d .ensures)
-          (c₁ .copy2 .ensures ∙ tail-part q (n - a .w)),
-      c .before .before .zero-front .ensures ∙ zeroed-all q n l ∙ sym (zeroed-all (a .work .now) n (s .pre .2)),
+    let f = s .pre .0 in
+    let g = c .before .before .before .before .before .before .before .before .before .before .before .before .before .before .before .gather in
+    let p = c .before .before .before .before .before .before .before .before .before .before .before .split in
+    let n : ℕ = length (a .x .now) in (
+      quotient-made (a .w) (a .x .now) (f .light) (f .fits) (p .last .1 .1 .0) (g .last .1 .1 .1 .1 .0) _ (s .pre .1) (f .short)
+          (bytes-from (a .x .now) (λ j. omega (arith, c .before .before .before .before .before .before .before .before .before .before .before .before .before .before .before .before .before .before .before .shared-slice-known .given j))) (p .ensures) (g .ensures) (c .before .before .before .before .before .before .through-ratios .ensures),
+      c .before .before .zero-front .ensures ∙ zeroed-all (p .last .1 .1 .0) n (p .kept .1 .1 .0 ∙ s .pre .2) ∙ sym (zeroed-all (a .work .now) n (s .pre .2)),
     )
 
 pub quotient-spec : {M : Type 1} → statement M
 quotient-spec =
     tie.close
     (tie.spec
-    copy-requires
-    interpolate-requires
-    divide-outside-requires
-    sub-a
-    sub-copy
-    part-copy-start
-    part-copy-end
-    copy-requires-2
+    gather-requires
+    split-requires
+    through-ratios-requires
     zero-front-requires
     same-length
     same-length-2

@@ -1,13 +1,15 @@
 -- The laws of Q and P, for a vector x of bytes that has at most w nonzero entries.
 --
---   outside w x          the interpolation points outside E
+--   inside w x, outside w x      the interpolation points of E, and the others
 --   locator-in-field     Q over the field of bytes
---   length-outside       there are m - w points outside E
+--   length-inside, -outside      there are w points of E and m - w others
+--   apart                no point of E is outside E
 --   length-locator       Q has w + 1 coefficients
 --   locator-monic        they are w low coefficients and a leading 1
 --   locator-zero, locator-not     Q is zero at the points of E, and at no other byte
 --   bytes-locator        Q has bytes as coefficients
 --   quotient-factors     P is S divided by X + f for each point f outside E
+--   quotient-ratios      P takes at each point of E the value of x there over the distances of the point from those outside E
 --   length-quotient      P has w coefficients
 --   bytes-quotient       P has bytes as coefficients
 --   key-relation         S·Q = P·F
@@ -19,25 +21,31 @@ use lib.Dec.{lit<}
 use lib.ListN.{length, take, replicate, length-append, length-map}
 use lib.Seq.{take-at}
 use Rattle.algebra.specs.Ring.{ops}
-use Rattle.algebra.specs.Each.{Each}
-use Rattle.algebra.specs.Marks.{pick, leave, length-pick, length-leave, distinct-leave, map-pick, map-leave}
-use Rattle.algebra.specs.Polynomial.{eval, times, product, quotient, vanishing}
+use Rattle.algebra.specs.Each.{Each, Disjoint}
+use Rattle.algebra.specs.Marks.{pick, leave, length-pick, length-leave, distinct-leave, pick-apart, map-pick, map-leave}
+use Rattle.algebra.specs.Polynomial.{eval, times, product, quotient, vanishing, interpolate}
 use Rattle.algebra.specs.Polynomial.Lengths.{length-product}
 use Rattle.algebra.specs.Polynomial.Lengths as lengths
 use Rattle.algebra.specs.Polynomial.Products.{product-roots, leading-product}
 use Rattle.algebra.specs.Polynomial.Quotients.{vanishing-elsewhere, relation}
-use Rattle.algebra.specs.Polynomial.Maps.{map-times, map-product, map-quotient}
+use Rattle.algebra.specs.Polynomial.Ratios.{distances, ratios, map-ratios, quotient-interpolates}
+use Rattle.algebra.specs.Polynomial.Maps.{map-times, map-product, map-quotient, map-interpolate}
 use Rattle.bytefield.specs.Product.{byteOps}
-use Rattle.bytefield.specs.Byte.{Byte, byte, byteRing, byteField, byte-one, byte-homomorphism}
+use Rattle.bytefield.specs.Product.Laws.{⊗-lt}
+use Rattle.bytefield.specs.Inverse.{inverse}
+use Rattle.bytefield.specs.Byte.{Byte, byte, byteRing, byteField, byteInverse, byte-one, byte-inverse, byte-homomorphism}
 use Rattle.polynomial.specs.Division.{over}
 use Rattle.polynomial.specs.Division.Exact.{over-times}
 use Rattle.polynomial.specs.Division.Maps.{map-take, map-over}
-use Rattle.polynomial.specs.Bytes.{Bytes, inField, bytes-equal, bytes-monic, bytes-take, bytes-times, bytes-product, bytes-over}
+use Rattle.polynomial.specs.Bytes.{Bytes, inField, bytes-equal, bytes-monic, bytes-take, bytes-times, bytes-product, bytes-interpolate, bytes-over}
 use Rattle.polynomial.specs.Bytes as polynomial
 use Rattle.polynomial.specs.Interpolant.{interpolationPoints, interpolantOf, vanishingOf}
-use Rattle.polynomial.specs.Interpolant.Laws.{length-ascending, points-distinct, length-interpolant, bytes-interpolant, interpolant-values, vanishing-in-field, vanishing-leading, length-vanishing}
+use Rattle.polynomial.specs.Interpolant.Laws.{length-ascending, distinct-ascending, points-distinct, length-interpolant, bytes-interpolant, interpolant-values, vanishing-in-field, vanishing-leading, length-vanishing}
 use Rattle.key.specs.Key.{weightOf, positions, locatorOf, quotientOf}
 use Rattle.key.specs.Key.Positions.{length-positions, marked-positions, zero-outside}
+
+abbrev pub inside : ℕ → List ℕ → List ℕ
+inside w x = pick (positions w x) (interpolationPoints (length x))
 
 abbrev pub outside : ℕ → List ℕ → List ℕ
 outside w x = leave (positions w x) (interpolationPoints (length x))
@@ -50,6 +58,15 @@ pub bytes-quotient : (w : ℕ) (x : List ℕ) → Bytes (quotientOf w x)
 unfolding quotientOf
 bytes-quotient w x =
     bytes-take w _ (bytes-over (times byteOps (interpolantOf x) (locatorOf w x)) (vanishingOf (length x)) (bytes-times (interpolantOf x) (locatorOf w x)))
+
+bytes-ratios : (gs fs ys : List ℕ) → Bytes (ratios byteOps inverse gs fs ys)
+unfolding ratios
+bytes-ratios gs [] ys = tt
+bytes-ratios gs (f ∷ fs) [] = tt
+bytes-ratios gs (f ∷ fs) (y ∷ ys) = (⊗-lt y (inverse (distances byteOps f gs)), bytes-ratios gs fs ys)
+
+pub apart : (w : ℕ) (x : List ℕ) → Disjoint (inside w x) (outside w x)
+apart w x = pick-apart (positions w x) (interpolationPoints (length x)) (distinct-ascending 1 (length x))
 
 module _ (w : ℕ) (x : List ℕ) where
   -- the interpolation points in the field, and those of E
@@ -87,6 +104,9 @@ module _ (w : ℕ) (x : List ℕ) where
     locator-monic =
         let l = leading-product byteRing [] (byteRing .one) (pick (positions w x) points) in
         bytes-monic w (locatorOf w x) (l .0) (bytes-locator w x) length-locator (locator-in-field ∙ l .1)
+
+    pub length-inside : length (inside w x) ≡ w
+    length-inside = length-pick (positions w x) (interpolationPoints (length x)) as-many ∙ marked-positions w x light fits
 
     pub length-outside : length (outside w x) + w ≡ length x
     length-outside =
@@ -166,6 +186,26 @@ module _ (w : ℕ) (x : List ℕ) where
           bytes-equal (quotientOf w x) (quotient byteOps (interpolantOf x) (outside w x)) (bytes-quotient w x)
           (polynomial.bytes-quotient (interpolantOf x) (outside w x) (bytes-interpolant x bytes))
           (quotient-in-field ∙ sym factors-in-field)
+
+      pub quotient-ratios : quotientOf w x ≡ interpolate byteOps inverse (inside w x) (ratios byteOps inverse (outside w x) (inside w x) (pick (positions w x) x))
+      quotient-ratios =
+          let fs : List ℕ = interpolationPoints (length x) in
+          let a = length-positions w x in
+          let b = length-map fs byte in
+          let c = length-ascending 1 (length x) in
+          let d = length-map (interpolantOf x) byte in
+          let s = length-interpolant x in
+          bytes-equal (quotientOf w x) _ (bytes-quotient w x) (bytes-interpolate (inside w x) _ (bytes-ratios (outside w x) (inside w x) (pick (positions w x) x)))
+          (quotient-in-field
+          ∙ quotient-interpolates byteField (positions w x) points S (omega arith) (omega arith) (points-distinct (length x) short)
+          (zero-outside w x S points (interpolant-values x short))
+          ∙ ap (λ (ys : List Byte). interpolate (ops byteRing) byteInverse (pick (positions w x) points) (ratios (ops byteRing) byteInverse (leave (positions w x) points) (pick (positions w x) points) (pick (positions w x) ys)))
+          (interpolant-values x short)
+          ∙ sym (map-interpolate byteOps (ops byteRing) byte byte-homomorphism inverse byteInverse byte-inverse (inside w x) _
+          ∙ ap₂ (interpolate (ops byteRing) byteInverse) (map-pick byte (positions w x) fs)
+          (map-ratios byteOps (ops byteRing) byte byte-homomorphism inverse byteInverse byte-inverse (outside w x) (inside w x) (pick (positions w x) x)
+          ∙ ap₂ (λ (gs hs : List Byte). ratios (ops byteRing) byteInverse gs hs (inField (pick (positions w x) x))) (map-leave byte (positions w x) fs) (map-pick byte (positions w x) fs)
+          ∙ ap (ratios (ops byteRing) byteInverse (leave (positions w x) points) (pick (positions w x) points)) (map-pick byte (positions w x) x))))
 
       pub length-quotient : length (quotientOf w x) ≡ w
       length-quotient = ap length quotient-factors ∙ length-factors

@@ -1,103 +1,130 @@
--- The loop that divides S by the factors outside E: from place at on stands a quotient from which the factors still to come make the total.
+-- Values over the distances of their points, and P from them.
 --
---   dividedUnless b p at f, atUnless b at    divided by X + f, which takes a place, unless b
---   unless-hit, unless-miss                  the function that does it
---   Divided x w k i at p total               at turn i, with k positions still to fill in, p is on its way to total
---   divided-start, -turn, -end               before, at and after the turns
---   quotient-made                            the last w places are P
-use mathlib.Core.Path.{_≡_, refl, sym, ap, ap₂, _∙_}
-use mathlib.Core.Bool.{Bool, true, false}
+--   distances-start, -turn, -end    a sum of logarithms: its power times the distances still to come is the product of all
+--   ratio-zero, ratio-made          one value over its distances
+--   ratios-turn                     the values one after the other, in place
+--   tail-apart, through-made        the other points are lent as a tail
+--   length-entries, split-apart, quotient-made
+--                                   the polynomial through the values of x at E over these distances is P
+use mathlib.Core.Path.{_≡_, refl, sym, ap, ap₂, _∙_, subst}
+use mathlib.Core.Bool.{true}
 use mathlib.Core.List.{List, [], _∷_, _++_}
-use Prim.Native.Nat.{ℕ, _+_, _-_, _≤_, _<_}
+use Prim.Native.Nat.{ℕ, zero, suc, _+_, _-_, _%_, _≤_, _<_}
+use native.Mathlib.Nat.{le-of-suc-le-suc, not-suc-le-zero, mod-eq-of-lt}
+use native.Mathlib.Numerals.{add-one}
 use native.Mathlib.Omega.{arith}
-use lib.ListN.{length, take, drop, getD}
-use lib.Seq.{drop-append-add, length-take-le}
-use Rattle.lists.specs.Part.Laws.{tail-part, tail-back}
-use Rattle.algebra.specs.Marks.{leave, marked}
-use Rattle.algebra.specs.Polynomial.{behind, divide, quotient}
-use Rattle.bytefield.specs.Product.{byteOps}
+use lib.Dec.{lit<}
+use lib.ListN.{length, take, drop, getD, set, drop-of-length-le}
+use lib.Seq.{drop-cons, take-at, drop-at}
+use Rattle.lists.specs.Xor.{_⊕_}
+use Rattle.lists.specs.Blend.{blend}
+use Rattle.lists.specs.Blend.Laws.{blend-late, blend-up}
+use Rattle.lists.specs.Part.Laws.{tail-part}
+use Rattle.algebra.specs.Each.{Disjoint}
+use Rattle.algebra.specs.Marks.{length-pick}
+use Rattle.algebra.specs.Polynomial.{interpolate}
+use Rattle.algebra.specs.Polynomial.Ratios.{distances, ratios}
+use Rattle.bytefield.specs.Product.{_⊗_, byteOps}
+use Rattle.bytefield.specs.Product.Laws.{⊗-assoc, ⊗-lt, one-⊗, ⊗-one, zero-⊗}
+use Rattle.bytefield.specs.Powers.{power, power-lt, power-add, power-mod}
+use Rattle.bytefield.specs.Inverse.{inverse}
 use Rattle.polynomial.specs.Bytes.{Bytes}
-use Rattle.polynomial.specs.Interpolant.{ascending, interpolantOf}
-use Rattle.key.specs.Key.{weightOf, filled, positions, quotientOf}
-use Rattle.key.specs.Key.Positions.{marked-positions}
-use Rattle.key.specs.Key.Polynomials.{outside, quotient-factors}
-use Rattle.key.specs.Loops.Positions.{chosen, spared, marksFrom, pointsFrom, marks-start, marks-step, points-step, marks-end}
+use Rattle.key.specs.Key.{weightOf, positions, quotientOf}
+use Rattle.key.specs.Key.Positions.{length-positions, marked-positions}
+use Rattle.key.specs.Key.Polynomials.{inside, outside, apart, length-inside, quotient-ratios}
+use Rattle.key.specs.Loops.Gather.{selected}
 
--- ---- one factor
+-- ---- the distances of a point
 
-unfoldable pub dividedUnless : Bool → List ℕ → ℕ → ℕ → List ℕ
-dividedUnless true p at f = p
-dividedUnless false p at f = take at p ++ divide byteOps f (drop at p)
+distances-lt : (f : ℕ) (gs : List ℕ) → distances byteOps f gs < 256
+unfolding distances
+distances-lt f [] = lit< tt
+distances-lt f (g ∷ gs) = ⊗-lt (f ⊕ g) (distances byteOps f gs)
 
-unfoldable pub atUnless : Bool → ℕ → ℕ
-atUnless true at = at
-atUnless false at = at + 1
+pub distances-start : (f : ℕ) (gs : List ℕ) → power 0 ⊗ distances byteOps f (drop 0 gs) ≡ distances byteOps f gs
+unfolding power
+distances-start f gs = one-⊗ (distances byteOps f gs) (distances-lt f gs)
 
-pub unless-hit : (b : Bool) (p : List ℕ) (at f : ℕ) → b ≡ true → (p ≡ dividedUnless b p at f) × (at ≡ atUnless b at)
-unfolding dividedUnless atUnless
-unless-hit b p at f e = rw e (refl, refl)
+pub distances-turn : (f : ℕ) (gs : List ℕ) (i s v d total : ℕ) → i < length gs → d ≡ f ⊕ getD gs i 0 → power v ≡ d
+    → power s ⊗ distances byteOps f (drop i gs) ≡ total → power (s + v) ⊗ distances byteOps f (drop (i + 1) gs) ≡ total
+unfolding distances
+distances-turn f gs i s v d total h ed ev e =
+    ap (λ (a : ℕ). a ⊗ distances byteOps f (drop (i + 1) gs)) (power-add s v ∙ ap (_⊗_ (power s)) (ev ∙ ed))
+    ∙ ⊗-assoc (power s) (f ⊕ getD gs i 0) (distances byteOps f (drop (i + 1) gs))
+    ∙ sym (ap (λ (l : List ℕ). power s ⊗ distances byteOps f l) (drop-cons gs i 0 h ∙ ap (λ (j : ℕ). getD gs i 0 ∷ drop j gs) (sym (add-one i))))
+    ∙ e
 
-pub unless-miss : (b : Bool) (p ys : List ℕ) (at f r : ℕ) → b ≡ false → at ≤ length p → ys ≡ divide byteOps f (take (length p - at) (drop at p)) → r ≡ at + 1
-    → (take at p ++ (ys ++ drop (length p - at) (drop at p)) ≡ dividedUnless b p at f) × (r ≡ atUnless b at)
-unfolding dividedUnless atUnless
-unless-miss b p ys at f r e h ey er =
-    rw e (tail-back p ys at h ∙ ap (_++_ (take at p)) (ey ∙ ap (divide byteOps f) (tail-part p at)), er)
+pub distances-end : (f : ℕ) (gs : List ℕ) (i s total : ℕ) → length gs ≤ i → power s ⊗ distances byteOps f (drop i gs) ≡ total → power s ≡ total
+unfolding distances
+distances-end f gs i s total h e =
+    sym (ap (λ (l : List ℕ). power s ⊗ distances byteOps f l) (drop-of-length-le gs {i = i} h) ∙ ⊗-one (power s) ∙ mod-eq-of-lt (power-lt s)) ∙ e
 
-pub atUnless-le : (b : Bool) (at : ℕ) → atUnless b at ≤ at + 1
-unfolding atUnless
-atUnless-le true at = omega arith
-atUnless-le false at = omega arith
+-- ---- a value over its distances
 
--- ---- the turns
+pub ratio-zero : (y a : ℕ) → y ≡ 0 → 0 ≡ y ⊗ a
+ratio-zero y a e = sym (ap (λ (v : ℕ). v ⊗ a) e ∙ zero-⊗ a)
 
-abbrev pub Divided : List ℕ → ℕ → ℕ → ℕ → ℕ → List ℕ → List ℕ → Type 0
-Divided x w left i at p total = (at + w ≡ i + marked (marksFrom left i x)) × (quotient byteOps (drop at p) (leave (marksFrom left i x) (pointsFrom i x)) ≡ total)
+pub ratio-made : (y s p d v r : ℕ) → power s ≡ d → p ≡ power (s % 255) → v ≡ inverse p → r ≡ y ⊗ v → r ≡ y ⊗ inverse d
+ratio-made y s p d v r ed ep ev er = er ∙ ap (_⊗_ y) (ev ∙ ap inverse (ep ∙ power-mod s ∙ ed))
 
-pub divided-start : (x s : List ℕ) (w v : ℕ) → v ≡ w - weightOf x → weightOf x ≤ w → w ≤ length x
-    → Divided x w v 0 0 s (quotient byteOps s (leave (positions w x) (ascending 1 (length x))))
-divided-start x s w v ev h k =
-    let n : length x - 0 ≡ length x = omega arith in
-    let m : filled v x ≡ positions w x = marks-start w v x ev in
-    let c : marked (filled v x) ≡ w = ap marked m ∙ marked-positions w x h k in
-    (omega arith, ap₂ (λ (c : List Bool) (j : ℕ). quotient byteOps s (leave c (ascending 1 j))) m n)
+-- ---- all values
 
-behind-drop : (l : List ℕ) → drop 1 l ≡ behind byteOps l
-behind-drop [] = refl
-behind-drop (a ∷ l) = refl
+pub length-ratios : (gs fs ys : List ℕ) → length fs ≡ length ys → length (ratios byteOps inverse gs fs ys) ≡ length ys
+unfolding ratios
+length-ratios gs [] [] e = refl
+length-ratios gs [] (y ∷ ys) e = absurd (omega (arith, e))
+length-ratios gs (f ∷ fs) [] e = refl
+length-ratios gs (f ∷ fs) (y ∷ ys) e = ap suc (length-ratios gs fs ys (omega (arith, e)))
 
-divided-by : (b : Bool) (bs : List Bool) (gs p total : List ℕ) (at f w i : ℕ) → at ≤ length p → at + w ≡ i + marked (b ∷ bs) → quotient byteOps (drop at p) (leave (b ∷ bs) (f ∷ gs)) ≡ total
-    → (atUnless b at + w ≡ i + 1 + marked bs) × (quotient byteOps (drop (atUnless b at) (dividedUnless b p at f)) (leave bs gs) ≡ total)
-unfolding marked leave atUnless dividedUnless quotient
-divided-by true bs gs p total at f w i h c e = (omega arith, e)
-divided-by false bs gs p total at f w i h c e =
-    let l : length (take at p) ≡ at = length-take-le at p h in (
-      omega arith,
-      ap (λ (r : List ℕ). quotient byteOps r (leave bs gs))
-          (ap (λ (j : ℕ). drop (j + 1) (take at p ++ divide byteOps f (drop at p))) (sym l)
-          ∙ drop-append-add (take at p) (divide byteOps f (drop at p)) 1 ∙ behind-drop (divide byteOps f (drop at p)))
-          ∙ e,
-    )
+ratios-at : (gs fs ys : List ℕ) (i : ℕ) → length fs ≡ length ys → i < length ys
+    → getD (ratios byteOps inverse gs fs ys) i 0 ≡ getD ys i 0 ⊗ inverse (distances byteOps (getD fs i 0) gs)
+unfolding ratios
+ratios-at gs fs [] i e h = absurd (not-suc-le-zero h)
+ratios-at gs [] (y ∷ ys) i e h = absurd (omega (arith, e))
+ratios-at gs (f ∷ fs) (y ∷ ys) zero e h = refl
+ratios-at gs (f ∷ fs) (y ∷ ys) (suc i) e h = ratios-at gs fs ys i (omega (arith, e)) (le-of-suc-le-suc h)
 
-pub divided-turn : (x p q total : List ℕ) (w left i at f left′ at′ : ℕ) (b : Bool) → i < length x → at ≤ length p → f ≡ i + 1 → b ≡ chosen (getD x i 0) left
-    → q ≡ dividedUnless b p at f → at′ ≡ atUnless b at → left′ ≡ spared (getD x i 0) left → Divided x w left i at p total → Divided x w left′ (i + 1) at′ q total
-divided-turn x p q total w left i at f left′ at′ b h k ef eb eq ea el e =
-    let m : marksFrom left i x ≡ b ∷ marksFrom left′ (i + 1) x = marks-step left i x h ∙ ap₂ (λ (c : Bool) (j : ℕ). c ∷ marksFrom j (i + 1) x) (sym eb) (sym el) in
-    let g : pointsFrom i x ≡ f ∷ pointsFrom (i + 1) x = points-step i x h ∙ ap (λ (j : ℕ). j ∷ pointsFrom (i + 1) x) (sym ef) in
-    let r = divided-by b (marksFrom left′ (i + 1) x) (pointsFrom (i + 1) x) p total at f w i k (e .0 ∙ ap (λ (c : List Bool). i + marked c) m)
-    (ap₂ (λ (c : List Bool) (gs : List ℕ). quotient byteOps (drop at p) (leave c gs)) (sym m) (sym g) ∙ e .1) in
-    (ap (λ (j : ℕ). j + w) ea ∙ r .0, ap₂ (λ (j : ℕ) (l : List ℕ). quotient byteOps (drop j l) (leave (marksFrom left′ (i + 1) x) (pointsFrom (i + 1) x))) ea eq ∙ r .1)
+pub ratios-turn : (gs fs ys p : List ℕ) (i v : ℕ) → length fs ≡ length ys → i < length ys → p ≡ blend i (ratios byteOps inverse gs fs ys) ys
+    → v ≡ getD p i 0 ⊗ inverse (distances byteOps (getD fs i 0) gs) → set p i v ≡ blend (i + 1) (ratios byteOps inverse gs fs ys) ys
+ratios-turn gs fs ys p i v e h ep ev =
+    let l = length-ratios gs fs ys e in
+    let r : getD p i 0 ≡ getD ys i 0 = ap (λ (q : List ℕ). getD q i 0) ep ∙ blend-late i i (ratios byteOps inverse gs fs ys) ys l (omega arith) in
+    blend-up i v (ratios byteOps inverse gs fs ys) ys p l h ep
+    (ev ∙ ap (λ (y : ℕ). y ⊗ inverse (distances byteOps (getD fs i 0) gs)) r ∙ sym (ratios-at gs fs ys i e h))
 
-pub divided-end : (x p total : List ℕ) (w left i at : ℕ) → length x ≤ i → i ≤ length x → Divided x w left i at p total → drop (length x - w) p ≡ total
-unfolding marked leave quotient ascending
-divided-end x p total w left i at h k e =
-    let m = marks-end left i x h in
-    let z : at + w ≡ i + 0 = e .0 ∙ ap (λ (c : List Bool). i + marked c) m in
-    let n : length x - i ≡ 0 = omega arith in
-    let a : length x - w ≡ at = omega arith in
-    ap (λ (j : ℕ). drop j p) a
-    ∙ sym (ap₂ (λ (c : List Bool) (j : ℕ). quotient byteOps (drop at p) (leave c (ascending (i + 1) j))) m n) ∙ e .1
+-- ---- P; the slice p holds the points of E and then the others
 
-pub quotient-made : (w : ℕ) (x s q o : List ℕ) → weightOf x ≤ w → w ≤ length x → 1 ≤ w → length x < 256 → Bytes x
-    → s ≡ interpolantOf x → drop (length x - w) q ≡ quotient byteOps s (outside w x) → o ≡ drop (length x - w) q → o ≡ quotientOf w x
-quotient-made w x s q o light fits some short bytes es eq eo =
-    eo ∙ eq ∙ ap (λ (p : List ℕ). quotient byteOps p (outside w x)) es ∙ sym (quotient-factors w x light fits some short bytes)
+pub tail-apart : (w : ℕ) (p : List ℕ) → Disjoint (take w p) (drop w p)
+    → Disjoint (take w p) (take (length p - w) (drop w p))
+tail-apart w p h = subst (λ (gs : List ℕ). Disjoint (take w p) gs) (sym (tail-part p w)) h
+
+pub through-made : (w : ℕ) (p xs ys o : List ℕ) → ys ≡ ratios byteOps inverse (take (length p - w) (drop w p)) (take w p) xs
+    → o ≡ interpolate byteOps inverse (take w p) ys → o ≡ interpolate byteOps inverse (take w p) (ratios byteOps inverse (drop w p) (take w p) xs)
+through-made w p xs ys o ey eo =
+    eo ∙ ap (interpolate byteOps inverse (take w p)) (ey ∙ ap (λ (gs : List ℕ). ratios byteOps inverse gs (take w p) xs) (tail-part p w))
+
+module _ (w : ℕ) (x : List ℕ) (light : weightOf x ≤ w) (fits : w ≤ length x) where
+  pub length-entries : length (selected true (positions w x) x) ≡ w
+  unfolding selected
+  length-entries = length-pick (positions w x) x (length-positions w x) ∙ marked-positions w x light fits
+
+  front : take w (inside w x ++ outside w x) ≡ inside w x
+  front = take-at (inside w x) (outside w x) w (length-inside w x light fits)
+
+  behind : drop w (inside w x ++ outside w x) ≡ outside w x
+  behind = drop-at (inside w x) (outside w x) w (length-inside w x light fits)
+
+  pub split-apart : (p : List ℕ) → p ≡ inside w x ++ outside w x → Disjoint (take w p) (drop w p)
+  split-apart p e =
+      subst (λ (q : List ℕ). Disjoint (take w q) (drop w q)) (sym e)
+      (subst (λ (fs : List ℕ). Disjoint fs (drop w (inside w x ++ outside w x))) (sym front)
+      (subst (λ (gs : List ℕ). Disjoint (inside w x) gs) (sym behind) (apart w x)))
+
+  pub quotient-made : (p xs o : List ℕ) → 1 ≤ w → length x < 256 → Bytes x → p ≡ inside w x ++ outside w x → xs ≡ selected true (positions w x) x
+      → o ≡ interpolate byteOps inverse (take w p) (ratios byteOps inverse (drop w p) (take w p) xs) → o ≡ quotientOf w x
+  unfolding selected
+  quotient-made p xs o some short bytes ep ex eo =
+      eo
+      ∙ ap₂ (λ (fs gs : List ℕ). interpolate byteOps inverse fs (ratios byteOps inverse gs fs xs)) (ap (take w) ep ∙ front) (ap (drop w) ep ∙ behind)
+      ∙ ap (λ (ys : List ℕ). interpolate byteOps inverse (inside w x) (ratios byteOps inverse (outside w x) (inside w x) ys)) ex
+      ∙ sym (quotient-ratios w x light fits some short bytes)

@@ -3,11 +3,10 @@ use borrow.Author.Needs.{needs}
 use native.Mathlib.Omega.{arith}
 use mathlib.Core.Path.{_≡_, ap, _∙_}
 use Prim.Native.Nat.{_+_, _*_, _-_, _≤_}
-use Rattle.lists.specs.Xor.{_⊕_, ⊕-lt}
+use Rattle.lists.specs.Xor.{_⊕_, ⊕-lt, ⊕-apart}
 use Rattle.bytefield.specs.Product.{byteOps}
 use Rattle.bytefield.specs.Powers.{power}
 use Rattle.lagrange.specs.Product.{prod}
-use Rattle.lagrange.specs.AtPoint.Laws.{distance}
 use Rattle.lagrange.specs.Loops.{distances-none, distances-turn}
 use Rattle.lagrange.proofs.log_distances.Statement.{statement}
 use Rattle.lagrange.proofs.log_distances.Tie as tie
@@ -29,7 +28,7 @@ unfolding _⊕_
 log-byte-requires c κs =
     let p = c .before .before in
     let i = c .before .loop .i in
-    (distance (p .args .a + i) (p .args .g) (p .pre .2 i (omega arith)), ⊕-lt 8 {a = p .args .a + i} {b = p .args .g} (omega arith) (omega arith), p .pre .3)
+    (⊕-apart (p .args .a + i) (p .args .g) (p .pre .2 i (omega arith)), ⊕-lt 8 {a = p .args .a + i} {b = p .args .g} (omega arith) (omega arith), p .pre .3)
 
 add-s : tie.Need-add-s Inv-loop μ-loop
 add-s c = omega (arith, c .log-byte .ensures .0)

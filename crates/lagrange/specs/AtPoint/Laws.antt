@@ -1,7 +1,6 @@
 -- The laws of values at a point.
 --
 --   length-weightsOf, getD-weightsOf   the weights, one by one
---   distance             two numbers that differ have a distance other than 0
 --   value-weighed        the value of a polynomial: its coefficients weighed by powers
 --   value-vanishing      F(r): the product over all points
 --   value-interpolant    S(r): x weighed by Lagrange's coefficients
@@ -11,7 +10,7 @@ use Prim.Native.Nat.{ℕ, zero, suc, _+_, _-_, _*_, _<_}
 use native.Mathlib.Omega.{arith}
 use lib.Dec.{lit<}
 use lib.ListN.{length, getD}
-use Rattle.lists.specs.Xor.{_⊕_, ⊕-zero, ⊕-self-left, ⊕-lt}
+use Rattle.lists.specs.Xor.{_⊕_, ⊕-lt, ⊕-apart}
 use Rattle.algebra.specs.Ring.{Ring2, ops, ring}
 use Rattle.algebra.specs.Polynomial.{eval, pow, product, interpolate}
 use Rattle.algebra.specs.Polynomial.Maps.{map-interpolate, map-product}
@@ -134,18 +133,10 @@ unfolding row
 map-list [] = refl
 map-list (a ∷ x) = ap (_∷_ (scalar a)) (map-list x)
 
--- two points have a distance
-pub distance : (i j : ℕ) → (i ≡ j → ⊥) → 0 < i ⊕ j
-distance i j n = positive (i ⊕ j) (λ e. n (sym (⊕-zero i) ∙ ap (_⊕_ i) (sym e) ∙ ⊕-self-left i j))
-  where
-    positive : (m : ℕ) → (m ≡ 0 → ⊥) → 0 < m
-    positive zero h = absurd (h refl)
-    positive (suc m) h = omega arith
-
 apart : (r : Point) (m : ℕ) → m < 256 → Apart (points .base) inv r node m
 apart r m h i j l q =
     let d : ℕ = (1 + j) ⊕ (1 + i) in
-    let z : 0 < d = distance (1 + j) (1 + i) (λ e. omega arith) in
+    let z : 0 < d = ⊕-apart (1 + j) (1 + i) (λ e. omega arith) in
     let b : d < 256 = ⊕-lt 8 (omega arith) (omega arith) in
     sym (ap (λ (x : Point). x ⊠ inv x) (lone-homomorphism .add (1 + j) (1 + i)))
     ∙ ap (λ (x : Point). scalar d ⊠ x) (sym (scalar-inverse d))

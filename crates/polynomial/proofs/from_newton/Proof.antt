@@ -1,4 +1,4 @@
--- The loop's invariant, downwards: what stands from j on is expanded, and f is j (`expanded-turn`).
+-- The loop's invariant, downwards: what stands from j on is expanded (`expanded-turn`).
 use mathlib.Core.Path.{_≡_, refl, ap, _∙_}
 use Prim.Native.Nat.{_-_, _≤_}
 use native.Mathlib.Omega.{arith}
@@ -12,16 +12,13 @@ use Rattle.polynomial.proofs.from_newton.Statement.{statement}
 use Rattle.polynomial.proofs.from_newton.Tie as tie
 
 abbrev Inv-loop : tie.InvT-loop
-Inv-loop x₀ log pow j₀ f₀ x j f = (j ≤ length x₀) × (f ≡ j) × Expanded j x x₀ × (length x ≡ length x₀)
+Inv-loop points x₀ log pow j₀ x j = (j ≤ length x₀) × Expanded points j x x₀ × (length x ≡ length x₀)
 
 abbrev μ-loop : tie.MeasureT-loop
-μ-loop x₀ log pow j₀ f₀ x j f = j
-
-cast-f : tie.Need-cast-f Inv-loop μ-loop
-cast-f c = search needs
+μ-loop points x₀ log pow j₀ x j = j
 
 loop-holds : tie.Need-loop-holds Inv-loop μ-loop
-loop-holds c = (omega arith, omega arith, expanded-start _, refl)
+loop-holds c = (omega arith, expanded-start (c .before .before .args .points .now) _ (c .before .before .pre .0), refl)
 
 sub-j : tie.Need-sub-j Inv-loop μ-loop
 sub-j c = search needs
@@ -35,33 +32,35 @@ part-expand-start c = search needs
 part-expand-end : tie.Need-part-expand-end Inv-loop μ-loop
 part-expand-end c = search needs
 
+shared-slice-read-expand : tie.Need-shared-slice-read-expand Inv-loop μ-loop
+shared-slice-read-expand c = search needs
+
 expand-requires : tie.Need-expand-requires Inv-loop μ-loop
 expand-requires c κs = search needs
-
-sub-f : tie.Need-sub-f Inv-loop μ-loop
-sub-f c = search needs
 
 loop-less : tie.Need-loop-less Inv-loop μ-loop
 loop-less c = search needs
 
 loop-again : tie.Need-loop-again Inv-loop μ-loop
 loop-again c =
-    let p = c .before .before .before .before .before in
+    let p = c .before .before .before .before .before .before in
+    let s = p .before .before .before in
     let x = p .loop .x in
     let j = p .loop .j in
     let d = c .before .before .expand in (
       omega arith,
-      omega arith,
-      expanded-turn j (p .loop .f) x (p .before .before .args .x .now) _ (d .last .0) (omega arith) (omega arith) (p .loop .inv .1)
-          (tail-back x (d .last .0) (j - 1) (omega arith)) (d .ensures ∙ ap (expand byteOps (p .loop .f)) (tail-part x (j - 1))) (p .loop .inv .2),
-      c .before .x .given .1 ∙ p .loop .inv .3,
+      expanded-turn (s .args .points .now) j _ x (s .args .x .now) _ (d .last .0) (omega arith) (omega (arith, s .pre .0)) (omega arith) refl
+          (tail-back x (d .last .0) (j - 1) (omega arith)) (d .ensures ∙ ap (expand byteOps _) (tail-part x (j - 1))) (p .loop .inv .1),
+      c .before .x .given .1 ∙ p .loop .inv .2,
     )
 
 same-length : tie.Need-same-length Inv-loop μ-loop
-same-length c = c .before .loop .inv .3
+same-length c = c .before .loop .inv .2
 
 returns : tie.Need-returns Inv-loop μ-loop
-returns c = expanded-end (c .before .loop .j) (c .before .loop .x) (c .before .before .before .args .x .now) (omega arith) (c .before .loop .inv .2)
+returns c =
+    let s = c .before .before .before .before in
+    expanded-end (s .args .points .now) (c .before .loop .j) (c .before .loop .x) (s .args .x .now) (omega arith) (c .before .loop .inv .1)
 
 pub from-newton-spec : {M : Type 1} → statement M
 from-newton-spec =
@@ -69,14 +68,13 @@ from-newton-spec =
     (tie.spec
     Inv-loop
     μ-loop
-    cast-f
     loop-holds
     sub-j
     sub-expand
     part-expand-start
     part-expand-end
+    shared-slice-read-expand
     expand-requires
-    sub-f
     loop-less
     loop-again
     same-length

@@ -1,6 +1,7 @@
 -- The laws of S and F.
 --
 --   length-ascending, ascending-at    the points in a row
+--   distinct-ascending                no two of them are equal
 --   points-distinct                   no two interpolation points are equal bytes
 --   length-interpolant                S has m coefficients
 --   interpolant-takes                 S(f_i) = x_i for all i
@@ -51,6 +52,16 @@ unfolding ascending
 ascending-at a zero i h = absurd (not-suc-le-zero h)
 ascending-at a (suc n) zero h = omega arith
 ascending-at a (suc n) (suc i) h = ascending-at (suc a) n i (le-of-suc-le-suc h) ∙ omega arith
+
+later : (f a n : ℕ) → f < a → Each (λ y. y ≡ f → ⊥) (ascending a n)
+unfolding ascending
+later f a zero h = tt
+later f a (suc n) h = ((λ e. omega arith), later f (suc a) n (omega arith))
+
+pub distinct-ascending : (a n : ℕ) → Distinct (ascending a n)
+unfolding ascending
+distinct-ascending a zero = tt
+distinct-ascending a (suc n) = (later a (suc a) n (omega arith), distinct-ascending (suc a) n)
 
 byte-differs : (a b : ℕ) → a < 256 → b < 256 → (a ≡ b → ⊥) → byte a ≡ byte b → ⊥
 byte-differs a b ha hb n e = n (sym (val-byte a ha) ∙ ap (λ (x : Byte). x .0) e ∙ val-byte b hb)

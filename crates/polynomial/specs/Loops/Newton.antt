@@ -1,23 +1,24 @@
--- Interpolation in two sweeps over one slice: upwards to the coefficients of Newton's form, downwards to those of the polynomial.
+-- Interpolation at the points fs in two sweeps over one slice: upwards to the coefficients of Newton's form, downwards to those of the polynomial.
 --
 --   newtonForm fs ys     the coefficients of Newton's form: y, then those of the slopes
 --   expanded fs ds       from Newton's form to the coefficients
---   Passed j x x₀        the first sweep has passed j of the values x₀ and left x
---   Expanded j x x₀      the second sweep has come down to place j of x₀ and left x
---   both-sweeps          one after the other they give S
-use mathlib.Core.Path.{_≡_, refl, sym, ap, ap₂, _∙_, subst}
+--   Passed fs j x x₀     the first sweep has passed j of the values x₀ and left x
+--   Expanded fs j x x₀   the second sweep has come down to place j of x₀ and left x
+--   both-sweeps          one after the other they give the polynomial through the values
+use mathlib.Core.Path.{_≡_, refl, sym, ap, ap₂, _∙_}
 use mathlib.Core.List.{List, [], _∷_, _++_, append-nil}
 use Prim.Native.Nat.{ℕ, zero, suc, _+_, _-_, _≤_, _<_}
-use native.Mathlib.Nat.{not-suc-le-zero}
+use native.Mathlib.Nat.{not-suc-le-zero, le-of-eq}
 use native.Mathlib.Numerals.{add-one}
 use native.Mathlib.Omega.{arith}
-use lib.ListN.{length, take, drop, getD, length-drop}
+use lib.ListN.{length, take, drop, getD, drop-of-length-le}
 use lib.Seq.{take-all, take-length, drop-cons, take-suc, take-at, drop-at, length-take-le, append-snoc}
 use Rattle.algebra.specs.Polynomial.{expand, slopes, interpolate}
 use Rattle.bytefield.specs.Product.{byteOps}
 use Rattle.bytefield.specs.Inverse.{inverse}
-use Rattle.polynomial.specs.Interpolant.{ascending, interpolantOf}
-use Rattle.polynomial.specs.Loops.Slopes.{slopesFrom}
+
+front : (l : List ℕ) (j : ℕ) → j < length l → drop j l ≡ getD l j 0 ∷ drop (j + 1) l
+front l j h = drop-cons l j 0 h ∙ ap (λ (i : ℕ). getD l j 0 ∷ drop i l) (sym (add-one j))
 
 unfoldable pub newtonForm : List ℕ → List ℕ → List ℕ
 newtonForm [] ys = []
@@ -36,76 +37,54 @@ expanded-newton (f ∷ fs) [] = refl
 expanded-newton (f ∷ fs) (y ∷ ys) = ap (λ (l : List ℕ). expand byteOps f (y ∷ l)) (expanded-newton fs (slopes byteOps inverse f y fs ys))
 
 -- ---- upwards
-abbrev pub Passed : ℕ → List ℕ → List ℕ → Type 0
-Passed j x x₀ = take j x ++ newtonForm (ascending (j + 1) (length x - j)) (drop j x) ≡ newtonForm (ascending 1 (length x)) x₀
+abbrev pub Passed : List ℕ → ℕ → List ℕ → List ℕ → Type 0
+Passed fs j x x₀ = take j x ++ newtonForm (drop j fs) (drop j x) ≡ newtonForm fs x₀
 
-pub newton-turn : (j : ℕ) (x x₀ z p : List ℕ) → j < length x → p ≡ take (j + 1) x ++ z → z ≡ slopesFrom (j + 1) (getD x j 0) (drop (j + 1) x)
-    → length p ≡ length x → Passed j x x₀ → Passed (j + 1) p x₀
-unfolding newtonForm ascending
-newton-turn j x x₀ z p h ep ez el e =
+pub newton-turn : (fs : List ℕ) (j f y : ℕ) (x x₀ z p : List ℕ) → j < length fs → j < length x → f ≡ getD fs j 0 → y ≡ getD x j 0 → p ≡ take (j + 1) x ++ z
+    → z ≡ slopes byteOps inverse f y (drop (j + 1) fs) (drop (j + 1) x) → Passed fs j x x₀ → Passed fs (j + 1) p x₀
+unfolding newtonForm
+newton-turn fs j f y x x₀ z p k h ef ey ep ez e =
     let t : length (take (j + 1) x) ≡ j + 1 = length-take-le (j + 1) x (omega arith) in
-    let k : length (drop (j + 1) x) ≡ length x - (j + 1) = length-drop (j + 1) x in
-    let n : length x - j ≡ suc (length x - (j + 1)) = omega arith in
-    let s : suc (j + 1) ≡ j + 1 + 1 = omega arith in
     let a : take (j + 1) p ≡ take j x ++ (getD x j 0 ∷ []) = ap (take (j + 1)) ep ∙ take-at (take (j + 1) x) z (j + 1) t ∙ ap (λ (i : ℕ). take i x) (add-one j) ∙ take-suc x j 0 h in
-    let b : drop (j + 1) p ≡ slopes byteOps inverse (j + 1) (getD x j 0) (ascending (suc (j + 1)) (length x - (j + 1))) (drop (j + 1) x)
-    = ap (drop (j + 1)) ep ∙ drop-at (take (j + 1) x) z (j + 1) t ∙ ez ∙ ap₂ (λ (i m : ℕ). slopes byteOps inverse (j + 1) (getD x j 0) (ascending i m) (drop (j + 1) x)) (sym s) k in
-    let d : drop j x ≡ getD x j 0 ∷ drop (j + 1) x = drop-cons x j 0 h ∙ ap (λ (i : ℕ). getD x j 0 ∷ drop i x) (sym (add-one j)) in
-    let u : take j x ++ newtonForm (ascending (j + 1) (suc (length x - (j + 1)))) (getD x j 0 ∷ drop (j + 1) x) ≡ newtonForm (ascending 1 (length x)) x₀
-    = ap₂ (λ (m : ℕ) (l : List ℕ). take j x ++ newtonForm (ascending (j + 1) m) l) (sym n) (sym d) ∙ e in
-    ap₂ (λ (l m : List ℕ). l ++ m) a
-    (ap₂ (λ (m : ℕ) (l : List ℕ). newtonForm (ascending (j + 1 + 1) (m - (j + 1))) l) el b
-    ∙ ap (λ (i : ℕ). newtonForm (ascending i (length x - (j + 1))) (slopes byteOps inverse (j + 1) (getD x j 0) (ascending (suc (j + 1)) (length x - (j + 1))) (drop (j + 1) x))) (sym s))
-    ∙ append-snoc (take j x) (getD x j 0) _ ∙ u ∙ ap (λ (m : ℕ). newtonForm (ascending 1 m) x₀) (sym el)
+    let b : drop (j + 1) p ≡ slopes byteOps inverse (getD fs j 0) (getD x j 0) (drop (j + 1) fs) (drop (j + 1) x)
+    = ap (drop (j + 1)) ep ∙ drop-at (take (j + 1) x) z (j + 1) t ∙ ez ∙ ap₂ (λ (g v : ℕ). slopes byteOps inverse g v (drop (j + 1) fs) (drop (j + 1) x)) ef ey in
+    ap₂ (λ (l m : List ℕ). l ++ newtonForm (drop (j + 1) fs) m) a b ∙ append-snoc (take j x) (getD x j 0) _
+    ∙ sym (ap₂ (λ (l m : List ℕ). take j x ++ newtonForm l m) (front fs j k) (front x j h)) ∙ e
 
-pub newton-start : (x : List ℕ) → Passed 0 x x
-newton-start x = let n : length x - 0 ≡ length x = omega arith in ap (λ (m : ℕ). newtonForm (ascending 1 m) x) n
-
-pub newton-end : (j : ℕ) (x x₀ : List ℕ) → length x ≤ j → Passed j x x₀ → x ≡ newtonForm (ascending 1 (length x)) x₀
-unfolding newtonForm ascending
-newton-end j x x₀ h e =
-    let n : length x - j ≡ 0 = omega arith in
-    sym (append-nil x) ∙ ap (λ (l : List ℕ). l ++ []) (sym (take-all j x h)) ∙ ap (λ (m : ℕ). take j x ++ newtonForm (ascending (j + 1) m) (drop j x)) (sym n) ∙ e
+pub newton-end : (fs : List ℕ) (j : ℕ) (x x₀ : List ℕ) → length fs ≤ j → length x ≤ j → Passed fs j x x₀ → x ≡ newtonForm fs x₀
+unfolding newtonForm
+newton-end fs j x x₀ k h e =
+    sym (append-nil x) ∙ ap₂ (λ (l m : List ℕ). l ++ newtonForm m (drop j x)) (sym (take-all j x h)) (sym (drop-of-length-le fs k)) ∙ e
 
 -- ---- downwards
-abbrev pub Expanded : ℕ → List ℕ → List ℕ → Type 0
-Expanded j x x₀ = x ≡ take j x₀ ++ expanded (ascending (j + 1) (length x₀ - j)) (drop j x₀)
+abbrev pub Expanded : List ℕ → ℕ → List ℕ → List ℕ → Type 0
+Expanded fs j x x₀ = x ≡ take j x₀ ++ expanded (drop j fs) (drop j x₀)
 
-pub expanded-start : (x : List ℕ) → Expanded (length x) x x
-unfolding expanded ascending
-expanded-start x =
-    let n : length x - length x ≡ 0 = omega arith in
-    sym (ap (λ (m : ℕ). take (length x) x ++ expanded (ascending (length x + 1) m) (drop (length x) x)) n ∙ append-nil (take (length x) x) ∙ take-length x)
+pub expanded-start : (fs x : List ℕ) → length fs ≡ length x → Expanded fs (length x) x x
+unfolding expanded
+expanded-start fs x l =
+    sym (ap (λ (m : List ℕ). take (length x) x ++ expanded m (drop (length x) x)) (drop-of-length-le fs (le-of-eq l)) ∙ append-nil (take (length x) x) ∙ take-length x)
 
-expanded-turn-suc : (i : ℕ) (x x₀ p : List ℕ) → i < length x₀ → p ≡ take i x ++ expand byteOps (suc i) (drop i x) → Expanded (suc i) x x₀ → Expanded i p x₀
-unfolding expanded ascending
-expanded-turn-suc i x x₀ p h ep e =
-    let n : length x₀ - i ≡ suc (length x₀ - suc i) = omega arith in
-    let s : suc i + 1 ≡ suc (i + 1) = omega arith in
+pub expanded-turn : (fs : List ℕ) (j f : ℕ) (x x₀ p z : List ℕ) → 0 < j → j ≤ length fs → j ≤ length x₀ → f ≡ getD fs (j - 1) 0 → p ≡ take (j - 1) x ++ z
+    → z ≡ expand byteOps f (drop (j - 1) x) → Expanded fs j x x₀ → Expanded fs (j - 1) p x₀
+unfolding expanded
+expanded-turn fs j f x x₀ p z o k h ef ep ez e =
+    let i : ℕ = j - 1 in
+    let n : j ≡ i + 1 = omega arith in
     let l : length (take i x₀) ≡ i = length-take-le i x₀ (omega arith) in
-    let r : List ℕ = expanded (ascending (suc (i + 1)) (length x₀ - suc i)) (drop (suc i) x₀) in
-    let f : x ≡ take i x₀ ++ (getD x₀ i 0 ∷ r)
-    = e ∙ ap (λ (a : ℕ). take (suc i) x₀ ++ expanded (ascending a (length x₀ - suc i)) (drop (suc i) x₀)) s
-    ∙ ap (λ (q : List ℕ). q ++ r) (take-suc x₀ i 0 h) ∙ append-snoc (take i x₀) (getD x₀ i 0) r in
+    let r : List ℕ = expanded (drop (i + 1) fs) (drop (i + 1) x₀) in
+    let g : x ≡ take i x₀ ++ (getD x₀ i 0 ∷ r)
+    = e ∙ ap (λ (a : ℕ). take a x₀ ++ expanded (drop a fs) (drop a x₀)) n
+    ∙ ap (λ (q : List ℕ). q ++ r) (ap (λ (a : ℕ). take a x₀) (add-one i) ∙ take-suc x₀ i 0 (omega arith)) ∙ append-snoc (take i x₀) (getD x₀ i 0) r in
     ep
-    ∙ ap₂ (λ (a b : List ℕ). a ++ expand byteOps (suc i) b) (ap (take i) f ∙ take-at (take i x₀) (getD x₀ i 0 ∷ r) i l)
-    (ap (drop i) f ∙ drop-at (take i x₀) (getD x₀ i 0 ∷ r) i l)
-    ∙ ap (λ (a : ℕ). take i x₀ ++ expand byteOps a (getD x₀ i 0 ∷ r)) (sym (add-one i))
-    ∙ sym (ap₂ (λ (m : ℕ) (q : List ℕ). take i x₀ ++ expanded (ascending (i + 1) m) q) n (drop-cons x₀ i 0 h))
+    ∙ ap₂ (λ (a b : List ℕ). a ++ b) (ap (take i) g ∙ take-at (take i x₀) (getD x₀ i 0 ∷ r) i l)
+    (ez ∙ ap₂ (expand byteOps) ef (ap (drop i) g ∙ drop-at (take i x₀) (getD x₀ i 0 ∷ r) i l))
+    ∙ sym (ap₂ (λ (q m : List ℕ). take i x₀ ++ expanded q m) (front fs i (omega arith)) (front x₀ i (omega arith)))
 
-pub expanded-turn : (j f : ℕ) (x x₀ p z : List ℕ) → 0 < j → j ≤ length x₀ → f ≡ j → p ≡ take (j - 1) x ++ z → z ≡ expand byteOps f (drop (j - 1) x)
-    → Expanded j x x₀ → Expanded (j - 1) p x₀
-expanded-turn j f x x₀ p z h k ef ep ez e =
-    let n : j ≡ suc (j - 1) = omega arith in
-    expanded-turn-suc (j - 1) x x₀ p (omega arith) (ep ∙ ap (_++_ (take (j - 1) x)) (ez ∙ ap (λ (a : ℕ). expand byteOps a (drop (j - 1) x)) (ef ∙ n)))
-    (subst (λ (i : ℕ). Expanded i x x₀) n e)
-
-pub expanded-end : (j : ℕ) (x x₀ : List ℕ) → j ≤ 0 → Expanded j x x₀ → x ≡ expanded (ascending 1 (length x₀)) x₀
-expanded-end zero x x₀ h e = let n : length x₀ - 0 ≡ length x₀ = omega arith in e ∙ ap (λ (m : ℕ). expanded (ascending 1 m) x₀) n
-expanded-end (suc j) x x₀ h e = absurd (not-suc-le-zero h)
+pub expanded-end : (fs : List ℕ) (j : ℕ) (x x₀ : List ℕ) → j ≤ 0 → Expanded fs j x x₀ → x ≡ expanded fs x₀
+expanded-end fs zero x x₀ h e = e
+expanded-end fs (suc j) x x₀ h e = absurd (not-suc-le-zero h)
 
 -- ---- both sweeps
-pub both-sweeps : (x y z : List ℕ) → y ≡ newtonForm (ascending 1 (length x)) x → length y ≡ length x → z ≡ expanded (ascending 1 (length y)) y → z ≡ interpolantOf x
-unfolding interpolantOf
-both-sweeps x y z ey el ez =
-    ez ∙ ap₂ (λ (m : ℕ) (l : List ℕ). expanded (ascending 1 m) l) el ey ∙ expanded-newton (ascending 1 (length x)) x
+pub both-sweeps : (fs x y z : List ℕ) → y ≡ newtonForm fs x → z ≡ expanded fs y → z ≡ interpolate byteOps inverse fs x
+both-sweeps fs x y z ey ez = ez ∙ ap (expanded fs) ey ∙ expanded-newton fs x
