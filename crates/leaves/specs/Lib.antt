@@ -1,2 +1,5 @@
-pub mod Committed
+pub mod After
+pub mod States
+pub mod Commitments
+pub mod Joined
 pub mod Shapes

@@ -1,22 +1,20 @@
-// Leaves (document 01, layers 2 to 5): state, share and commitment of a leaf, and the digest of all commitments. Each string
-// goes on from the start of its layer, which `strings::begin` makes once for all leaves.
+// Leaves (document 01, layers 2 to 5): state, share and commitment of a leaf, all states, and the digest of all commitments.
+// Each string goes on from the start of its layer, which `strings::begin` makes once for all leaves.
 pub mod commitments;
+pub mod states;
 
 use lists::put_at;
 use parameters::Parameters;
 use shake256::Sponge;
 use strings::digest;
 ghost use mathlib.Core.Path.{_≡_};
-ghost use mathlib.Core.List.{List, _∷_};
-ghost use Prim.Native.Nat.{ℕ, _<_};
+ghost use mathlib.Core.List.{_∷_};
+ghost use Prim.Native.Nat.{_<_};
 ghost use lib.ListN.{length, take};
 ghost use Rattle.shake256.specs.Stream.{absorbed};
-ghost use Rattle.shake256.specs.Fips.{SHAKE256};
 ghost use Rattle.parameters.specs.Limits.{Within};
 ghost use Rattle.exchange.specs.Layout as layout;
-ghost use Rattle.exchange.specs.Strings.{string3};
-ghost use Rattle.exchange.specs.Leaf as spec;
-ghost use Rattle.strings.specs.Digest.{begun};
+ghost use Rattle.leaves.specs.After.{bytesAfter, stateAfter, shareAfter, commitmentAfter};
 ghost use Rattle.leaves.specs.Shapes.{State, ShareBytes, Share, Commitment};
 
 // The layer byte of the strings that give a leaf's state.
@@ -57,7 +55,7 @@ fn absorb_leaf(start: Sponge, leaf: usize, s: &[u8]) -> Sponge
 // Fills out with the leaf's state, from its node's seed (layer 2).
 pub fn leaf_state(states: Sponge, leaf: usize, seed: &[u8], out: &mut [u8])
     requires { ⌜ State leaf (now out) ⌝ }
-    ensures { λ _. ⌜ ((prefix : List ℕ) → states ≡ begun 2 prefix → now (out .exit) ≡ spec.state SHAKE256 prefix leaf (now (seed .entry))) ⌝ }
+    ensures { λ _. ⌜ now (out .exit) ≡ stateAfter states leaf (now (seed .entry)) ⌝ }
 {
     digest(absorb_leaf(states, leaf, seed), out);
 }
@@ -65,7 +63,7 @@ pub fn leaf_state(states: Sponge, leaf: usize, seed: &[u8], out: &mut [u8])
 // Fills out with bytes of layer 3: leaf n−1 takes 8t of them, all others a whole share.
 pub fn share_bytes(shares: Sponge, leaf: usize, state: &[u8], out: &mut [u8])
     requires { ⌜ ShareBytes leaf (now state) ⌝ }
-    ensures { λ _. ⌜ ((prefix : List ℕ) → shares ≡ begun 3 prefix → now (out .exit) ≡ SHAKE256 (string3 prefix leaf (take 16 (now (state .entry)))) (length (now (out .entry)))) ⌝ }
+    ensures { λ _. ⌜ now (out .exit) ≡ bytesAfter shares leaf (take 16 (now (state .entry))) (length (now (out .entry))) ⌝ }
 {
     digest(absorb_leaf(shares, leaf, &state[..16]), out);
 }
@@ -80,7 +78,7 @@ pub fn leaf_share(
     out: &mut [u8],
 )
     requires { ⌜ Share p leaf (now state) (now aux) (now out) ⌝ }
-    ensures { λ _. ⌜ ((prefix : List ℕ) → shares ≡ begun 3 prefix → now (out .exit) ≡ spec.share SHAKE256 p prefix leaf (now (state .entry)) (now (aux .entry))) ⌝ }
+    ensures { λ _. ⌜ now (out .exit) ≡ shareAfter shares p leaf (now (state .entry)) (now (aux .entry)) ⌝ }
 {
     let last = is_last(p, leaf);
     if last {
@@ -102,7 +100,7 @@ pub fn leaf_commitment(
     out: &mut [u8],
 )
     requires { ⌜ Commitment p leaf (now out) ⌝ }
-    ensures { λ _. ⌜ ((prefix : List ℕ) → commitments ≡ begun 4 prefix → now (out .exit) ≡ spec.commitment SHAKE256 p prefix leaf (now (state .entry)) (now (aux .entry))) ⌝ }
+    ensures { λ _. ⌜ now (out .exit) ≡ commitmentAfter commitments p leaf (now (state .entry)) (now (aux .entry)) ⌝ }
 {
     let s = absorb_leaf(commitments, leaf, state);
     if is_last(p, leaf) {

@@ -7,10 +7,8 @@ use native.Mathlib.Omega.{arith}
 use borrow.Author.Needs.{needs}
 use lib.ListN.{length, take, length-append, length-drop}
 use lib.Seq.{length-take-le}
-use Rattle.shake256.specs.Fips.{SHAKE256}
 use Rattle.exchange.specs.Layout.{shareLength}
-use Rattle.exchange.specs.Strings.{string3}
-use Rattle.exchange.specs.Leaf.{share}
+use Rattle.leaves.specs.After.{bytesAfter, shareAfter}
 use Rattle.leaves.proofs.LastShare.{putAt-last}
 use Rattle.leaves.proofs.leaf_share.Statement.{statement}
 use Rattle.leaves.proofs.leaf_share.Tie as tie
@@ -33,34 +31,34 @@ put-at-requires c κs =
     simp (length-append, length-drop) (omega (arith, start .pre .room))
 
 returns : tie.Need-returns
-unfolding share
-returns c prefix b =
+unfolding shareAfter
+returns c =
     let filled = c .before .before .before .before .before .before in
     let test = filled .before .before .before .before in
     let start = test .before .before .before .before in
     let args = start .args in
     let n = 8 * args .p .t in
     let ys = filled .share-bytes .last .1 .1 .1 .0 in
-    let string = string3 prefix (args .leaf) (take 16 (args .state .now)) in
+    let drawn = bytesAfter (args .shares) (args .leaf) (take 16 (args .state .now)) in
     let is-true = sym (test .is-last .ensures) ∙ filled .before .before .before .if1 .taken in
     let size : length ys ≡ n = filled .share-bytes .kept .1 .1 .1 .0 ∙ front start in
     let whole : length (args .out .now) ≡ n + length (args .aux .now) = omega (arith, start .pre .room, start .pre .last is-true) in
     c .before .before .put-at .ensures
     ∙ putAt-last (args .out .now) ys (args .aux .now) n size whole
-    ∙ ap (λ (l : List ℕ). l ++ args .aux .now) (filled .share-bytes .ensures prefix b ∙ ap (SHAKE256 string) (front start))
-    ∙ ap (λ (t : Bool). cond t (SHAKE256 string n ++ args .aux .now) (SHAKE256 string (shareLength (args .p)))) (sym is-true)
+    ∙ ap (λ (l : List ℕ). l ++ args .aux .now) (filled .share-bytes .ensures ∙ ap drawn (front start))
+    ∙ ap (λ (t : Bool). cond t (drawn n ++ args .aux .now) (drawn (shareLength (args .p)))) (sym is-true)
 
 returns-2 : tie.Need-returns-2
-unfolding share
-returns-2 c prefix b =
+unfolding shareAfter
+returns-2 c =
     let test = c .before .before .before .before .before in
     let start = test .before .before .before .before in
     let args = start .args in
-    let string = string3 prefix (args .leaf) (take 16 (args .state .now)) in
+    let drawn = bytesAfter (args .shares) (args .leaf) (take 16 (args .state .now)) in
     let is-false = sym (test .is-last .ensures) ∙ c .before .before .before .before .if1 .left in
-    c .before .before .share-bytes2 .ensures prefix b
-    ∙ ap (SHAKE256 string) (start .pre .room)
-    ∙ ap (λ (t : Bool). cond t (SHAKE256 string (8 * args .p .t) ++ args .aux .now) (SHAKE256 string (shareLength (args .p)))) (sym is-false)
+    c .before .before .share-bytes2 .ensures
+    ∙ ap drawn (start .pre .room)
+    ∙ ap (λ (t : Bool). cond t (drawn (8 * args .p .t) ++ args .aux .now) (drawn (shareLength (args .p)))) (sym is-false)
 
 pub leaf-share-spec : {M : Type 1} → statement M
 leaf-share-spec =

@@ -1,0 +1,28 @@
+-- What a leaf gives, hashed on from a sponge. Where the sponge is the start of its layer, it is document 01's (After/Laws).
+--
+-- bytesAfter s i m n             n bytes: the hash of what s has absorbed, and i ‖ m behind it
+-- stateAfter s i seed            a leaf's state, where s is the start of layer 2
+-- shareAfter s p i st aux        its share, where s is the start of layer 3
+-- commitmentAfter s p i st aux   its commitment, where s is the start of layer 4
+use mathlib.Core.Bool.{cond}
+use mathlib.Core.List.{List, [], _∷_, _++_}
+use Prim.Native.Nat.{ℕ, _*_}
+use lib.ListN.{take}
+use Rattle.shake256.specs.declared.Sponge.{Sponge}
+use Rattle.shake256.specs.Stream.{absorbed}
+use Rattle.parameters.specs.declared.Parameters.{Parameters}
+use Rattle.exchange.specs.Layout.{isLast, shareLength}
+use Rattle.strings.specs.Digest.{digest}
+pub mod Laws
+
+unfoldable pub bytesAfter : Sponge → ℕ → List ℕ → ℕ → List ℕ
+bytesAfter s i m n = digest (absorbed s (i ∷ m)) n
+
+abbrev pub stateAfter : Sponge → ℕ → List ℕ → List ℕ
+stateAfter s i seed = bytesAfter s i seed 32
+
+unfoldable pub shareAfter : Sponge → Parameters → ℕ → List ℕ → List ℕ → List ℕ
+shareAfter s p i st aux = cond (isLast p i) (bytesAfter s i (take 16 st) (8 * p .t) ++ aux) (bytesAfter s i (take 16 st) (shareLength p))
+
+unfoldable pub commitmentAfter : Sponge → Parameters → ℕ → List ℕ → List ℕ → List ℕ
+commitmentAfter s p i st aux = bytesAfter s i (st ++ cond (isLast p i) aux []) 32
