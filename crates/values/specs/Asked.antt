@@ -3,17 +3,15 @@
 -- ShareAsked p s d l          a share and the table of a position, and a position below t
 -- announcedAt p d s l out     out with α, β and γ of the share written to their places of position l
 -- ConstantsAsked, constantsAt p d l out   the same of the constants of α and β
--- AnnounceAsked               all that the announcement of a share at all positions takes
 use mathlib.Core.Path.{_≡_}
 use mathlib.Core.List.{List}
-use Prim.Native.Nat.{ℕ, _+_, _-_, _*_, _<_}
+use Prim.Native.Nat.{ℕ, _+_, _*_, _<_}
 use lib.ListN.{length}
 use Rattle.lists.specs.Part.{putAt}
 use Rattle.points.specs.Field.{bytesOf}
 use Rattle.parameters.specs.declared.Parameters.{Parameters}
 use Rattle.parameters.specs.Limits.{Within}
-use Rattle.exchange.specs.Layout.{shareLength, message2Length}
-use Rattle.lagrange.specs.AtPoint.{weightsOf}
+use Rattle.exchange.specs.Layout.{shareLength}
 use Rattle.coefficients.specs.Coefficients.{coefficientsLength}
 use Rattle.values.specs.Table.{alphaBy, betaBy, gammaBy, alphaConstantBy, betaConstantBy}
 pub mod Laws
@@ -38,13 +36,3 @@ pub record ConstantsAsked (p : Parameters) (d : List ℕ) (l : ℕ) (out : List 
 
 unfoldable pub constantsAt : Parameters → List ℕ → ℕ → List ℕ → List ℕ
 constantsAt p d l out = putAt (putAt out (4 * l) (bytesOf (alphaConstantBy p d))) (4 * p .t + 4 * l) (bytesOf (betaConstantBy p d))
-
-pub record AnnounceAsked (p : Parameters) (s m2 matrix y weights d out : List ℕ) : Type 0 where
-  pub within : Within p
-  pub sized-s : length s ≡ shareLength p
-  pub sized-m2 : length m2 ≡ message2Length p
-  pub sized-matrix : length matrix ≡ (p .m - p .k) * p .k
-  pub sized-y : length y ≡ p .m - p .k
-  pub weighted : weights ≡ weightsOf (p .m)
-  pub sized-d : length d ≡ coefficientsLength p
-  pub sized-out : length out ≡ 12 * p .t

@@ -3,15 +3,15 @@
 use parameters::Parameters;
 ghost use mathlib.Core.Path.{_≡_};
 ghost use mathlib.Core.Bool.{cond};
-ghost use Prim.Native.Nat.{_+_, _-_, _*_, _<_, _≤_};
+ghost use Prim.Native.Nat.{_*_, _<_, _≤_};
 ghost use lib.ListN.{length};
 ghost use Rattle.bytefield.specs.Tables.{logs, powers};
 ghost use Rattle.points.specs.Field.{point, bytesOf};
 ghost use Rattle.exchange.specs.Reading.{_⊠_, 𝟎};
-ghost use Rattle.coefficients.specs.Coefficients.{keyOf, coefficientsOf};
-ghost use Rattle.values.specs.Announced.{announcedOf, vOf};
+ghost use Rattle.coefficients.specs.Coefficients.{keyOf};
+ghost use Rattle.values.specs.Announced.{vOf};
 ghost use Rattle.values.specs.Table.{SumAsked, sumBy, alphaBy, betaBy, gammaBy};
-ghost use Rattle.values.specs.Asked.{ShareAsked, announcedAt, constantsAt, ConstantsAsked, AnnounceAsked};
+ghost use Rattle.values.specs.Asked.{ShareAsked, announcedAt, constantsAt, ConstantsAsked};
 ghost use Rattle.values.specs.Shares.{SharesAsked, EachAnnounced, EachAsked, EachGiven};
 
 // The n bytes of s from place from on, weighed by the points of the table from place i on, and the point of s at place at.
@@ -150,31 +150,6 @@ pub fn announce_each_at(
         a = e;
         b = f;
         i += 1;
-    }
-}
-
-// out becomes α, β and γ of the share s at all positions, without the constants. table holds a position's points.
-pub fn announce(
-    p: Parameters,
-    s: &[u8],
-    m2: &[u8],
-    matrix: &[u8],
-    y: &[u8],
-    weights: &[u8],
-    table: &mut [u8],
-    out: &mut [u8],
-    log: &[u8; 256],
-    pow: &[u8; 256],
-)
-    requires { ⌜ AnnounceAsked p (now s) (now m2) (now matrix) (now y) (now weights) (now table) (now out) × (now log ≡ logs) × (now pow ≡ powers) ⌝ }
-    ensures out { λ _. ⌜ now (out .exit) ≡ announcedOf p (keyOf (now (matrix .entry)) (now (y .entry))) (now (m2 .entry)) (now (s .entry)) ⌝ }
-    ensures table { λ _. ⌜ now (table .exit) ≡ coefficientsOf p (keyOf (now (matrix .entry)) (now (y .entry))) (now (m2 .entry)) (p .t - 1) ⌝ }
-{
-    let mut l = 0;
-    while l < p.t {
-        coefficients::coefficients_at(p, l, m2, matrix, y, weights, table, log, pow);
-        announce_at(p, s, table, l, out, log, pow);
-        l += 1;
     }
 }
 

@@ -1,0 +1,2 @@
+pub mod Auxiliary
+pub mod Asked
