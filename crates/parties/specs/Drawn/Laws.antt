@@ -1,0 +1,64 @@
+-- The laws of a leaf's share as hashed.
+--
+-- leaves-small         there are at most 256 leaves
+-- drawnLength-le       no leaf takes more than a whole share
+-- Front, drawn-front   the front of a buffer that a share was drawn into
+-- drawnShare-is        a drawn share is what layer 3 gives, in the leaf's length
+-- length-drawnShare, drawnShare-short   its length, which is at most that of a share
+use mathlib.Core.Path.{_≡_, refl}
+use mathlib.Core.Bool.{Bool, true, false, cond}
+use mathlib.Core.List.{List, [], _++_, append-nil}
+use Prim.Native.Nat.{ℕ, _*_, _≤_}
+use native.Mathlib.Omega.{arith}
+use lib.ListN.{length, take}
+use lib.Pow.{pow-mono}
+use lib.Seq.{length-take-le}
+use Rattle.shake256.specs.Fips.{SHAKE256}
+use Rattle.shake256.proofs.Laws.{length-SHAKE256}
+use Rattle.parameters.specs.declared.Parameters.{Parameters}
+use Rattle.parameters.specs.Limits.{Within}
+use Rattle.exchange.specs.Layout.{leaves, isLast, shareLength}
+use Rattle.exchange.specs.Layout.Laws.{leaves-is}
+use Rattle.exchange.specs.Strings.{string3}
+use Rattle.exchange.specs.Leaf.{share}
+use Rattle.parties.specs.Drawn.{stateAt, drawnLength, drawnShare}
+
+pub leaves-small : (p : Parameters) → Within p → leaves p ≤ 256
+leaves-small p h = rw (leaves-is p) (pow-mono (h .d-most))
+
+pub drawnLength-le : (p : Parameters) (i : ℕ) → drawnLength p i ≤ shareLength p
+unfolding drawnLength
+drawnLength-le p i = go (isLast p i)
+  where
+    go : (t : Bool) → cond t (8 * p .t) (shareLength p) ≤ shareLength p
+    go true = omega arith
+    go false = omega arith
+
+pub record Front (p : Parameters) (n : ℕ) (d : List ℕ) : Type 0 where
+  pub there : n ≤ length d
+  pub long : length (take n d) ≡ n
+  pub short : length (take n d) ≤ shareLength p
+
+pub drawn-front : (p : Parameters) (i n : ℕ) (d : List ℕ) → n ≡ drawnLength p i → shareLength p ≤ length d → Front p n d
+drawn-front p i n d e room =
+    let h = drawnLength-le p i in
+    let k : length (take n d) ≡ n = length-take-le n d (omega arith) in
+    record { there = omega arith; long = k; short = omega arith }
+
+module _ (p : Parameters) (prefix states : List ℕ) (i : ℕ) where
+  pub drawnShare-is : drawnShare p prefix states i ≡ SHAKE256 (string3 prefix i (take 16 (stateAt states i))) (drawnLength p i)
+  unfolding drawnShare share drawnLength
+  drawnShare-is = go (isLast p i)
+    where
+      bytes : ℕ → List ℕ
+      bytes n = SHAKE256 (string3 prefix i (take 16 (stateAt states i))) n
+
+      go : (t : Bool) → cond t (bytes (8 * p .t) ++ []) (bytes (shareLength p)) ≡ bytes (cond t (8 * p .t) (shareLength p))
+      go true = append-nil (bytes (8 * p .t))
+      go false = refl
+
+  pub length-drawnShare : length (drawnShare p prefix states i) ≡ drawnLength p i
+  length-drawnShare = rw drawnShare-is (length-SHAKE256 (string3 prefix i (take 16 (stateAt states i))) (drawnLength p i))
+
+pub drawnShare-short : (p : Parameters) (prefix states : List ℕ) (i : ℕ) → length (drawnShare p prefix states i) ≤ shareLength p
+drawnShare-short p prefix states i = omega (arith, length-drawnShare p prefix states i, drawnLength-le p i)

@@ -1,0 +1,5 @@
+pub mod Blocks
+pub mod Totals
+pub mod Drawn
+pub mod Sums
+pub mod Shapes
