@@ -1,0 +1,6 @@
+pub mod Announcing
+pub mod Difference
+pub mod Row
+pub mod Asked
+pub mod Slices
+pub mod Streamed
