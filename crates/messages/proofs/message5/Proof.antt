@@ -1,0 +1,61 @@
+-- The arrays have room for 256 states and the longest aux; y does not enter message 5.
+use mathlib.Core.Path.{sym, ap, _∙_}
+use Prim.Native.Nat.{ℕ, _*_}
+use native.Mathlib.Omega.{arith}
+use borrow.Author.Needs.{needs}
+use Rattle.lagrange.specs.Written.{front-length}
+use Rattle.leaves.specs.Shapes.Laws.{leaves-most}
+use Rattle.ownleaves.specs.Own.Laws.{aux-most}
+use Rattle.messages.specs.Opening.Laws.{message5-any}
+use Rattle.messages.proofs.message5.Statement.{statement}
+use Rattle.messages.proofs.message5.Tie as tie
+
+mul-size : tie.Need-mul-size
+mul-size c = let s = c .before .before .before .before .before .before .before .before .before in omega (arith, c .leaf-count .ensures, leaves-most (s .args .p) (s .pre .0 .within))
+
+array-borrow-prefix-states : tie.Need-array-borrow-prefix-states
+array-borrow-prefix-states c = let s = c .before .before .before .before .before .before .before .before .before .before .before in omega (arith, c .before .before .leaf-count .ensures, leaves-most (s .args .p) (s .pre .0 .within))
+
+slice-aggregate-put-message5 : tie.Need-slice-aggregate-put-message5
+slice-aggregate-put-message5 c =
+    let s = c .before .before .before .before .before .before .before .before .before .before .before .before in front-length _ _ (omega (arith, c .before .before .before .leaf-count .ensures, leaves-most (s .args .p) (s .pre .0 .within)))
+
+array-borrow-prefix-aux : tie.Need-array-borrow-prefix-aux
+array-borrow-prefix-aux c = let s = c .before .before .before .before .before .before .before .before .before .before .before .before in omega (arith, c .before .before .aux-length .ensures, aux-most (s .args .p) (s .pre .0 .within))
+
+slice-aggregate-put-message5-2 : tie.Need-slice-aggregate-put-message5-2
+slice-aggregate-put-message5-2 c =
+    let s = c .before .before .before .before .before .before .before .before .before .before .before .before .before in front-length _ _ (omega (arith, c .before .before .before .aux-length .ensures, aux-most (s .args .p) (s .pre .0 .within)))
+
+put-message5-requires : tie.Need-put-message5-requires
+put-message5-requires c κs =
+    let s = c .before .before .before .before .before .before .before .before .before .before .before .before .before .before in
+    let n = c .before .before .before .before .before .leaf-count .ensures in
+    let l = c .before .before .before .before .aux-length .ensures in (
+      s .pre .0,
+      record { m2-is = s .pre .1 .m2-is; is-leaf = s .pre .2; matrix-is = s .pre .1 .matrix-is; out-is = s .pre .3 },
+      sym (front-length _ _ (omega (arith, n, leaves-most (s .args .p) (s .pre .0 .within)))) ∙ ap (λ (n : ℕ). 32 * n) n,
+      sym (front-length _ _ (omega (arith, l, aux-most (s .args .p) (s .pre .0 .within)))) ∙ l,
+    )
+
+returns : tie.Need-returns
+returns c =
+    let a = c .before .before .before .before .before .before .before .before .before .before .before .before .before .before .before .before .before .before .before .before .before .args in
+    let made = c .before .before .before .before .before .before .put-message5 .ensures in
+    (made .0 ∙ message5-any (a .p) (a .x .now) (a .salt .now) (a .root .now) (a .matrix .now) (a .y .now) (a .m2 .now) (a .leaf), made .1)
+
+pub message5-spec : {M : Type 1} → statement M
+message5-spec =
+    tie.close
+    (tie.spec
+    (λ c κs. search needs)
+    mul-size
+    (λ c κs. search needs)
+    array-borrow-prefix-states
+    slice-aggregate-put-message5
+    array-borrow-prefix-aux
+    slice-aggregate-put-message5-2
+    put-message5-requires
+    (λ c. search needs)
+    (λ c. search needs)
+    returns)

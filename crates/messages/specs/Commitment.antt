@@ -1,0 +1,30 @@
+-- The laws of message 1.
+--
+-- commitment-made    the salt and the digest of all commitments, from the prover's states and aux: message 1
+-- front-behind       a list written at the front, and another one behind it
+use mathlib.Core.Path.{_≡_, ap, _∙_}
+use mathlib.Core.List.{List, [], _++_}
+use Prim.Native.Nat.{ℕ}
+use native.Mathlib.Nat.{le-refl}
+use lib.ListN.{length, take}
+use lib.Seq.{take-at}
+use Rattle.shake256.specs.Fips.{SHAKE256}
+use Rattle.lists.specs.Part.{putAt}
+use Rattle.parameters.specs.declared.Parameters.{Parameters}
+use Rattle.exchange.specs.Layout.{leaves}
+use Rattle.exchange.specs.Strings.{string5}
+use Rattle.exchange.specs.Messages.{ownAux, message1}
+use Rattle.leaves.specs.States.{stateAt}
+use Rattle.leaves.specs.Commitments.{commitmentsOf}
+use Rattle.leaves.specs.Commitments.Laws.{commitments-message1}
+use Rattle.ownleaves.specs.Own.{ownStates}
+use Rattle.ownleaves.specs.Own.Laws.{ownStates-at}
+
+pub commitment-made : (p : Parameters) (x salt root : List ℕ) → length root ≡ 16 → (states aux : List ℕ) → states ≡ ownStates p salt root → aux ≡ ownAux SHAKE256 p x salt root
+    → salt ++ SHAKE256 (string5 salt (commitmentsOf p salt states (leaves p) [] aux) (leaves p)) 32 ≡ message1 SHAKE256 p x salt root
+commitment-made p x salt root sixteen states aux es ea =
+    commitments-message1 p x salt root states (leaves p) [] aux (λ i h. ap (λ (st : List ℕ). stateAt st i) es ∙ ownStates-at p x salt root sixteen i h) ea (le-refl (leaves p))
+
+pub front-behind : (d d₁ a b : List ℕ) (n : ℕ) → length a ≡ n → d₁ ≡ putAt d 0 a → take n d₁ ++ b ≡ a ++ b
+unfolding putAt
+front-behind d d₁ a b n l e = ap (λ (z : List ℕ). take n z ++ b) e ∙ ap (λ (z : List ℕ). z ++ b) (take-at a _ n l)

@@ -1,0 +1,3 @@
+pub mod Asked
+pub mod Commitment
+pub mod Opening

@@ -1,0 +1,51 @@
+// Message 1: salt, and the digest h of all leaf commitments.
+use bytefield::log_table;
+use bytefield::power_table;
+use leaves::commitments::digest_commitments;
+use leaves::leaf_count;
+use lists::put_at;
+use ownleaves::own_leaves;
+use parameters::Parameters;
+ghost use mathlib.Core.Path.{_≡_};
+ghost use mathlib.Core.List.{[], _++_};
+ghost use Prim.Native.Nat.{_*_};
+ghost use lib.ListN.{length, replicate};
+ghost use Rattle.shake256.specs.Fips.{SHAKE256};
+ghost use Rattle.exchange.specs.Layout.{leaves, auxLength, workLength};
+ghost use Rattle.exchange.specs.Strings.{string5};
+ghost use Rattle.exchange.specs.Messages as spec;
+ghost use Rattle.leaves.specs.Commitments.{commitmentsOf};
+ghost use Rattle.ownleaves.specs.Asked.{Held};
+ghost use Rattle.messages.specs.Asked.{FirstAsked};
+
+// out becomes the salt and the digest of all commitments, from the states of all leaves and aux.
+fn put_commitment(p: Parameters, salt: &[u8], states: &[u8], aux: &[u8], out: &mut [u8])
+    requires { ⌜ FirstAsked p (now salt) (now states) (now out) ⌝ }
+    ensures { λ _. ⌜ now (out .exit) ≡ now (salt .entry) ++ SHAKE256 (string5 (now (salt .entry)) (commitmentsOf p (now (salt .entry)) (now (states .entry)) (leaves p) [] (now (aux .entry))) (leaves p)) 32 ⌝ }
+{
+    put_at(out, 0, salt);
+    let none = &salt[..0];
+    let n = leaf_count(p);
+    digest_commitments(p, salt, states, n, none, aux, &mut out[32..]);
+}
+
+// out becomes message 1, by way of the states of all leaves and aux, and the area ends as zeros.
+pub fn put_message1(
+    p: Parameters,
+    x: &[u8],
+    salt: &[u8],
+    root: &[u8],
+    area: &mut [u8],
+    states: &mut [u8],
+    aux: &mut [u8],
+    out: &mut [u8],
+)
+    requires { ⌜ Held p (now x) (now salt) (now root) (now area) × (length (now states) ≡ 32 * leaves p) × (length (now aux) ≡ auxLength p) × (length (now out) ≡ 64) ⌝ }
+    ensures { λ _. ⌜ (now (out .exit) ≡ spec.message1 SHAKE256 p (now (x .entry)) (now (salt .entry)) (now (root .entry)))
+        × (now (area .exit) ≡ replicate (workLength p) 0) ⌝ }
+{
+    let log = log_table();
+    let pow = power_table();
+    own_leaves(p, x, salt, root, area, states, aux, &log, &pow);
+    put_commitment(p, salt, states, aux, out);
+}

@@ -1,0 +1,99 @@
+// The prover's messages (document 01, Messages) from what its session holds. The work area that is lent ends as zeros.
+mod commitment;
+mod opening;
+
+use crate::commitment::put_message1;
+use crate::opening::put_message5;
+use layout::aux_length;
+use leaves::leaf_count;
+use ownleaves::LONGEST_AUX;
+use ownleaves::MOST_STATES;
+use parameters::Parameters;
+ghost use mathlib.Core.Path.{_≡_};
+ghost use Prim.Native.Nat.{_<_};
+ghost use lib.ListN.{length, replicate};
+ghost use Rattle.shake256.specs.Fips.{SHAKE256};
+ghost use Rattle.exchange.specs.Layout.{leaves, workLength, message5Length};
+ghost use Rattle.exchange.specs.Messages as spec;
+ghost use Rattle.coefficients.specs.Coefficients.{keyOf};
+ghost use Rattle.ownleaves.specs.Asked.{Held, Keyed};
+
+// out becomes message 1, and the area ends as zeros.
+pub fn message1(p: Parameters, x: &[u8], salt: &[u8], root: &[u8], area: &mut [u8], out: &mut [u8])
+    requires { ⌜ Held p (now x) (now salt) (now root) (now area) × (length (now out) ≡ 64) ⌝ }
+    ensures { λ _. ⌜ (now (out .exit) ≡ spec.message1 SHAKE256 p (now (x .entry)) (now (salt .entry)) (now (root .entry)))
+        × (now (area .exit) ≡ replicate (workLength p) 0) ⌝ }
+{
+    let mut states = [0u8; MOST_STATES];
+    let mut aux = [0u8; LONGEST_AUX];
+    let size = 32 * leaf_count(p);
+    let length = aux_length(p);
+    put_message1(
+        p,
+        x,
+        salt,
+        root,
+        area,
+        &mut states[..size],
+        &mut aux[..length],
+        out,
+    );
+}
+
+// out becomes message 3, and the area ends as zeros.
+pub fn message3(
+    p: Parameters,
+    x: &[u8],
+    salt: &[u8],
+    root: &[u8],
+    m2: &[u8],
+    matrix: &[u8],
+    y: &[u8],
+    area: &mut [u8],
+    out: &mut [u8],
+)
+    requires { ⌜ Held p (now x) (now salt) (now root) (now area) × Keyed p (now m2) (now matrix) (now y) × (length (now out) ≡ 32) ⌝ }
+    ensures { λ _. ⌜ (now (out .exit) ≡ spec.message3 SHAKE256 p (now (x .entry)) (now (salt .entry)) (now (root .entry))
+        (keyOf (now (matrix .entry)) (now (y .entry))) (now (m2 .entry)))
+        × (now (area .exit) ≡ replicate (workLength p) 0) ⌝ }
+{
+    response::message3(p, x, salt, root, m2, matrix, y, area, out);
+}
+
+// out becomes message 5 for the leaf, and the area ends as zeros. y, lent as at every call, does not enter.
+pub fn message5(
+    p: Parameters,
+    x: &[u8],
+    salt: &[u8],
+    root: &[u8],
+    m2: &[u8],
+    leaf: usize,
+    matrix: &[u8],
+    y: &[u8],
+    area: &mut [u8],
+    out: &mut [u8],
+)
+    requires { ⌜ Held p (now x) (now salt) (now root) (now area) × Keyed p (now m2) (now matrix) (now y)
+        × (leaf < leaves p) × (length (now out) ≡ message5Length p leaf) ⌝ }
+    ensures { λ _. ⌜ (now (out .exit) ≡ spec.message5 SHAKE256 p (now (x .entry)) (now (salt .entry)) (now (root .entry))
+        (keyOf (now (matrix .entry)) (now (y .entry))) (now (m2 .entry)) leaf)
+        × (now (area .exit) ≡ replicate (workLength p) 0) ⌝ }
+{
+    let mut states = [0u8; MOST_STATES];
+    let mut aux = [0u8; LONGEST_AUX];
+    let size = 32 * leaf_count(p);
+    let length = aux_length(p);
+    put_message5(
+        p,
+        x,
+        salt,
+        root,
+        m2,
+        leaf,
+        matrix,
+        area,
+        &mut states[..size],
+        &mut aux[..length],
+        out,
+    );
+}

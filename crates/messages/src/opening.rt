@@ -1,0 +1,219 @@
+// Message 5: the siblings of the leaf, what the leaf itself gives, and aux unless it is leaf n−1.
+use bytefield::log_table;
+use bytefield::power_table;
+use leafvalues::announce_leaf;
+use leaves::COMMITMENTS;
+use leaves::SHARES;
+use leaves::is_last;
+use leaves::leaf_commitment;
+use leaves::leaf_share;
+use lists::put_at;
+use ownleaves::own_leaves;
+use ownleaves::share_length;
+use parameters::Parameters;
+use seedtree::sibling_seeds;
+use strings::begin;
+ghost use mathlib.Core.Path.{_≡_};
+ghost use mathlib.Core.Bool.{cond};
+ghost use mathlib.Core.List.{[], _++_};
+ghost use Prim.Native.Nat.{_+_, _*_, _<_};
+ghost use lib.ListN.{length, replicate, take};
+ghost use Rattle.bytefield.specs.Tables.{logs, powers};
+ghost use Rattle.shake256.specs.Fips.{SHAKE256};
+ghost use Rattle.parameters.specs.Limits.{Within};
+ghost use Rattle.exchange.specs.Layout.{leaves, isLast, auxLength, shareLength, workLength};
+ghost use Rattle.exchange.specs.Leaf.{share, commitment};
+ghost use Rattle.exchange.specs.Messages.{message5};
+ghost use Rattle.coefficients.specs.Coefficients.{keyOf};
+ghost use Rattle.leafvalues.specs.Leaf.{leafValues};
+ghost use Rattle.messages.specs.Opening.{leafBytes, openingOf};
+ghost use Rattle.ownleaves.specs.Asked.{Held};
+ghost use Rattle.messages.specs.Asked.{LeafAsked, OpeningAsked, LastAsked};
+
+// The length of the longest share: 12t + k + 2w at t 8, k 254, w 255.
+const LONGEST_SHARE: usize = 860;
+
+// out becomes the leaf's commitment, from its state.
+fn put_leaf_commitment(
+    p: Parameters,
+    salt: &[u8],
+    leaf: usize,
+    state: &[u8],
+    aux: &[u8],
+    out: &mut [u8],
+)
+    requires { ⌜ Within p × (leaf < 256) × (length (now out) ≡ 32) ⌝ }
+    ensures { λ _. ⌜ now (out .exit) ≡ commitment SHAKE256 p (now (salt .entry)) leaf (now (state .entry)) (now (aux .entry)) ⌝ }
+{
+    leaf_commitment(begin(COMMITMENTS, salt), p, leaf, state, aux, out);
+}
+
+// out becomes α and β of the leaf, by way of its share.
+fn values_by(
+    p: Parameters,
+    salt: &[u8],
+    m2: &[u8],
+    leaf: usize,
+    matrix: &[u8],
+    state: &[u8],
+    aux: &[u8],
+    own: &mut [u8],
+    out: &mut [u8],
+    log: &[u8; 256],
+    pow: &[u8; 256],
+)
+    requires { ⌜ LeafAsked p (now m2) leaf (now matrix) (now state) (now aux) × (length (now own) ≡ shareLength p) × (length (now out) ≡ 8 * p .t) × (now log ≡ logs) × (now pow ≡ powers) ⌝ }
+    ensures { λ _. ⌜ now (out .exit) ≡ leafValues p (now (matrix .entry)) (now (m2 .entry)) (share SHAKE256 p (now (salt .entry)) leaf (now (state .entry)) (now (aux .entry))) ⌝ }
+{
+    leaf_share(begin(SHARES, salt), p, leaf, state, aux, own);
+    announce_leaf(p, own, m2, matrix, out, log, pow);
+}
+
+// out becomes α and β of the leaf, from its state.
+fn put_values(
+    p: Parameters,
+    salt: &[u8],
+    m2: &[u8],
+    leaf: usize,
+    matrix: &[u8],
+    state: &[u8],
+    aux: &[u8],
+    out: &mut [u8],
+    log: &[u8; 256],
+    pow: &[u8; 256],
+)
+    requires { ⌜ LeafAsked p (now m2) leaf (now matrix) (now state) (now aux) × (length (now out) ≡ 8 * p .t) × (now log ≡ logs) × (now pow ≡ powers) ⌝ }
+    ensures { λ _. ⌜ now (out .exit) ≡ leafValues p (now (matrix .entry)) (now (m2 .entry)) (share SHAKE256 p (now (salt .entry)) leaf (now (state .entry)) (now (aux .entry))) ⌝ }
+{
+    let mut own = [0u8; LONGEST_SHARE];
+    let size = share_length(p);
+    values_by(
+        p,
+        salt,
+        m2,
+        leaf,
+        matrix,
+        state,
+        aux,
+        &mut own[..size],
+        out,
+        log,
+        pow,
+    );
+}
+
+// out becomes what the leaf itself gives: its commitment, its α and its β.
+fn put_leaf(
+    p: Parameters,
+    salt: &[u8],
+    m2: &[u8],
+    leaf: usize,
+    matrix: &[u8],
+    state: &[u8],
+    aux: &[u8],
+    out: &mut [u8],
+    log: &[u8; 256],
+    pow: &[u8; 256],
+)
+    requires { ⌜ LeafAsked p (now m2) leaf (now matrix) (now state) (now aux) × (length (now out) ≡ 32 + 8 * p .t) × (now log ≡ logs) × (now pow ≡ powers) ⌝ }
+    ensures { λ _. ⌜ now (out .exit) ≡ leafBytes p (now (salt .entry)) (now (m2 .entry)) leaf (now (matrix .entry)) (now (state .entry)) (now (aux .entry)) ⌝ }
+{
+    put_leaf_commitment(p, salt, leaf, state, aux, &mut out[..32]);
+    put_values(
+        p,
+        salt,
+        m2,
+        leaf,
+        matrix,
+        state,
+        aux,
+        &mut out[32..],
+        log,
+        pow,
+    );
+}
+
+// aux goes to index `at` of out, unless the leaf is leaf n−1.
+fn put_aux(p: Parameters, leaf: usize, aux: &[u8], at: usize, out: &mut [u8])
+    requires { ⌜ Within p × (length (now out) ≡ at + cond (isLast p leaf) 0 (length (now aux))) ⌝ }
+    ensures { λ _. ⌜ now (out .exit) ≡ take at (now (out .entry)) ++ cond (isLast p leaf) [] (now (aux .entry)) ⌝ }
+{
+    if is_last(p, leaf) {
+        return;
+    }
+    put_at(out, at, aux);
+}
+
+// out becomes the siblings of the leaf, what the leaf itself gives, and aux unless it is leaf n−1, from the leaf's state.
+fn put_opening(
+    p: Parameters,
+    salt: &[u8],
+    root: &[u8],
+    m2: &[u8],
+    leaf: usize,
+    matrix: &[u8],
+    state: &[u8],
+    aux: &[u8],
+    out: &mut [u8],
+    log: &[u8; 256],
+    pow: &[u8; 256],
+)
+    requires { ⌜ OpeningAsked p (now root) (now m2) leaf (now matrix) (now state) (now aux) (now out) × (now log ≡ logs) × (now pow ≡ powers) ⌝ }
+    ensures { λ _. ⌜ now (out .exit) ≡ openingOf p (now (salt .entry)) (now (root .entry)) (now (m2 .entry)) leaf (now (matrix .entry)) (now (state .entry)) (now (aux .entry)) ⌝ }
+{
+    let d = p.d;
+    let a = 16 * d;
+    let e = a + (32 + 8 * p.t);
+    sibling_seeds(salt, d, root, leaf, &mut out[..a]);
+    put_leaf(
+        p,
+        salt,
+        m2,
+        leaf,
+        matrix,
+        state,
+        aux,
+        &mut out[a..e],
+        log,
+        pow,
+    );
+    put_aux(p, leaf, aux, e, out);
+}
+
+// out becomes message 5 for the leaf, by way of the states of all leaves and aux, and the area ends as zeros.
+pub fn put_message5(
+    p: Parameters,
+    x: &[u8],
+    salt: &[u8],
+    root: &[u8],
+    m2: &[u8],
+    leaf: usize,
+    matrix: &[u8],
+    area: &mut [u8],
+    states: &mut [u8],
+    aux: &mut [u8],
+    out: &mut [u8],
+)
+    requires { ⌜ Held p (now x) (now salt) (now root) (now area) × LastAsked p (now m2) leaf (now matrix) (now out)
+        × (length (now states) ≡ 32 * leaves p) × (length (now aux) ≡ auxLength p) ⌝ }
+    ensures { λ _. ⌜ (now (out .exit) ≡ message5 SHAKE256 p (now (x .entry)) (now (salt .entry)) (now (root .entry)) (keyOf (now (matrix .entry)) []) (now (m2 .entry)) leaf)
+        × (now (area .exit) ≡ replicate (workLength p) 0) ⌝ }
+{
+    let log = log_table();
+    let pow = power_table();
+    own_leaves(p, x, salt, root, area, states, aux, &log, &pow);
+    let at = 32 * leaf;
+    put_opening(
+        p,
+        salt,
+        root,
+        m2,
+        leaf,
+        matrix,
+        &states[at..at + 32],
+        aux,
+        out,
+        &log,
+        &pow,
+    );
+}

@@ -1,0 +1,19 @@
+-- The sum of all shares as hashed, and from it aux.
+use mathlib.Core.Path.{ap, _∙_}
+use borrow.Author.Needs.{needs}
+use Rattle.auxiliary.specs.Auxiliary.{auxFor}
+use Rattle.ownleaves.proofs.aux_by.Statement.{statement}
+use Rattle.ownleaves.proofs.aux_by.Tie as tie
+
+returns : tie.Need-returns
+returns c = let s = c .before .before .before .before .before .before .before .before .before .before .before .before .before .before in c .before .before .aux .ensures ∙ ap (auxFor (s .args .p) (s .args .x .now)) (c .before .before .before .before .before .before .before .share-sum .ensures)
+
+pub aux-by-spec : {M : Type 1} → statement M
+aux-by-spec =
+    tie.close
+    (tie.spec
+    (λ c κs. search needs)
+    (λ c κs. search needs)
+    (λ c. search needs)
+    (λ c. search needs)
+    returns)

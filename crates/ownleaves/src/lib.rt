@@ -1,0 +1,97 @@
+// What the prover has of its leaves: all states, and aux.
+use layout::aux_length;
+use leaves::leaf_count;
+use leaves::states::leaf_states;
+use lists::zero_front;
+use parameters::Parameters;
+use parties::share_sum;
+use seedtree::leaf_seeds;
+ghost use mathlib.Core.Path.{_≡_};
+ghost use Prim.Native.Nat.{_*_};
+ghost use lib.ListN.{length, replicate};
+ghost use Rattle.bytefield.specs.Tables.{logs, powers};
+ghost use Rattle.shake256.specs.Fips.{SHAKE256};
+ghost use Rattle.parameters.specs.Limits.{Within};
+ghost use Rattle.exchange.specs.Layout as spec;
+ghost use Rattle.exchange.specs.Messages.{ownAux};
+ghost use Rattle.auxiliary.specs.Auxiliary.{auxFor};
+ghost use Rattle.ownleaves.specs.Own.{ownStates, sumOf};
+ghost use Rattle.ownleaves.specs.Asked.{Held, StatesAsked, SumAsked};
+
+// The states of 256 leaves.
+pub const MOST_STATES: usize = 8192;
+
+// The longest aux: k + 2w + 4t at k 254, w 255, t 8.
+pub const LONGEST_AUX: usize = 796;
+
+// The seeds of 256 leaves.
+const MOST_SEEDS: usize = 4096;
+
+// Fills `states` with the states of all leaves, by way of their seeds.
+fn states_by(p: Parameters, salt: &[u8], root: &[u8], seeds: &mut [u8], states: &mut [u8])
+    requires { ⌜ StatesAsked p (now root) (now states) × (length (now seeds) ≡ 16 * spec.leaves p) ⌝ }
+    ensures { λ _. ⌜ now (states .exit) ≡ ownStates p (now (salt .entry)) (now (root .entry)) ⌝ }
+{
+    leaf_seeds(salt, p.d, root, seeds);
+    leaf_states(salt, leaf_count(p), seeds, states);
+}
+
+// Fills `states` with the states of all leaves, from the root's seed.
+pub fn own_states(p: Parameters, salt: &[u8], root: &[u8], states: &mut [u8])
+    requires { ⌜ StatesAsked p (now root) (now states) ⌝ }
+    ensures { λ _. ⌜ now (states .exit) ≡ ownStates p (now (salt .entry)) (now (root .entry)) ⌝ }
+{
+    let mut seeds = [0u8; MOST_SEEDS];
+    let size = 16 * leaf_count(p);
+    states_by(p, salt, root, &mut seeds[..size], states);
+}
+
+// Fills aux with aux for the vector x, by way of the sum of all shares as hashed.
+fn aux_by(
+    p: Parameters,
+    x: &[u8],
+    salt: &[u8],
+    states: &[u8],
+    sum: &mut [u8],
+    aux: &mut [u8],
+    log: &[u8; 256],
+    pow: &[u8; 256],
+)
+    requires { ⌜ SumAsked p (now x) (now states) (now sum) (now aux) × (now log ≡ logs) × (now pow ≡ powers) ⌝ }
+    ensures { λ _. ⌜ now (aux .exit) ≡ auxFor p (now (x .entry)) (sumOf p (now (salt .entry)) (now (states .entry))) ⌝ }
+{
+    share_sum(p, salt, states, sum);
+    auxiliary::aux(p, x, sum, aux, log, pow);
+}
+
+// Fills `states` with the states of all leaves and aux with aux; the area ends as zeros.
+pub fn own_leaves(
+    p: Parameters,
+    x: &[u8],
+    salt: &[u8],
+    root: &[u8],
+    area: &mut [u8],
+    states: &mut [u8],
+    aux: &mut [u8],
+    log: &[u8; 256],
+    pow: &[u8; 256],
+)
+    requires { ⌜ Held p (now x) (now salt) (now root) (now area) × (length (now states) ≡ 32 * spec.leaves p) × (length (now aux) ≡ spec.auxLength p) × (now log ≡ logs) × (now pow ≡ powers) ⌝ }
+    ensures { λ _. ⌜ (now (states .exit) ≡ ownStates p (now (salt .entry)) (now (root .entry)))
+        × (now (aux .exit) ≡ ownAux SHAKE256 p (now (x .entry)) (now (salt .entry)) (now (root .entry)))
+        × (now (area .exit) ≡ replicate (spec.workLength p) 0) ⌝ }
+{
+    own_states(p, salt, root, states);
+    let size = share_length(p);
+    aux_by(p, x, salt, states, &mut area[..size], aux, log, pow);
+    let all = area.len();
+    zero_front(area, all);
+}
+
+// The length of a share.
+pub fn share_length(p: Parameters) -> usize
+    requires { ⌜ Within p ⌝ }
+    ensures { λ r. ⌜ r ≡ spec.shareLength p ⌝ }
+{
+    8 * p.t + aux_length(p)
+}

@@ -1,0 +1,67 @@
+-- Aux is made from the part behind the first parties, and added into that part past its a and b.
+use mathlib.Core.Path.{ap, _∙_}
+use Prim.Native.Nat.{ℕ, _+_, _*_}
+use native.Mathlib.Omega.{arith}
+use borrow.Author.Needs.{needs}
+use Rattle.lists.specs.Part.{part}
+use Rattle.lists.specs.Sum.{xorAt}
+use Rattle.seedtree.proofs.Lent.{lent-part}
+use Rattle.auxiliary.specs.Auxiliary.{auxFor}
+use Rattle.response.specs.Response.Laws.{total-fits}
+use Rattle.response.proofs.filled.add_aux.Statement.{statement}
+use Rattle.response.proofs.filled.add_aux.Tie as tie
+
+mul-at : tie.Need-mul-at
+mul-at c = let s = c .before .before .before .before .before in let f = total-fits (s .args .p) (s .pre .0 .within) _ (c .before .share-length .ensures) in omega (arith, f .0, f .1)
+
+add-aux : tie.Need-add-aux
+add-aux c = let s = c .before .before .before .before .before in let f = total-fits (s .args .p) (s .pre .0 .within) _ (c .before .share-length .ensures) in omega (arith, f .0, f .1)
+
+part-aux-end : tie.Need-part-aux-end
+part-aux-end c =
+    let s = c .before .before .before .before .before .before in
+    let f = total-fits (s .args .p) (s .pre .0 .within) _ (c .before .before .share-length .ensures) in
+    omega (arith, f .0, s .pre .0 .area-is)
+
+add-xor-at : tie.Need-add-xor-at
+add-xor-at c =
+    let s = c .before .before .before .before .before .before .before .before .before .before .before .before .before in
+    let e = c .before .before .before .before .before .before .before .before .before .share-length .ensures in
+    let f = total-fits (s .args .p) (s .pre .0 .within) _ e in
+    omega (arith, f .0, f .1, e)
+
+xor-at-requires : tie.Need-xor-at-requires
+xor-at-requires c κs =
+    let s = c .before .before .before .before .before .before .before .before .before .before .before .before .before .before in
+    let e = c .before .before .before .before .before .before .before .before .before .before .share-length .ensures in
+    let f = total-fits (s .args .p) (s .pre .0 .within) _ e in
+    omega (arith, f .0, e, s .pre .0 .area-is, s .pre .0 .aux-is, c .before .before .before .before .before .aux .kept .1 .1 .1 .0)
+
+returns : tie.Need-returns
+returns c =
+    let s = c .before .before .before .before .before .before .before .before .before .before .before .before .before .before .before .before .before in
+    let a = s .args in
+    let e = c .before .before .before .before .before .before .before .before .before .before .before .before .before .share-length .ensures in
+    let size : ℕ = c .before .before .before .before .before .before .before .before .before .before .before .before .before .share-length .result in (
+      c .before .before .before .before .before .before .before .before .aux .ensures
+          ∙ ap (auxFor (a .p) (a .x .now)) (lent-part (a .area .now) (a .p .d * size) size ∙ ap (λ (n : ℕ). part (a .area .now) (a .p .d * n) n) e),
+      c .before .before .xor-at .ensures ∙ ap (λ (n : ℕ). xorAt (a .area .now) (a .p .d * n + 8 * a .p .t) (c .before .before .before .before .before .before .before .before .aux .last .1 .1 .1 .0)) e,
+    )
+
+pub add-aux-spec : {M : Type 1} → statement M
+add-aux-spec =
+    tie.close
+    (tie.spec
+    (λ c κs. search needs)
+    mul-at
+    add-aux
+    (λ c. search needs)
+    (λ c. search needs)
+    part-aux-end
+    (λ c κs. search needs)
+    (λ c. search needs)
+    add-xor-at
+    xor-at-requires
+    (λ c. search needs)
+    (λ c. search needs)
+    returns)

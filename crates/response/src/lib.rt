@@ -1,0 +1,126 @@
+// Message 3: the digest h' of what the parties of all axes announce.
+mod filled;
+
+use crate::filled::fill;
+use axes::axis_rows;
+use axes::response_digest;
+use bytefield::log_table;
+use bytefield::power_table;
+use leaves::leaf_count;
+use lists::zero_front;
+use ownleaves::share_length;
+use parameters::Parameters;
+ghost use mathlib.Core.Path.{_≡_};
+ghost use Prim.Native.Nat.{_*_};
+ghost use lib.ListN.{length, replicate};
+ghost use Rattle.bytefield.specs.Tables.{logs, powers};
+ghost use Rattle.shake256.specs.Fips.{SHAKE256};
+ghost use Rattle.exchange.specs.Layout.{workLength};
+ghost use Rattle.exchange.specs.Messages as spec;
+ghost use Rattle.coefficients.specs.Coefficients.{keyOf};
+ghost use Rattle.ownleaves.specs.Asked.{Held, Keyed};
+ghost use Rattle.response.specs.Response.{responseOf};
+ghost use Rattle.response.specs.Asked.{RespondAsked};
+
+// The rows of all axes: 24t bytes each, at D 8, t 8.
+const MOST_ROWS: usize = 1536;
+
+// out becomes h', by way of the rows of all axes, from the first parties' sums and the total. No leaf is hidden, so what
+// `hidden` holds does not enter.
+fn respond(
+    p: Parameters,
+    salt: &[u8],
+    m2: &[u8],
+    matrix: &[u8],
+    y: &[u8],
+    parts: &[u8],
+    hidden: &[u8],
+    rows: &mut [u8],
+    out: &mut [u8],
+    log: &[u8; 256],
+    pow: &[u8; 256],
+)
+    requires { ⌜ RespondAsked p (now m2) (now matrix) (now y) (now parts) (now hidden) (now rows) × (length (now out) ≡ 32) × (now log ≡ logs) × (now pow ≡ powers) ⌝ }
+    ensures { λ _. ⌜ now (out .exit) ≡ responseOf p (now (salt .entry)) (keyOf (now (matrix .entry)) (now (y .entry))) (now (m2 .entry)) (now (parts .entry)) (now (hidden .entry)) ⌝ }
+{
+    let n = leaf_count(p);
+    axis_rows(p, parts, m2, matrix, y, n, hidden, rows, log, pow);
+    response_digest(p, salt, rows, out);
+}
+
+// out becomes message 3, by way of the rows of all axes, and the area ends as zeros.
+fn put_message3(
+    p: Parameters,
+    x: &[u8],
+    salt: &[u8],
+    root: &[u8],
+    m2: &[u8],
+    matrix: &[u8],
+    y: &[u8],
+    area: &mut [u8],
+    hidden: &[u8],
+    rows: &mut [u8],
+    out: &mut [u8],
+)
+    requires { ⌜ Held p (now x) (now salt) (now root) (now area) × Keyed p (now m2) (now matrix) (now y)
+        × (length (now hidden) ≡ 8 * p .t) × (length (now rows) ≡ p .d * (24 * p .t)) × (length (now out) ≡ 32) ⌝ }
+    ensures { λ _. ⌜ (now (out .exit) ≡ spec.message3 SHAKE256 p (now (x .entry)) (now (salt .entry)) (now (root .entry))
+        (keyOf (now (matrix .entry)) (now (y .entry))) (now (m2 .entry)))
+        × (now (area .exit) ≡ replicate (workLength p) 0) ⌝ }
+{
+    let log = log_table();
+    let pow = power_table();
+    fill(p, x, salt, root, area, &log, &pow);
+    let end = (p.d + 1) * share_length(p);
+    respond(
+        p,
+        salt,
+        m2,
+        matrix,
+        y,
+        &area[..end],
+        hidden,
+        rows,
+        out,
+        &log,
+        &pow,
+    );
+    let all = area.len();
+    zero_front(area, all);
+}
+
+// out becomes message 3, and the area ends as zeros.
+pub fn message3(
+    p: Parameters,
+    x: &[u8],
+    salt: &[u8],
+    root: &[u8],
+    m2: &[u8],
+    matrix: &[u8],
+    y: &[u8],
+    area: &mut [u8],
+    out: &mut [u8],
+)
+    requires { ⌜ Held p (now x) (now salt) (now root) (now area) × Keyed p (now m2) (now matrix) (now y) × (length (now out) ≡ 32) ⌝ }
+    ensures { λ _. ⌜ (now (out .exit) ≡ spec.message3 SHAKE256 p (now (x .entry)) (now (salt .entry)) (now (root .entry))
+        (keyOf (now (matrix .entry)) (now (y .entry))) (now (m2 .entry)))
+        × (now (area .exit) ≡ replicate (workLength p) 0) ⌝ }
+{
+    let hidden = [0u8; 64];
+    let mut rows = [0u8; MOST_ROWS];
+    let values = 8 * p.t;
+    let size = p.d * (24 * p.t);
+    put_message3(
+        p,
+        x,
+        salt,
+        root,
+        m2,
+        matrix,
+        y,
+        area,
+        &hidden[..values],
+        &mut rows[..size],
+        out,
+    );
+}
