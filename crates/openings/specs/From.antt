@@ -1,0 +1,53 @@
+-- What each step makes from what it is lent.
+--
+-- statesFrom p pre leaf s          the states of all leaves, from the sibling seeds s of the hidden leaf
+-- digestFrom p pre leaf m5 st n    n bytes of the digest of all commitments, from the states st and message 5
+-- announcedFrom p key m2 area leaf m5   what the parties of every axis announce, from the sums in the front of the work area
+-- rowsFrom p key pre m2 st leaf m5      the same, from the states st
+-- responseFrom p pre rows n        n bytes of the digest of what the parties of every axis announce
+-- judged p m1 m3 leaf m5 st rows   the answer, from the comparisons of the two digests with messages 1 and 3
+use mathlib.Core.List.{List, [], _∷_}
+use Prim.Native.Nat.{ℕ, _+_, _*_}
+use lib.ListN.{take, drop}
+use Rattle.shake256.specs.Fips.{SHAKE256}
+use Rattle.lists.specs.Equal.{eqList}
+use Rattle.answers.specs.declared.Answer.{Answer}
+use Rattle.answers.specs.declared.Refusal.the-variants.{Commitment, Response}
+use Rattle.answers.specs.Checks.{checks}
+use Rattle.parameters.specs.declared.Parameters.{Parameters}
+use Rattle.exchange.specs.Layout.{leaves, shareLength}
+use Rattle.exchange.specs.Sequences.{joined}
+use Rattle.exchange.specs.Strings.{string5}
+use Rattle.exchange.specs.Tree.{openedSeeds}
+use Rattle.exchange.specs.Values.{Key}
+use Rattle.seedtree.specs.Laid.{laid}
+use Rattle.leaves.specs.States.{statesOf}
+use Rattle.leaves.specs.Commitments.{commitmentsOf}
+use Rattle.parties.specs.Sums.Front.{filled}
+use Rattle.axes.specs.Announcing.{rowOf}
+use Rattle.axes.specs.Announcing.Strings.{rowsString}
+use Rattle.openings.specs.Message5.{commitmentIn, valuesIn, auxIn}
+
+unfoldable pub statesFrom : Parameters → List ℕ → ℕ → List ℕ → List ℕ
+statesFrom p prefix leaf siblings = statesOf prefix (laid (openedSeeds SHAKE256 prefix (p .d) 1 leaf siblings)) (leaves p)
+
+unfoldable pub digestFrom : Parameters → List ℕ → ℕ → List ℕ → List ℕ → ℕ → List ℕ
+digestFrom p prefix leaf m5 states n =
+    SHAKE256 (string5 prefix (commitmentsOf p prefix states leaf (commitmentIn p m5) (auxIn p m5)) (leaves p)) n
+
+unfoldable pub announcedFrom : Parameters → Key → List ℕ → List ℕ → ℕ → List ℕ → List ℕ
+announcedFrom p key m2 area leaf m5 = joined (rowOf p key m2 (take ((p .d + 1) * shareLength p) area) leaf (valuesIn p m5)) (p .d)
+
+unfoldable pub rowsFrom : Parameters → Key → List ℕ → List ℕ → List ℕ → ℕ → List ℕ → List ℕ
+rowsFrom p key prefix m2 states leaf m5 = announcedFrom p key m2 (filled p prefix states leaf (auxIn p m5)) leaf m5
+
+unfoldable pub responseFrom : Parameters → List ℕ → List ℕ → ℕ → List ℕ
+responseFrom p prefix rows n = SHAKE256 (rowsString SHAKE256 p prefix rows) n
+
+unfoldable pub judged : Parameters → List ℕ → List ℕ → ℕ → List ℕ → List ℕ → List ℕ → Answer
+judged p m1 m3 leaf m5 states rows =
+    checks (
+    (eqList (digestFrom p (take 32 m1) leaf m5 states 32) (drop 32 m1), Commitment)
+    ∷ (eqList (responseFrom p (take 32 m1) rows 32) m3, Response)
+    ∷ []
+    )

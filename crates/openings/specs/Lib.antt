@@ -1,0 +1,5 @@
+pub mod Message5
+pub mod From
+pub mod Opened
+pub mod Asked
+pub mod Checked

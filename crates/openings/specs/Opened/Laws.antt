@@ -1,0 +1,62 @@
+-- The laws of what an opening gives.
+--
+-- opened-state         the state of a disclosed leaf
+-- length-openedRow, length-openedRows, row-opened   a row has 24t bytes, and row j is found at its place
+-- row-string           layer 6's string of an axis, from its row
+-- rows-string          layer 7's string, from the rows
+use mathlib.Core.Path.{_≡_, refl, ap, _∙_}
+use mathlib.Core.List.{List, _∷_}
+use Prim.Native.Nat.{ℕ, _+_, _*_, _<_}
+use native.Mathlib.Omega.{arith}
+use lib.ListN.{length}
+use Rattle.shake256.specs.Fips.{SHAKE256}
+use Rattle.lists.specs.Part.{part}
+use Rattle.parameters.specs.declared.Parameters.{Parameters}
+use Rattle.exchange.specs.Layout.{side, leaves, message5Length}
+use Rattle.exchange.specs.Layout.Laws.{side-is}
+use Rattle.exchange.specs.Sequences.Laws.{joined-ext, length-joined}
+use Rattle.exchange.specs.Strings.{string, string6, string7}
+use Rattle.exchange.specs.Values.{Key}
+use Rattle.exchange.specs.Parties.{announcedBytes, axisString}
+use Rattle.exchange.specs.Parties.Laws.{length-announcedBytes}
+use Rattle.exchange.specs.Opening.{Exchange, openedState, announced, responseString}
+use Rattle.leaves.specs.States.{stateAt}
+use Rattle.leaves.specs.States.Seeds.{opened-states}
+use Rattle.parties.specs.Blocks.{part-joined}
+use Rattle.axes.specs.Announcing.Strings.{rowString, rowsString}
+use Rattle.openings.specs.Message5.Laws.{aux-inside}
+use Rattle.openings.specs.From.{statesFrom}
+use Rattle.openings.specs.Opened.{openedStates, openedRow, openedRows}
+
+pub opened-state : (p : Parameters) (e : Exchange) → e .leaf < leaves p → length (e .message5) ≡ message5Length p (e .leaf)
+    → (i : ℕ) → i < leaves p → (i ≡ e .leaf → ⊥) → stateAt (openedStates p e) i ≡ openedState SHAKE256 p e i
+unfolding openedStates statesFrom
+opened-state p e below long i h other =
+    let k = aux-inside p (e .leaf) (e .message5) long in
+    opened-states p e below (omega arith) i h other
+
+module _ (p : Parameters) (e : Exchange) (key : Key) where
+  pub length-openedRow : (j : ℕ) → length (openedRow p e key j) ≡ 24 * p .t
+  unfolding openedRow
+  length-openedRow j =
+      length-joined (announcedBytes p (announced SHAKE256 p e key j)) (side p) (12 * p .t) (λ c h. length-announcedBytes p _ c)
+      ∙ ap (λ (n : ℕ). n * (12 * p .t)) (side-is p) ∙ omega arith
+
+  pub length-openedRows : length (openedRows p e key) ≡ p .d * (24 * p .t)
+  unfolding openedRows
+  length-openedRows = length-joined (openedRow p e key) (p .d) (24 * p .t) (λ j h. length-openedRow j)
+
+  pub row-opened : (j : ℕ) → j < p .d → part (openedRows p e key) (j * (24 * p .t)) (24 * p .t) ≡ openedRow p e key j
+  unfolding openedRows
+  row-opened j h = part-joined (openedRow p e key) (24 * p .t) (p .d) (λ j h. length-openedRow j) j h
+
+  pub row-string : (j : ℕ) → string 6 (e .prefix) ((j + 1) ∷ openedRow p e key j) ≡ axisString p (e .prefix) j (announced SHAKE256 p e key j)
+  unfolding openedRow axisString string6
+  row-string j = refl
+
+  pub rows-string : rowsString SHAKE256 p (e .prefix) (openedRows p e key) ≡ responseString SHAKE256 p e key
+  unfolding responseString string7
+  rows-string =
+      ap (string 7 (e .prefix))
+      (joined-ext (λ j. SHAKE256 (rowString p (e .prefix) (openedRows p e key) j) 32) (λ j. SHAKE256 (axisString p (e .prefix) j (announced SHAKE256 p e key j)) 32) (p .d)
+      (λ j h. ap (λ (s : List ℕ). SHAKE256 s 32) (ap (λ (r : List ℕ). string 6 (e .prefix) ((j + 1) ∷ r)) (row-opened j h) ∙ row-string j)))
