@@ -1,0 +1,25 @@
+-- Both commitments are made, then compared.
+use mathlib.Core.Path.{ap₂, _∙_}
+use borrow.Author.Needs.{needs}
+use Rattle.lists.specs.Equal.{eqList}
+use Rattle.comparison.proofs.commitments.same_commitment.Statement.{statement}
+use Rattle.comparison.proofs.commitments.same_commitment.Tie as tie
+
+returns : tie.Need-returns
+returns c prefix b =
+    let second = c .before .before .before .before in
+    let first = second .before .before .before in
+    c .equal .ensures ∙ ap₂ eqList (first .commitment-at .ensures prefix b) (second .commitment-at2 .ensures prefix b)
+
+pub same-commitment-spec : {M : Type 1} → statement M
+same-commitment-spec =
+    tie.close
+    (tie.spec
+    (λ c. search needs)
+    (λ c κs. search needs)
+    (λ c. search needs)
+    (λ c κs. search needs)
+    (λ c. search needs)
+    (λ c. search needs)
+    (λ c κs. search needs)
+    returns)

@@ -1,0 +1,5 @@
+pub mod Head
+pub mod Chain
+pub mod Comparison
+pub mod Output
+pub mod Shapes

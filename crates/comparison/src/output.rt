@@ -1,0 +1,44 @@
+// The output: every leaf's state, then aux, each from the opening that discloses it.
+use leaves::is_last;
+use leaves::leaf_count;
+use lists::put_at;
+use parameters::Parameters;
+ghost use mathlib.Core.Path.{_≡_};
+ghost use Rattle.exchange.specs.Layout.{leaves};
+ghost use Rattle.comparison.specs.Comparison.{outputOf};
+ghost use Rattle.comparison.specs.Output.{placed};
+ghost use Rattle.comparison.specs.Shapes.{Placed, Output};
+
+// Writes the states of all leaves to out: the first opening's, over them that of the leaf which it hides.
+fn put_states(p: Parameters, first: usize, states: &[u8], others: &[u8], out: &mut [u8])
+    requires { ⌜ Placed p first (now states) (now others) (now out) ⌝ }
+    ensures { λ _. ⌜ now (out .exit) ≡ placed (leaves p) first (now (states .entry)) (now (others .entry)) (now (out .entry)) ⌝ }
+{
+    let all = 32 * leaf_count(p);
+    put_at(out, 0, &states[..all]);
+    let at = 32 * first;
+    let end = at + 32;
+    put_at(out, at, &others[at..end]);
+}
+
+// Fills out with the states of all leaves and aux; the first opening hides the leaf `first`.
+pub fn write_output(
+    p: Parameters,
+    first: usize,
+    aux: &[u8],
+    states: &[u8],
+    other_aux: &[u8],
+    others: &[u8],
+    out: &mut [u8],
+)
+    requires { ⌜ Output p first (now aux) (now states) (now «other_aux») (now others) (now out) ⌝ }
+    ensures { λ _. ⌜ now (out .exit) ≡ outputOf p first (now (states .entry)) (now (aux .entry)) (now (others .entry)) (now («other_aux» .entry)) ⌝ }
+{
+    put_states(p, first, states, others, out);
+    let all = 32 * leaf_count(p);
+    if is_last(p, first) {
+        put_at(out, all, other_aux);
+        return;
+    }
+    put_at(out, all, aux);
+}
