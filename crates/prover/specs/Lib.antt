@@ -1,1 +1,3 @@
 pub mod Session
+pub mod Facts
+pub mod Next

@@ -36,6 +36,8 @@ use Rattle.prover.specs.declared.Phase.{Phase}
 use Rattle.prover.specs.declared.Phase.the-variants.{Fresh, Begun, Answered, Closed}
 use Rattle.prover.specs.declared.Prover.{Prover}
 use Rattle.prover.specs.declared.Called.{Called}
+pub mod Checks
+pub mod Carried
 
 -- ---- what a session holds
 

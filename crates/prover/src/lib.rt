@@ -1,6 +1,16 @@
 // The prover's session. It holds what later calls need and nothing derived: parameters, x, salt, root, message 2 and its phase.
+mod held;
+mod on_begin;
+mod on_leaf;
+mod on_points;
+
 use answers::Answer;
 use parameters::Parameters;
+ghost use mathlib.Core.Path.{_≡_};
+ghost use lib.ListN.{replicate};
+ghost use Rattle.shake256.specs.Fips.{SHAKE256};
+ghost use Rattle.coefficients.specs.Coefficients.{keyOf};
+ghost use Rattle.prover.specs.Session as spec;
 
 // Which call is due. Begin is due always.
 pub enum Phase {
@@ -28,4 +38,98 @@ pub struct Prover {
 pub struct Called {
     pub prover: Prover,
     pub answer: Answer,
+}
+
+// A session before its first begin.
+pub fn fresh() -> Prover
+    ensures { λ r. ⌜ r ≡ spec.fresh ⌝ }
+{
+    let parameters = Parameters {
+        m: 0,
+        k: 0,
+        w: 0,
+        d: 0,
+        t: 0,
+    };
+    Prover {
+        phase: Phase::Fresh,
+        parameters,
+        x: [0u8; 255],
+        salt: [0u8; 32],
+        root: [0u8; 16],
+        message2: [0u8; 64],
+    }
+}
+
+// Room for x, as zeros.
+fn room() -> [u8; 255]
+    ensures { λ r. ⌜ r ≡ replicate 255 0 ⌝ }
+{
+    [0u8; 255]
+}
+
+impl Prover {
+    // Begins an exchange with a key, a salt and a root seed: message 1 is written to out.
+    pub fn begin(
+        self,
+        p: Parameters,
+        x_a: &[u8],
+        salt: &[u8],
+        root: &[u8],
+        matrix: &[u8],
+        y: &[u8],
+        work: &mut [u8],
+        out: &mut [u8],
+    ) -> Called
+        ensures { λ r. ⌜ spec.given r (now (out .exit)) (now (work .exit)) ≡ spec.begin SHAKE256 self p (now («x_a» .entry)) (now (salt .entry))
+            (now (root .entry)) (keyOf (now (matrix .entry)) (now (y .entry))) (now (work .entry)) (now (out .entry)) ⌝ }
+    {
+        let mut x = room();
+        let answer = on_begin::begin_checks(self, p, x_a, salt, root, matrix, y, work, out, &mut x);
+        if !held::is_done(answer) {
+            return Called {
+                prover: self,
+                answer,
+            };
+        }
+        on_begin::begun(self, p, x, salt, root, work, out)
+    }
+
+    // Takes message 2, the points and multipliers: message 3 is written to out.
+    pub fn points(
+        self,
+        message2: &[u8],
+        matrix: &[u8],
+        y: &[u8],
+        work: &mut [u8],
+        out: &mut [u8],
+    ) -> Called
+        ensures { λ r. ⌜ spec.given r (now (out .exit)) (now (work .exit)) ≡ spec.points SHAKE256 self (now (message2 .entry))
+            (keyOf (now (matrix .entry)) (now (y .entry))) (now (work .entry)) (now (out .entry)) ⌝ }
+    {
+        let answer = on_points::points_checks(self, message2, matrix, y, work, out);
+        if !held::is_done(answer) {
+            return Called {
+                prover: self,
+                answer,
+            };
+        }
+        on_points::answered(self, message2, matrix, y, work, out)
+    }
+
+    // Takes the leaf that stays hidden: message 5 is written to out, and the exchange is closed.
+    pub fn leaf(self, leaf: u8, matrix: &[u8], y: &[u8], work: &mut [u8], out: &mut [u8]) -> Called
+        ensures { λ r. ⌜ spec.given r (now (out .exit)) (now (work .exit)) ≡ spec.leaf SHAKE256 self leaf
+            (keyOf (now (matrix .entry)) (now (y .entry))) (now (work .entry)) (now (out .entry)) ⌝ }
+    {
+        let hidden = leaf as usize;
+        let answer = on_leaf::leaf_checks(self, hidden, matrix, y, work, out);
+        if !held::is_done(answer) {
+            return Called {
+                prover: self,
+                answer,
+            };
+        }
+        on_leaf::opened(self, hidden, matrix, y, work, out)
+    }
 }

@@ -1,0 +1,25 @@
+-- How long the arrays are that a session holds: what its type tells of a session that a function is passed.
+use mathlib.Core.Path.{_≡_, sym, _∙_}
+use mathlib.Core.List.{[], _∷_}
+use lib.ListN.{length, length-map}
+use denote.RattleType.{Valss}
+use denote.Shadow.{shadow}
+use denote.Struct.Declared.{shape}
+use denote.Struct.Laws.{val}
+use denote.Struct.Struct.{within}
+use Rattle.prover.specs.declared.Prover.{Prover}
+use Rattle.prover.proofs.Prover.{the-type}
+use Rattle.prover.proofs.Prover.Laws.{the-laws}
+
+module _ (s : Prover) (told : (vs : Valss (shape the-type .fields)) × shadow (within (shape the-type) (the-type .to s) (val the-type the-laws s ∷ []) vs)) where
+  pub x-length : length (s .x) ≡ 255
+  x-length = sym (length-map (s .x) _) ∙ told .1 .1 .1 .1 .0 .1 .0 .1
+
+  pub salt-length : length (s .salt) ≡ 32
+  salt-length = sym (length-map (s .salt) _) ∙ told .1 .1 .1 .1 .1 .0 .1 .0 .1
+
+  pub root-length : length (s .root) ≡ 16
+  root-length = sym (length-map (s .root) _) ∙ told .1 .1 .1 .1 .1 .1 .0 .1 .0 .1
+
+  pub message2-length : length (s .message2) ≡ 64
+  message2-length = sym (length-map (s .message2) _) ∙ told .1 .1 .1 .1 .1 .1 .1 .0 .1 .0 .1

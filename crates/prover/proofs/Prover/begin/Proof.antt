@@ -1,0 +1,67 @@
+-- The checks refuse and nothing changes, or they pass and the call is carried out with the x that they left.
+use mathlib.Core.Path.{_≡_, ap, _∙_}
+use mathlib.Core.Bool.{true}
+use mathlib.Core.List.{List}
+use Prim.Native.Nat.{ℕ}
+use borrow.Author.Needs.{needs}
+use Rattle.shake256.specs.Fips.{SHAKE256}
+use Rattle.coefficients.specs.Coefficients.{keyOf}
+use Rattle.prover.specs.Facts.{isDone, Begins}
+use Rattle.prover.specs.Next.{begunWith}
+use Rattle.prover.specs.Session.Carried.{starting, begun-with}
+use Rattle.prover.specs.Session.Checks.{passed, failed, done-is, begin-refused, begin-done, begin-facts}
+use Rattle.prover.proofs.Prover.begin.Statement.{statement}
+use Rattle.prover.proofs.Prover.begin.Tie as tie
+
+done : (c : tie.Else1) → isDone (c .before .before .before .begin-checks .result) ≡ true
+done c = passed (c .before .is-done .ensures) (c .if1 .left)
+
+facts : (c : tie.Else1) → (let a = c .before .before .before .before .before .before .before .before .before .before .before .before .before .before .before .args in Begins (a .p) (a .x-a .now) (a .salt .now) (a .root .now) (a .matrix .now) (a .y .now) (a .work .now) (a .out .now))
+facts c =
+    let called = c .before .before .before in
+    let a = called .before .before .before .before .before .before .before .before .before .before .before .before .args in
+    begin-facts SHAKE256 (a .self) (a .work .now) (a .out .now) (keyOf (a .matrix .now) (a .y .now)) (a .p) (a .x-a .now) (a .salt .now) (a .root .now) _
+    (called .begin-checks .ensures .0) (done c)
+
+returns : tie.Need-returns
+returns c =
+    let called = c .before .before .before in
+    let a = called .before .before .before .before .before .before .before .before .before .before .before .before .args in
+    begin-refused SHAKE256 (a .self) (a .work .now) (a .out .now) (keyOf (a .matrix .now) (a .y .now)) _ (a .p) (a .x-a .now) (a .salt .now) (a .root .now)
+    (called .begin-checks .ensures .0) (failed (c .before .is-done .ensures) (c .if1 .taken))
+
+begun-requires : tie.Need-begun-requires
+begun-requires c κs =
+    let e = c .before .before in
+    let called = e .before .before .before in
+    let a = called .before .before .before .before .before .before .before .before .before .before .before .before .args in
+    starting (a .self) (a .p) (a .x-a .now) (a .salt .now) (a .root .now) (keyOf (a .matrix .now) (a .y .now)) (a .work .now) (a .out .now) (facts e) _
+    (called .begin-checks .ensures .1 (done-is _ (done e)))
+
+returns-2 : tie.Need-returns-2
+returns-2 c =
+    let begun = c .before .before .before .before in
+    let e = begun .before .before .before in
+    let called = e .before .before .before in
+    let a = called .before .before .before .before .before .before .before .before .before .before .before .before .args in
+    let key = keyOf (a .matrix .now) (a .y .now) in
+    begun .begun .ensures
+    ∙ ap (λ (x : List ℕ). begunWith (a .p) x (a .salt .now) (a .root .now) (a .work .now)) (called .begin-checks .ensures .1 (done-is _ (done e)))
+    ∙ begun-with (a .self) (a .p) (a .x-a .now) (a .salt .now) (a .root .now) key (a .work .now) (a .out .now) (facts e)
+    ∙ begin-done SHAKE256 (a .self) (a .work .now) (a .out .now) key _ (a .p) (a .x-a .now) (a .salt .now) (a .root .now) (called .begin-checks .ensures .0) (done e)
+
+pub begin-spec : {M : Type 1} → statement M
+begin-spec =
+    tie.close
+    (tie.spec
+    (λ c κs. search needs)
+    (λ c. search needs)
+    (λ c κs. search needs)
+    (λ c κs. search needs)
+    (λ c. search needs)
+    (λ c. search needs)
+    returns
+    begun-requires
+    (λ c. search needs)
+    (λ c. search needs)
+    returns-2)

@@ -1,0 +1,28 @@
+-- The exchange held, and both comparisons.
+use mathlib.Core.Path.{_∙_, ap₂}
+use mathlib.Core.Bool.{_&&_}
+use borrow.Author.Needs.{needs}
+use Rattle.prover.specs.Session.{repeated}
+use Rattle.prover.proofs.on_begin.repeated.Statement.{statement}
+use Rattle.prover.proofs.on_begin.repeated.Tie as tie
+
+returns : tie.Need-returns
+unfolding repeated
+returns c =
+    let both = c .before .before in
+    let salt = both .before .before .before in
+    c .both2 .ensures
+    ∙ ap₂ _&&_ (c .before .holds .ensures) (both .both .ensures ∙ ap₂ _&&_ (salt .equal .ensures) (both .before .equal2 .ensures))
+
+pub repeated-spec : {M : Type 1} → statement M
+repeated-spec =
+    tie.close
+    (tie.spec
+    (λ c. search needs)
+    (λ c κs. search needs)
+    (λ c. search needs)
+    (λ c κs. search needs)
+    (λ c κs. search needs)
+    (λ c κs. search needs)
+    (λ c κs. search needs)
+    returns)

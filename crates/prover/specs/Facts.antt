@@ -1,0 +1,76 @@
+-- What the functions that check and carry out a call ask, and what the checks that passed say.
+--
+-- isDone a                          the checks passed
+-- outcomeOf a s out work            what a call gives
+-- Weighing p xA matrix y x          matrix, y and x_A of the lengths that the parameters say, and 255 zeros to make x in
+-- Ready s                           the parameters that a session holds are within their limits, and its x is not too heavy
+-- Sized p xA salt root matrix y work out    the slices that begin is lent have the lengths that it asks
+-- Begins p xA salt root matrix y work out   what begin's checks say
+-- Starting p x salt root work out   the same of an x that stands at the front of 255 bytes
+-- Answering s m2 matrix y work out  what the checks of points say
+-- Opening s i matrix y work out     what the checks of leaf say
+use mathlib.Core.Path.{_≡_}
+use mathlib.Core.Bool.{Bool, true, false}
+use mathlib.Core.List.{List}
+use Prim.Native.Nat.{ℕ, _*_, _-_, _≤_, _<_}
+use lib.ListN.{length, replicate, take}
+use Rattle.answers.specs.declared.Answer.{Answer}
+use Rattle.answers.specs.declared.Answer.the-variants.{Done, Refused}
+use Rattle.parameters.specs.declared.Parameters.{Parameters}
+use Rattle.parameters.specs.Limits.{Within}
+use Rattle.key.specs.Key.{vectorOf, weightOf}
+use Rattle.exchange.specs.Layout.{leaves, message2Length, message5Length, workLength}
+use Rattle.layout.specs.Lent.{Lent}
+use Rattle.prover.specs.declared.Prover.{Prover}
+use Rattle.prover.specs.Session.{Outcome, heldX}
+
+-- did the checks pass?
+abbrev pub isDone : Answer → Bool
+isDone Done = true
+isDone (Refused r) = false
+
+abbrev pub outcomeOf : Answer → Prover → List ℕ → List ℕ → Outcome
+outcomeOf a s out work = record { answer = a; prover = s; out = out; work = work }
+
+pub record Weighing (p : Parameters) (xA matrix y x : List ℕ) : Type 0 where
+  pub within : Within p
+  pub xA-is : length xA ≡ p .k
+  pub matrix-is : length matrix ≡ (p .m - p .k) * p .k
+  pub y-is : length y ≡ p .m - p .k
+  pub zeros : x ≡ replicate 255 0
+
+pub record Sized (p : Parameters) (xA salt root matrix y work out : List ℕ) : Type 0 where
+  pub xA-is : length xA ≡ p .k
+  pub salt-is : length salt ≡ 32
+  pub root-is : length root ≡ 16
+  pub out-is : length out ≡ 64
+  pub lent : Lent p (length matrix) (length y) (length work)
+
+pub record Begins (p : Parameters) (xA salt root matrix y work out : List ℕ) : Type 0 where
+  pub within : Within p
+  pub sized : Sized p xA salt root matrix y work out
+  pub light : weightOf (vectorOf matrix y xA) ≤ p .w
+
+pub record Starting (p : Parameters) (x salt root work out : List ℕ) : Type 0 where
+  pub within : Within p
+  pub light : weightOf (take (p .m) x) ≤ p .w
+  pub salt-is : length salt ≡ 32
+  pub root-is : length root ≡ 16
+  pub work-fits : workLength p ≤ length work
+  pub out-is : length out ≡ 64
+
+pub record Ready (s : Prover) : Type 0 where
+  pub within : Within (s .parameters)
+  pub light : weightOf (heldX s) ≤ s .parameters .w
+
+pub record Answering (s : Prover) (m2 matrix y work out : List ℕ) : Type 0 where
+  pub ready : Ready s
+  pub m2-is : length m2 ≡ message2Length (s .parameters)
+  pub out-is : length out ≡ 32
+  pub lent : Lent (s .parameters) (length matrix) (length y) (length work)
+
+pub record Opening (s : Prover) (i : ℕ) (matrix y work out : List ℕ) : Type 0 where
+  pub ready : Ready s
+  pub below : i < leaves (s .parameters)
+  pub out-is : length out ≡ message5Length (s .parameters) i
+  pub lent : Lent (s .parameters) (length matrix) (length y) (length work)

@@ -1,0 +1,35 @@
+-- The session after a call that is carried out.
+--
+-- nextBegun p x salt root    begin: a new exchange, x in 255 bytes
+-- nextAnswered s m2          points: message 2 is held, in 64 bytes
+-- nextClosed s               leaf: 'Closing changes nothing else that a session holds'
+-- begunWith                  begin carried out, with x at the front of 255 bytes
+use mathlib.Core.List.{List}
+use Prim.Native.Nat.{ℕ}
+use lib.ListN.{replicate, take}
+use Rattle.lists.specs.Zeroed.{zeroed}
+use Rattle.shake256.specs.Fips.{SHAKE256}
+use Rattle.answers.specs.declared.Answer.the-variants.{Done}
+use Rattle.parameters.specs.declared.Parameters.{Parameters}
+use Rattle.exchange.specs.Layout.{workLength}
+use Rattle.exchange.specs.Messages.{message1}
+use Rattle.prover.specs.declared.Phase.the-variants.{Begun, Answered, Closed}
+use Rattle.prover.specs.declared.Prover.{Prover}
+use Rattle.prover.specs.Session.{Outcome}
+
+abbrev pub nextBegun : Parameters → List ℕ → List ℕ → List ℕ → Prover
+nextBegun p x salt root = record { phase = Begun; parameters = p; x = x; salt = salt; root = root; message2 = replicate 64 0 }
+
+abbrev pub nextAnswered : Prover → List ℕ → Prover
+nextAnswered s m2 = record { phase = Answered; parameters = s .parameters; x = s .x; salt = s .salt; root = s .root; message2 = m2 }
+
+abbrev pub nextClosed : Prover → Prover
+nextClosed s = record { phase = Closed; parameters = s .parameters; x = s .x; salt = s .salt; root = s .root; message2 = s .message2 }
+
+unfoldable pub begunWith : Parameters → List ℕ → List ℕ → List ℕ → List ℕ → Outcome
+begunWith p x salt root work = record {
+  answer = Done;
+  prover = nextBegun p x salt root;
+  out = message1 SHAKE256 p (take (p .m) x) salt root;
+  work = zeroed (workLength p) work;
+}

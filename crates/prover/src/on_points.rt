@@ -1,0 +1,150 @@
+// The call points: its checks, and the call carried out.
+use crate::Called;
+use crate::Phase;
+use crate::Prover;
+use crate::held::both;
+use crate::held::closed;
+use crate::held::holds;
+use answers::Answer;
+use answers::Refusal;
+use layout::arrays;
+use parameters::Parameters;
+ghost use mathlib.Core.Path.{_≡_};
+ghost use mathlib.Core.List.{_∷_};
+ghost use lib.Dec.{eqb};
+ghost use Rattle.lists.specs.Checks.{allTrue};
+ghost use Rattle.shake256.specs.Fips.{SHAKE256};
+ghost use Rattle.parameters.specs.Limits.{Within};
+ghost use Rattle.exchange.specs.Layout.{message2Length};
+ghost use Rattle.coefficients.specs.Coefficients.{keyOf};
+ghost use Rattle.layout.specs.Lent.{lentTests};
+ghost use Rattle.prover.specs.Facts.{Answering};
+ghost use Rattle.prover.specs.Next.{nextAnswered};
+ghost use Rattle.prover.specs.Session as spec;
+
+// Does the phase have points due?
+fn is_begun(f: Phase) -> bool
+    ensures { λ r. ⌜ r ≡ spec.isBegun f ⌝ }
+{
+    match f {
+        Phase::Fresh => false,
+        Phase::Begun => true,
+        Phase::Answered => false,
+        Phase::Closed => false,
+    }
+}
+
+// Is points due?
+fn points_due(s: Prover) -> bool
+    ensures { λ r. ⌜ r ≡ spec.pointsDue s ⌝ }
+{
+    let phase = s.phase;
+    both(holds(s), is_begun(phase))
+}
+
+// Have the slices that points is lent, of these lengths, the lengths that the parameters say?
+fn points_lengths(
+    p: Parameters,
+    message2: usize,
+    matrix: usize,
+    y: usize,
+    work: usize,
+    out: usize,
+) -> bool
+    requires { ⌜ Within p ⌝ }
+    ensures { λ r. ⌜ r ≡ allTrue (eqb message2 (message2Length p) ∷ eqb out 32 ∷ lentTests p matrix y work) ⌝ }
+{
+    let n = layout::message2_length(p);
+    both(
+        message2 == n,
+        both(out == 32, layout::lent(p, matrix, y, work)),
+    )
+}
+
+// The checks of points.
+pub fn points_checks(
+    s: Prover,
+    message2: &[u8],
+    matrix: &[u8],
+    y: &[u8],
+    work: &[u8],
+    out: &[u8],
+) -> Answer
+    ensures { λ r. ⌜ r ≡ spec.pointsChecks SHAKE256 s (now (message2 .entry)) (keyOf (now (matrix .entry)) (now (y .entry)))
+        (now (work .entry)) (now (out .entry)) ⌝ }
+{
+    if closed(s) {
+        return Answer::Refused(Refusal::Closed);
+    }
+    if !points_due(s) {
+        return Answer::Refused(Refusal::NotDue);
+    }
+    let p = s.parameters;
+    if !points_lengths(
+        p,
+        message2.len(),
+        matrix.len(),
+        y.len(),
+        work.len(),
+        out.len(),
+    ) {
+        return Answer::Refused(Refusal::Length);
+    }
+    Answer::Done
+}
+
+// The session once message 3 is given: it holds message 2.
+fn responded(s: Prover, held: [u8; 64]) -> Prover
+    ensures { λ r. ⌜ r ≡ nextAnswered s held ⌝ }
+{
+    let parameters = s.parameters;
+    let x = s.x;
+    let salt = s.salt;
+    let root = s.root;
+    Prover {
+        phase: Phase::Answered,
+        parameters,
+        x,
+        salt,
+        root,
+        message2: held,
+    }
+}
+
+// Points carried out: message 3 is in out and the work area is zeroed.
+pub fn answered(
+    s: Prover,
+    message2: &[u8],
+    matrix: &[u8],
+    y: &[u8],
+    work: &mut [u8],
+    out: &mut [u8],
+) -> Called
+    requires { ⌜ Answering s (now message2) (now matrix) (now y) (now work) (now out) ⌝ }
+    ensures { λ r. ⌜ spec.given r (now (out .exit)) (now (work .exit)) ≡ spec.answered SHAKE256 s (now (message2 .entry)) (keyOf (now (matrix .entry)) (now (y .entry)))
+        (now (work .entry)) (now (out .entry)) ⌝ }
+{
+    let p = s.parameters;
+    let m = p.m;
+    let n = layout::work_length(p);
+    let x = s.x;
+    let salt = s.salt;
+    let root = s.root;
+    messages::message3(
+        p,
+        &x[..m],
+        &salt,
+        &root,
+        message2,
+        matrix,
+        y,
+        &mut work[..n],
+        out,
+    );
+    let held = arrays::padded64(message2);
+    let prover = responded(s, held);
+    Called {
+        prover,
+        answer: Answer::Done,
+    }
+}
