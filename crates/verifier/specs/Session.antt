@@ -10,7 +10,7 @@
 -- settle               a refusal leaves 'the session unchanged'
 -- begin, points, response, leaf   'begin (parameters, message 1), points, response, leaf': each takes its message
 -- opening              'opening (closes with accepted, 5, 6 or 7)'; 'Closing changes nothing else that a session holds'
-use mathlib.Core.Bool.{Bool, true, false, _&&_, not}
+use mathlib.Core.Bool.{Bool, _&&_, not}
 use mathlib.Core.List.{List, [], _∷_}
 use Prim.Native.Nat.{ℕ, _*_, _-_}
 use lib.Dec.{eqb, leb, ltb}
@@ -32,6 +32,7 @@ use Rattle.verifier.specs.declared.Phase.{Phase}
 use Rattle.verifier.specs.declared.Phase.the-variants.{Fresh, Begun, Pointed, Responded, Chosen, Closed}
 use Rattle.verifier.specs.declared.Verifier.{Verifier}
 use Rattle.verifier.specs.declared.Called.{Called}
+pub mod Laws
 
 -- ---- what a session holds
 

@@ -1,0 +1,12 @@
+-- The session is the definition's.
+use mathlib.Core.Path.{refl}
+use Rattle.verifier.specs.Session.{fresh}
+use Rattle.verifier.proofs.fresh.Statement.{statement}
+use Rattle.verifier.proofs.fresh.Tie as tie
+
+returns : tie.Need-returns
+unfolding fresh
+returns c = refl
+
+pub fresh-spec : {M : Type 1} → statement M
+fresh-spec = tie.close (tie.spec returns)

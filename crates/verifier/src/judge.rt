@@ -1,0 +1,67 @@
+// The verdict on an opening, and the session after it.
+use crate::Phase;
+use crate::Verifier;
+use answers::Answer;
+use layout::message2_length;
+use layout::work_length;
+use leaves::leaf_count;
+use openings::check_opening;
+ghost use mathlib.Core.Path.{_≡_};
+ghost use lib.ListN.{length};
+ghost use Rattle.lists.specs.Zeroed.{zeroed};
+ghost use Rattle.shake256.specs.Fips.{SHAKE256};
+ghost use Rattle.exchange.specs.Layout.{workLength};
+ghost use Rattle.exchange.specs.Opening.{verdict};
+ghost use Rattle.coefficients.specs.Coefficients.{keyOf};
+ghost use Rattle.verifier.specs.Session as spec;
+ghost use Rattle.verifier.specs.Session.Laws.{Opened};
+
+// Checks the opening of the exchange held; the named length of the work area ends as zeros.
+pub fn judge(s: Verifier, message5: &[u8], matrix: &[u8], y: &[u8], work: &mut [u8]) -> Answer
+    requires { ⌜ Opened s (length (now message5)) (length (now matrix)) (length (now y)) (length (now work)) ⌝ }
+    ensures { λ r. ⌜ r ≡ verdict SHAKE256 (s .parameters) (spec.heldExchange s (now (message5 .entry))) (keyOf (now (matrix .entry)) (now (y .entry))) ⌝ }
+    ensures { λ r. ⌜ now (work .exit) ≡ zeroed (workLength (s .parameters)) (now (work .entry)) ⌝ }
+{
+    let p = s.parameters;
+    let m1 = s.message1;
+    let m2 = s.message2;
+    let m3 = s.message3;
+    let leaf = s.leaf as usize;
+    let mut states = [0u8; 8192];
+    let mut rows = [0u8; 1536];
+    let points = message2_length(p);
+    let area = work_length(p);
+    let all_states = 32 * leaf_count(p);
+    let all_rows = p.d * (24 * p.t);
+    check_opening(
+        p,
+        &m1,
+        &m2[..points],
+        &m3,
+        leaf,
+        message5,
+        matrix,
+        y,
+        &mut work[..area],
+        &mut states[..all_states],
+        &mut rows[..all_rows],
+    )
+}
+
+// The session closed; it keeps the messages and the leaf.
+pub fn ended(s: Verifier) -> Verifier
+    ensures { λ r. ⌜ r ≡ spec.ended s ⌝ }
+{
+    let parameters = s.parameters;
+    let message1 = s.message1;
+    let message2 = s.message2;
+    let message3 = s.message3;
+    Verifier {
+        phase: Phase::Closed,
+        parameters,
+        message1,
+        message2,
+        message3,
+        leaf: s.leaf,
+    }
+}
