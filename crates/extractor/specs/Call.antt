@@ -1,14 +1,14 @@
 -- The extractor's call as a function on values.
 --
--- Transcript              messages 1 to 5 of an exchange
+-- Transcript, transcript  messages 1 to 5 of an exchange
 -- exchangeOf t            the exchange that they are
 -- extractLengths          the lengths of all lent slices
 -- sameStatement           number 8: 'salt, h, points, multipliers or h' differ'
 -- earlyChecks             the checks that stand before 5 in the order: 1, 2, 4, 8, 9
 -- verdicts                'in the extractor 5, 6, 7 of the first opening come before those of the second'
--- Outcome                 answer, output and work area
+-- Outcome, given          answer, output and work area
 -- extraction              the call
-use mathlib.Core.Bool.{Bool, true, false, _&&_, not}
+use mathlib.Core.Bool.{Bool, _&&_, not}
 use mathlib.Core.List.{List, [], _∷_, _++_}
 use Prim.Native.Nat.{ℕ, _*_, _-_}
 use lib.Dec.{eqb, leb, ltb}
@@ -29,6 +29,8 @@ use Rattle.exchange.specs.Opening.{Exchange, exchange, verdict}
 use Rattle.exchange.specs.Extractor.{Finding, unequal, states, extract}
 use Rattle.extractor.specs.declared.Extraction.{Extraction}
 use Rattle.extractor.specs.declared.Extraction.the-variants.{Refused, Unequal, Extracted}
+pub mod Laws
+pub mod Outcomes
 
 pub record Transcript : Type 0 where
   pub message1 : List ℕ
@@ -37,6 +39,9 @@ pub record Transcript : Type 0 where
   pub leaf : ℕ
   pub message5 : List ℕ
 
+abbrev pub transcript : List ℕ → List ℕ → List ℕ → ℕ → List ℕ → Transcript
+transcript m1 m2 m3 leaf m5 = record { message1 = m1; message2 = m2; message3 = m3; leaf = leaf; message5 = m5 }
+
 unfoldable pub exchangeOf : Transcript → Exchange
 exchangeOf t = exchange (t .message1) (t .message2) (t .message3) (t .leaf) (t .message5)
 
@@ -44,6 +49,10 @@ pub record Outcome : Type 0 where
   pub answer : Extraction
   pub out : List ℕ
   pub work : List ℕ
+
+-- what the function returned, and left in the lent slices
+abbrev pub given : Extraction → List ℕ → List ℕ → Outcome
+given r out work = record { answer = r; out = out; work = work }
 
 abbrev pub messageLengths : Parameters → Transcript → List Bool
 messageLengths p t =

@@ -1,1 +1,3 @@
 pub mod Call
+pub mod Found
+pub mod Judged

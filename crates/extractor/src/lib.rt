@@ -1,5 +1,19 @@
 // The extractor: from two accepted openings of one commitment, two unequal strings hashed to one digest, or every leaf's state.
+mod checks;
+mod compare;
+mod digests;
+mod judge;
+
+use answers::Answer;
 use answers::Refusal;
+use checks::early_checks;
+use compare::compare_openings;
+use judge::judge;
+use parameters::Parameters;
+ghost use mathlib.Core.Path.{_≡_};
+ghost use Rattle.shake256.specs.Fips.{SHAKE256};
+ghost use Rattle.coefficients.specs.Coefficients.{keyOf};
+ghost use Rattle.extractor.specs.Call as spec;
 
 // What the extractor answers.
 pub enum Extraction {
@@ -8,4 +22,99 @@ pub enum Extraction {
     Unequal { layer: u8, number: u8 },
     // the output is filled: the first axis, from 1, on which the hidden leaves differ
     Extracted { axis: u8 },
+}
+
+// Compares two openings of one commitment with different hidden leaves: names the first unequal pair of strings hashed
+// to one digest, or fills out with every leaf's state and aux.
+pub fn extract(
+    p: Parameters,
+    first1: &[u8],
+    first2: &[u8],
+    first3: &[u8],
+    first4: u8,
+    first5: &[u8],
+    second1: &[u8],
+    second2: &[u8],
+    second3: &[u8],
+    second4: u8,
+    second5: &[u8],
+    matrix: &[u8],
+    y: &[u8],
+    work: &mut [u8],
+    out: &mut [u8],
+) -> Extraction
+    ensures { λ r. ⌜ spec.given r (now (out .exit)) (now (work .exit)) ≡ spec.extraction SHAKE256 p (spec.transcript (now (first1 .entry)) (now (first2 .entry)) (now (first3 .entry)) first4 (now (first5 .entry))) (spec.transcript (now (second1 .entry)) (now (second2 .entry)) (now (second3 .entry)) second4 (now (second5 .entry))) (keyOf (now (matrix .entry)) (now (y .entry))) (now (work .entry)) (now (out .entry)) ⌝ }
+{
+    let early = early_checks(
+        p,
+        first1,
+        first2,
+        first3,
+        first4,
+        first5,
+        second1,
+        second2,
+        second3,
+        second4,
+        second5,
+        matrix,
+        y,
+        work,
+        out,
+    );
+    match early {
+        Answer::Done => {}
+        Answer::Refused(r) => return Extraction::Refused(r),
+    }
+    let mut states = [0u8; 8192];
+    let mut rows = [0u8; 1536];
+    let one = judge(
+        p,
+        first1,
+        first2,
+        first3,
+        first4,
+        first5,
+        matrix,
+        y,
+        work,
+        &mut states,
+        &mut rows,
+    );
+    match one {
+        Answer::Done => {}
+        Answer::Refused(r) => return Extraction::Refused(r),
+    }
+    let mut others = [0u8; 8192];
+    let mut other_rows = [0u8; 1536];
+    let two = judge(
+        p,
+        second1,
+        second2,
+        second3,
+        second4,
+        second5,
+        matrix,
+        y,
+        work,
+        &mut others,
+        &mut other_rows,
+    );
+    match two {
+        Answer::Done => {}
+        Answer::Refused(r) => return Extraction::Refused(r),
+    }
+    compare_openings(
+        p,
+        first1,
+        first4,
+        first5,
+        &states,
+        &rows,
+        second4,
+        second5,
+        &others,
+        &other_rows,
+        out,
+    )
 }

@@ -1,0 +1,54 @@
+-- What the call gives, from what its steps answered.
+--
+-- zeroed-twice      the named length zeroed twice
+-- refused-early     a check before 5 failed
+-- refused-first, refused-second   an opening was refused
+-- both-accepted     the comparison's answer
+use mathlib.Core.Path.{_≡_, ap}
+use mathlib.Core.List.{List, _++_}
+use Prim.Native.Nat.{ℕ}
+use lib.ListN.{drop, replicate, length-replicate}
+use lib.Seq.{drop-at}
+use Rattle.lists.specs.Zeroed.{zeroed}
+use Rattle.answers.specs.declared.Answer.{Answer}
+use Rattle.answers.specs.declared.Answer.the-variants.{Done}
+use Rattle.answers.specs.declared.Answer.the-variants.{Refused as Not}
+use Rattle.answers.specs.declared.Refusal.{Refusal}
+use Rattle.parameters.specs.declared.Parameters.{Parameters}
+use Rattle.exchange.specs.Layout.{workLength}
+use Rattle.exchange.specs.Values.{Key}
+use Rattle.exchange.specs.Opening.{verdict}
+use Rattle.exchange.specs.Extractor.{extract}
+use Rattle.extractor.specs.declared.Extraction.{Extraction}
+use Rattle.extractor.specs.declared.Extraction.the-variants.{Refused}
+use Rattle.extractor.specs.Call.{Transcript, exchangeOf, earlyChecks, second, first, early, extraction}
+use Rattle.extractor.specs.Found.{Found, found-is}
+
+pub zeroed-twice : (n : ℕ) (d : List ℕ) → zeroed n (zeroed n d) ≡ zeroed n d
+unfolding zeroed
+zeroed-twice n d = ap (_++_ (replicate n 0)) (drop-at (replicate n 0) (drop n d) n (length-replicate n 0))
+
+module _ (hash : List ℕ → ℕ → List ℕ) (p : Parameters) (t t′ : Transcript) (key : Key) (work out : List ℕ) (a : Answer)
+    (ea : a ≡ earlyChecks hash p t t′ key work out) where
+  pub refused-early : (r : Refusal) → a ≡ Not r → record { answer = Refused r; out = out; work = work } ≡ extraction hash p t t′ key work out
+  unfolding extraction early
+  refused-early r q = rw (← ea, q)
+
+  module _ (qa : a ≡ Done) (b : Answer) (eb : b ≡ verdict hash p (exchangeOf t) key) where
+    pub refused-first : (r : Refusal) → b ≡ Not r → (w : List ℕ) → w ≡ zeroed (workLength p) work
+        → record { answer = Refused r; out = out; work = w } ≡ extraction hash p t t′ key work out
+    unfolding extraction early first
+    refused-first r q w z = rw (← ea, qa, ← eb, q, z)
+
+    module _ (qb : b ≡ Done) (c : Answer) (ec : c ≡ verdict hash p (exchangeOf t′) key) where
+      pub refused-second : (r : Refusal) → c ≡ Not r → (w : List ℕ) → w ≡ zeroed (workLength p) work
+          → record { answer = Refused r; out = out; work = w } ≡ extraction hash p t t′ key work out
+      unfolding extraction early first second
+      refused-second r q w z = rw (← ea, qa, ← eb, qb, ← ec, q, z)
+
+      pub both-accepted : c ≡ Done → (r : Extraction) (out′ : List ℕ) → Found (extract hash p key (exchangeOf t) (exchangeOf t′)) out r out′
+          → (w : List ℕ) → w ≡ zeroed (workLength p) work → record { answer = r; out = out′; work = w } ≡ extraction hash p t t′ key work out
+      unfolding extraction early first second
+      both-accepted qc r out′ f w z =
+          rw (← ea, qa, ← eb, qb, ← ec, qc, z, f .answer, f .output)
+          (found-is hash p t t′ key work out (extract hash p key (exchangeOf t) (exchangeOf t′)))
