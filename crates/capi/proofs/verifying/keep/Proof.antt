@@ -1,0 +1,17 @@
+-- A refusal leaves the buffer; a call that was carried out writes the session.
+use borrow.Author.Needs.{needs}
+use Rattle.capi.proofs.verifying.keep.Statement.{statement}
+use Rattle.capi.proofs.verifying.keep.Tie as tie
+
+returns : tie.Need-returns
+returns c = rw (c .answer-number .ensures, c .before .enum-told2 .given .1)
+
+write-verifier-requires : tie.Need-write-verifier-requires
+write-verifier-requires c κs = let start = c .before .before .before .before .before in (start .pre .0, start .pre .1 (c .before .before .enum-told .given .1))
+
+returns-2 : tie.Need-returns-2
+returns-2 c = rw (c .before .before .write-verifier .ensures, c .before .before .before .before .before .enum-told .given .1)
+
+pub keep-spec : {M : Type 1} → statement M
+keep-spec =
+    tie.close (tie.spec (λ c. search needs) (λ c. search needs) (λ c κs. search needs) returns write-verifier-requires (λ c. search needs) returns-2)

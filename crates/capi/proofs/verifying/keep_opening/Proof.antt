@@ -1,0 +1,27 @@
+-- An opening that was judged writes the session, any other leaves the buffer.
+use mathlib.Core.Path.{_≡_, sym, ap, _∙_}
+use mathlib.Core.Bool.{true}
+use borrow.Author.Needs.{needs}
+use borrow.Author.Tests.{not-true, not-false}
+use Rattle.answers.specs.Number.{answerNumber}
+use Rattle.capi.specs.Verifier.{judges}
+use Rattle.capi.proofs.verifying.keep_opening.Statement.{statement}
+use Rattle.capi.proofs.verifying.keep_opening.Tie as tie
+
+returns : tie.Need-returns
+returns c =
+    let n = c .before .before .answer-number .ensures in
+    rw (n, sym (ap judges n) ∙ sym (c .before .is-judged .ensures) ∙ not-true _ (c .if1 .taken))
+
+-- past the test the opening was judged
+so : (c : tie.Else1) → judges (answerNumber (c .before .before .before .before .args .called .answer)) ≡ true
+so c = sym (ap judges (c .before .before .answer-number .ensures)) ∙ sym (c .before .is-judged .ensures) ∙ not-false _ (c .if1 .left)
+
+write-verifier-requires : tie.Need-write-verifier-requires
+write-verifier-requires c κs = let start = c .before .before .before .before .before .before in (start .pre .0, start .pre .1 (so (c .before .before)))
+
+returns-2 : tie.Need-returns-2
+returns-2 c = rw (c .before .before .before .before .before .before .before .answer-number .ensures, c .before .before .write-verifier .ensures, so (c .before .before .before .before .before))
+
+pub keep-opening-spec : {M : Type 1} → statement M
+keep-opening-spec = tie.close (tie.spec (λ c κs. search needs) (λ c κs. search needs) returns write-verifier-requires (λ c. search needs) returns-2)

@@ -1,0 +1,5 @@
+pub mod Sizes
+pub mod Session
+pub mod Prover
+pub mod Verifier
+pub mod Extract

@@ -1,0 +1,139 @@
+-- A session in a buffer goes on as the session that its bytes are does, call by call.
+--
+-- Follows r o                 r answers what o answers and gives what o gives, and its bytes are o's session
+-- new-follows                 a fresh session's bytes are one
+-- begin-follows, points-follows, leaf-follows   each call does
+use mathlib.Core.Path.{_≡_, refl, _∙_}
+use mathlib.Core.Bool.{Bool, not}
+use mathlib.Core.List.{List, _∷_}
+use Prim.Native.Nat.{ℕ, _-_, _≤_}
+use native.Mathlib.Omega.{arith}
+use lib.Dec.{eqb}
+use lib.ListN.{length, replicate, length-replicate}
+use borrow.Author.Tests.{eqb-true}
+use Rattle.lists.specs.Checks.{allTrue, all-at}
+use Rattle.lists.specs.Part.{putAt}
+use Rattle.lists.specs.Part.Laws.{length-part, length-putAt}
+use Rattle.answers.specs.Number.{answerNumber}
+use Rattle.answers.specs.declared.Answer.{Answer}
+use Rattle.answers.specs.declared.Answer.the-variants.{Done, Refused}
+use Rattle.answers.specs.declared.Refusal.the-variants.{Parameter, Length, NotDue, Closed as ExchangeClosed}
+use Rattle.answers.specs.Checks.Laws.{check-true, check-rest}
+use Rattle.parameters.specs.declared.Parameters.{Parameters}
+use Rattle.parameters.specs.Limits.{withinLimits}
+use Rattle.parameters.specs.Limits.Laws.{test-within}
+use Rattle.key.specs.Key.{vectorOf}
+use Rattle.key.specs.Key.Vector.{length-vector}
+use Rattle.shake256.specs.Fips.{SHAKE256}
+use Rattle.exchange.specs.Layout.{message2Length}
+use Rattle.exchange.specs.Values.{Key}
+use Rattle.prover.specs.declared.Prover.{Prover}
+use Rattle.prover.specs.Session.{Outcome as Called, fresh, settle, isBegun, closed, pointsDue, begin, beginLengths, beginChecks, begun, points, pointsChecks, answered, leaf, leafChecks, opened, keyLengths}
+use Rattle.stored.specs.Prover.{proverSize, proverFrom}
+use Rattle.stored.specs.Prover.Laws.{ProverLengths, length-proverBytes, prover-back}
+use Rattle.capi.specs.Session.{proverNew}
+use Rattle.capi.specs.Session.Laws.{fits-so}
+use Rattle.capi.specs.Prover.{Outcome, proverAfter, proverCall, proverBegin, proverPoints, proverLeaf}
+use Rattle.capi.specs.Prover.Laws.{holds-within}
+
+pub record Follows (r : Outcome) (o : Called) : Type 0 where
+  pub number : r .number ≡ answerNumber (o .answer)
+  pub session : proverFrom (r .session) ≡ o .prover
+  pub size : length (r .session) ≡ proverSize
+  pub out : r .out ≡ o .out
+  pub work : r .work ≡ o .work
+
+front : (n : ℕ) (v : List ℕ) → length v ≤ n → length (putAt (replicate n 0) 0 v) ≡ n
+front n v h =
+    let l : length (replicate {A = ℕ} n 0) ≡ n = length-replicate n 0 in
+    length-putAt (replicate n 0) 0 v (omega arith) ∙ l
+
+module _ (b : List ℕ) (size : length b ≡ proverSize) where
+  abbrev s : Prover
+  s = proverFrom b
+
+  read-lengths : ProverLengths s
+  unfolding proverFrom
+  read-lengths = record {
+    x = length-part b 6 255 (omega arith);
+    salt = length-part b 261 32 (omega arith);
+    root = length-part b 293 16 (omega arith);
+    message2 = length-part b 309 64 (omega arith);
+  }
+
+  pub new-follows : proverFrom (proverNew b .session) ≡ fresh
+  unfolding fresh
+  new-follows = rw (← fits-so b proverSize _ _ size) (prover-back fresh (record { x = refl; salt = refl; root = refl; message2 = refl }))
+
+  -- ---- any call
+
+  settle-follows : (a : Answer) (out work : List ℕ) (done : Called) → done .answer ≡ Done → (a ≡ Done → ProverLengths (done .prover))
+      → Follows (proverAfter b (settle a s out work done)) (settle a s out work done)
+  unfolding proverAfter
+  settle-follows Done out work done d lengths = record {
+    number = refl;
+    session = rw d (prover-back (done .prover) (lengths refl));
+    size = rw d (length-proverBytes (done .prover) (lengths refl));
+    out = refl;
+    work = refl;
+  }
+  settle-follows (Refused r) out work done d lengths = record { number = refl; session = refl; size = size; out = refl; work = refl }
+
+  call-follows : (work out : List ℕ) (call : Prover → Called) → Follows (proverAfter b (call s)) (call s) → Follows (proverCall b work out call) (call s)
+  unfolding proverCall
+  call-follows work out call h = rw (← fits-so b proverSize (proverAfter b (call s)) _ size) h
+
+  -- ---- begin
+
+  module _ (p : Parameters) (xA salt root : List ℕ) (key : Key) (work out : List ℕ) where
+    abbrev beginTests : List Bool
+    beginTests = eqb (length xA) (p .k) ∷ eqb (length salt) 32 ∷ eqb (length root) 16 ∷ eqb (length out) 64 ∷ keyLengths p key work
+
+    begun-lengths : beginChecks SHAKE256 s p xA salt root key work out ≡ Done → ProverLengths (begun SHAKE256 s p xA salt root key work out .prover)
+    unfolding beginChecks beginLengths begun
+    begun-lengths e =
+        let within = test-within p (check-true (withinLimits p) Parameter _ e) in
+        let so = all-at beginTests (check-true (allTrue beginTests) Length _ (check-rest (withinLimits p) Parameter _ e)) in
+        let k = eqb-true (length xA) (p .k) (so 0) in
+        let y = eqb-true (length (key .y)) (p .m - p .k) (so 5) in
+        let v = length-vector (key .matrix) (key .y) xA in
+        record {
+          x = front 255 (vectorOf (key .matrix) (key .y) xA) (omega arith);
+          salt = eqb-true (length salt) 32 (so 1);
+          root = eqb-true (length root) 16 (so 2);
+          message2 = refl;
+        }
+
+    pub begin-follows : Follows (proverBegin b p xA salt root key work out) (begin SHAKE256 s p xA salt root key work out)
+    unfolding begin begun
+    begin-follows =
+        call-follows work out (λ z. begin SHAKE256 z p xA salt root key work out)
+        (settle-follows (beginChecks SHAKE256 s p xA salt root key work out) out work (begun SHAKE256 s p xA salt root key work out) refl begun-lengths)
+
+  -- ---- points and leaf
+
+  module _ (m2 : List ℕ) (key : Key) (work out : List ℕ) where
+    abbrev pointsTests : List Bool
+    pointsTests = eqb (length m2) (message2Length (s .parameters)) ∷ eqb (length out) 32 ∷ keyLengths (s .parameters) key work
+
+    answered-lengths : pointsChecks SHAKE256 s m2 key work out ≡ Done → ProverLengths (answered SHAKE256 s m2 key work out .prover)
+    unfolding pointsChecks answered pointsDue
+    answered-lengths e =
+        let open-still = check-rest (not (closed s)) ExchangeClosed _ e in
+        let within = holds-within s (isBegun (s .phase)) (check-true (pointsDue s) NotDue _ open-still) in
+        let passed = check-true (allTrue pointsTests) Length Done (check-rest (pointsDue s) NotDue _ open-still) in
+        let long = eqb-true (length m2) (message2Length (s .parameters)) (all-at pointsTests passed 0) in
+        record { x = read-lengths .x; salt = read-lengths .salt; root = read-lengths .root; message2 = front 64 m2 (omega arith) }
+
+    pub points-follows : Follows (proverPoints b m2 key work out) (points SHAKE256 s m2 key work out)
+    unfolding points answered
+    points-follows =
+        call-follows work out (λ z. points SHAKE256 z m2 key work out)
+        (settle-follows (pointsChecks SHAKE256 s m2 key work out) out work (answered SHAKE256 s m2 key work out) refl answered-lengths)
+
+  pub leaf-follows : (i : ℕ) (key : Key) (work out : List ℕ) → Follows (proverLeaf b i key work out) (leaf SHAKE256 s i key work out)
+  unfolding leaf opened
+  leaf-follows i key work out =
+      call-follows work out (λ z. leaf SHAKE256 z i key work out)
+      (settle-follows (leafChecks SHAKE256 s i key work out) out work (opened SHAKE256 s i key work out) refl
+      (λ e. record { x = read-lengths .x; salt = read-lengths .salt; root = read-lengths .root; message2 = read-lengths .message2 }))

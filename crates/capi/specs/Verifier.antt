@@ -1,0 +1,63 @@
+-- The verifier's calls on the bytes of a session.
+--
+-- verifierAfter b o           what the outcome o of a call on the bytes b gives
+-- verifierCall b call         the call on the session that the bytes b are; a buffer of another length gives 2, and nothing changes
+-- verifierBegin, verifierPoints, verifierResponse, verifierLeaf   the calls but the opening
+-- Judged                      number, bytes of the session and work area
+-- judges n                    'opening (closes with accepted, 5, 6 or 7)': with these numbers the session is written anew
+-- openingAfter b o            what the outcome o of the opening on the bytes b gives
+-- verifierOpening             the opening, at SHAKE256
+use mathlib.Core.Bool.{Bool, _&&_, _||_, cond}
+use mathlib.Core.List.{List}
+use Prim.Native.Nat.{ℕ}
+use lib.Dec.{eqb, leb}
+use Rattle.answers.specs.Number.{answerNumber, refusalNumber}
+use Rattle.answers.specs.declared.Refusal.the-variants.{Length}
+use Rattle.parameters.specs.declared.Parameters.{Parameters}
+use Rattle.shake256.specs.Fips.{SHAKE256}
+use Rattle.exchange.specs.Values.{Key}
+use Rattle.verifier.specs.declared.Verifier.{Verifier}
+use Rattle.verifier.specs.Session as verifier
+use Rattle.stored.specs.Verifier.{verifierSize, verifierBytes, verifierFrom}
+use Rattle.capi.specs.Session.{fits, after, Kept, kept, misfit}
+pub mod Laws
+pub mod Follows
+
+unfoldable pub verifierAfter : List ℕ → verifier.Outcome → Kept
+verifierAfter b o = kept (answerNumber (o .answer)) (after (o .answer) b (verifierBytes (o .verifier)))
+
+unfoldable pub verifierCall : List ℕ → (Verifier → verifier.Outcome) → Kept
+verifierCall b call = fits b verifierSize (verifierAfter b (call (verifierFrom b))) (misfit b)
+
+abbrev pub verifierBegin : List ℕ → Parameters → List ℕ → Kept
+verifierBegin b p m1 = verifierCall b (λ s. verifier.begin s p m1)
+
+abbrev pub verifierPoints : List ℕ → List ℕ → Kept
+verifierPoints b m2 = verifierCall b (λ s. verifier.points s m2)
+
+abbrev pub verifierResponse : List ℕ → List ℕ → Kept
+verifierResponse b m3 = verifierCall b (λ s. verifier.response s m3)
+
+abbrev pub verifierLeaf : List ℕ → ℕ → Kept
+verifierLeaf b i = verifierCall b (λ s. verifier.leaf s i)
+
+-- ---- the opening
+
+pub record Judged : Type 0 where
+  pub number : ℕ
+  pub session : List ℕ
+  pub work : List ℕ
+
+-- what a function returned and left in the lent slices
+abbrev pub judged : ℕ → List ℕ → List ℕ → Judged
+judged n session work = record { number = n; session = session; work = work }
+
+unfoldable pub judges : ℕ → Bool
+judges n = eqb n 0 || (leb 5 n && leb n 7)
+
+unfoldable pub openingAfter : List ℕ → verifier.Judged → Judged
+openingAfter b o = judged (answerNumber (o .answer)) (cond (judges (answerNumber (o .answer))) (verifierBytes (o .verifier)) b) (o .work)
+
+unfoldable pub verifierOpening : List ℕ → List ℕ → Key → List ℕ → Judged
+verifierOpening b m5 key work =
+    fits b verifierSize (openingAfter b (verifier.opening SHAKE256 (verifierFrom b) m5 key work)) (judged (refusalNumber Length) b work)

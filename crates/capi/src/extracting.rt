@@ -1,0 +1,74 @@
+// The extractor's call.
+use extractor::Extraction;
+use parameters::Parameters;
+ghost use mathlib.Core.Path.{_≡_};
+ghost use Rattle.coefficients.specs.Coefficients.{keyOf};
+ghost use Rattle.capi.specs.Sizes.{parametersOf};
+ghost use Rattle.capi.specs.Extract.{extractNumber, given, transcriptOf, extractCall};
+
+fn wide(b: u8) -> u32
+    ensures { λ r. ⌜ r ≡ b ⌝ }
+{
+    b as u32
+}
+
+// The number of the extractor's answer.
+fn number(e: Extraction) -> u32
+    ensures { λ r. ⌜ r ≡ extractNumber e ⌝ }
+{
+    match e {
+        Extraction::Refused(r) => wide(answers::refusal_number(r)),
+        Extraction::Unequal { layer, number } => 65536 * wide(layer) + wide(number),
+        Extraction::Extracted { axis } => 256 + wide(axis),
+    }
+}
+
+// From two accepted openings of one commitment: the first unequal pair of strings, or every leaf's state in out.
+#[no_mangle]
+pub extern "C" fn unlock_extract(
+    m: usize,
+    k: usize,
+    w: usize,
+    d: usize,
+    t: usize,
+    first1: &[u8],
+    first2: &[u8],
+    first3: &[u8],
+    first4: u8,
+    first5: &[u8],
+    second1: &[u8],
+    second2: &[u8],
+    second3: &[u8],
+    second4: u8,
+    second5: &[u8],
+    matrix: &[u8],
+    y: &[u8],
+    work: &mut [u8],
+    out: &mut [u8],
+) -> u32
+    ensures { λ r. ⌜ given r (now (out .exit)) (now (work .exit))
+        ≡ extractCall (parametersOf m k w d t)
+        (transcriptOf (now (first1 .entry)) (now (first2 .entry)) (now (first3 .entry)) first4 (now (first5 .entry)))
+        (transcriptOf (now (second1 .entry)) (now (second2 .entry)) (now (second3 .entry)) second4 (now (second5 .entry)))
+        (keyOf (now (matrix .entry)) (now (y .entry))) (now (work .entry)) (now (out .entry)) ⌝ }
+{
+    let p = Parameters { m, k, w, d, t };
+    let e = extractor::extract(
+        p,
+        first1,
+        first2,
+        first3,
+        first4,
+        first5,
+        second1,
+        second2,
+        second3,
+        second4,
+        second5,
+        matrix,
+        y,
+        work,
+        out,
+    );
+    number(e)
+}

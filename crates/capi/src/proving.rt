@@ -1,0 +1,99 @@
+// The prover's calls.
+use answers::Answer;
+use parameters::Parameters;
+use prover::Called;
+ghost use mathlib.Core.Path.{_≡_};
+ghost use lib.ListN.{length};
+ghost use Rattle.answers.specs.Number.{answerNumber};
+ghost use Rattle.answers.specs.declared.Answer.the-variants as answer;
+ghost use Rattle.coefficients.specs.Coefficients.{keyOf};
+ghost use Rattle.stored.specs.Parameters.{Small};
+ghost use Rattle.stored.specs.Prover.{proverSize, proverBytes};
+ghost use Rattle.capi.specs.Sizes.{parametersOf};
+ghost use Rattle.capi.specs.Session.{kept, after};
+ghost use Rattle.capi.specs.Prover.{given, proverBegin, proverPoints, proverLeaf};
+
+// Writes the session of a call that was carried out; the number of its answer.
+fn keep(called: Called, session: &mut [u8]) -> u8
+    requires { ⌜ (length (now session) ≡ proverSize) × (called .answer ≡ answer.Done → Small (called .prover .parameters)) ⌝ }
+    ensures { λ r. ⌜ kept r (now (session .exit)) ≡ kept (answerNumber (called .answer)) (after (called .answer) (now (session .entry)) (proverBytes (called .prover))) ⌝ }
+{
+    let answer = called.answer;
+    let Answer::Done = answer else {
+        return answers::answer_number(answer);
+    };
+    let next = called.prover;
+    stored::write_prover(next, session);
+    0
+}
+
+// Begins an exchange and gives message 1.
+#[no_mangle]
+pub extern "C" fn unlock_prover_begin(
+    session: &mut [u8],
+    m: usize,
+    k: usize,
+    w: usize,
+    d: usize,
+    t: usize,
+    x_a: &[u8],
+    salt: &[u8],
+    root: &[u8],
+    matrix: &[u8],
+    y: &[u8],
+    work: &mut [u8],
+    out: &mut [u8],
+) -> u8
+    ensures { λ r. ⌜ given r (now (session .exit)) (now (out .exit)) (now (work .exit))
+        ≡ proverBegin (now (session .entry)) (parametersOf m k w d t) (now («x_a» .entry)) (now (salt .entry)) (now (root .entry)) (keyOf (now (matrix .entry)) (now (y .entry))) (now (work .entry)) (now (out .entry)) ⌝ }
+{
+    if session.len() != stored::PROVER_SIZE {
+        return 2;
+    }
+    let s = stored::read_prover(session);
+    let p = Parameters { m, k, w, d, t };
+    let called = s.begin(p, x_a, salt, root, matrix, y, work, out);
+    keep(called, session)
+}
+
+// Takes message 2, points and multipliers, and gives message 3.
+#[no_mangle]
+pub extern "C" fn unlock_prover_points(
+    session: &mut [u8],
+    message2: &[u8],
+    matrix: &[u8],
+    y: &[u8],
+    work: &mut [u8],
+    out: &mut [u8],
+) -> u8
+    ensures { λ r. ⌜ given r (now (session .exit)) (now (out .exit)) (now (work .exit))
+        ≡ proverPoints (now (session .entry)) (now (message2 .entry)) (keyOf (now (matrix .entry)) (now (y .entry))) (now (work .entry)) (now (out .entry)) ⌝ }
+{
+    if session.len() != stored::PROVER_SIZE {
+        return 2;
+    }
+    let s = stored::read_prover(session);
+    let called = s.points(message2, matrix, y, work, out);
+    keep(called, session)
+}
+
+// Takes message 4, the leaf that stays hidden, gives message 5 and closes the exchange.
+#[no_mangle]
+pub extern "C" fn unlock_prover_leaf(
+    session: &mut [u8],
+    leaf: u8,
+    matrix: &[u8],
+    y: &[u8],
+    work: &mut [u8],
+    out: &mut [u8],
+) -> u8
+    ensures { λ r. ⌜ given r (now (session .exit)) (now (out .exit)) (now (work .exit))
+        ≡ proverLeaf (now (session .entry)) leaf (keyOf (now (matrix .entry)) (now (y .entry))) (now (work .entry)) (now (out .entry)) ⌝ }
+{
+    if session.len() != stored::PROVER_SIZE {
+        return 2;
+    }
+    let s = stored::read_prover(session);
+    let called = s.leaf(leaf, matrix, y, work, out);
+    keep(called, session)
+}

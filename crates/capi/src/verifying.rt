@@ -1,0 +1,138 @@
+// The verifier's calls.
+use answers::Answer;
+use parameters::Parameters;
+use verifier::Called;
+ghost use mathlib.Core.Path.{_≡_};
+ghost use mathlib.Core.Bool.{true, cond};
+ghost use lib.ListN.{length};
+ghost use Rattle.answers.specs.Number.{answerNumber};
+ghost use Rattle.answers.specs.declared.Answer.the-variants as answer;
+ghost use Rattle.coefficients.specs.Coefficients.{keyOf};
+ghost use Rattle.stored.specs.Parameters.{Small};
+ghost use Rattle.stored.specs.Verifier.{verifierSize, verifierBytes};
+ghost use Rattle.capi.specs.Sizes.{parametersOf};
+ghost use Rattle.capi.specs.Session.{kept, after};
+ghost use Rattle.capi.specs.Verifier.{verifierBegin, verifierPoints, verifierResponse, verifierLeaf, judged, judges, verifierOpening};
+
+// Writes the session of a call that was carried out; the number of its answer.
+fn keep(called: Called, session: &mut [u8]) -> u8
+    requires { ⌜ (length (now session) ≡ verifierSize) × (called .answer ≡ answer.Done → Small (called .verifier .parameters)) ⌝ }
+    ensures { λ r. ⌜ kept r (now (session .exit)) ≡ kept (answerNumber (called .answer)) (after (called .answer) (now (session .entry)) (verifierBytes (called .verifier))) ⌝ }
+{
+    let answer = called.answer;
+    let Answer::Done = answer else {
+        return answers::answer_number(answer);
+    };
+    let next = called.verifier;
+    stored::write_verifier(next, session);
+    0
+}
+
+// Begins an exchange with its parameters and message 1.
+#[no_mangle]
+pub extern "C" fn unlock_verifier_begin(
+    session: &mut [u8],
+    m: usize,
+    k: usize,
+    w: usize,
+    d: usize,
+    t: usize,
+    message1: &[u8],
+) -> u8
+    ensures { λ r. ⌜ kept r (now (session .exit)) ≡ verifierBegin (now (session .entry)) (parametersOf m k w d t) (now (message1 .entry)) ⌝ }
+{
+    if session.len() != stored::VERIFIER_SIZE {
+        return 2;
+    }
+    let s = stored::read_verifier(session);
+    let p = Parameters { m, k, w, d, t };
+    let called = s.begin(p, message1);
+    keep(called, session)
+}
+
+// Takes message 2, points and multipliers, which the verifier sends.
+#[no_mangle]
+pub extern "C" fn unlock_verifier_points(session: &mut [u8], message2: &[u8]) -> u8
+    ensures { λ r. ⌜ kept r (now (session .exit)) ≡ verifierPoints (now (session .entry)) (now (message2 .entry)) ⌝ }
+{
+    if session.len() != stored::VERIFIER_SIZE {
+        return 2;
+    }
+    let s = stored::read_verifier(session);
+    let called = s.points(message2);
+    keep(called, session)
+}
+
+// Takes message 3, the response digest.
+#[no_mangle]
+pub extern "C" fn unlock_verifier_response(session: &mut [u8], message3: &[u8]) -> u8
+    ensures { λ r. ⌜ kept r (now (session .exit)) ≡ verifierResponse (now (session .entry)) (now (message3 .entry)) ⌝ }
+{
+    if session.len() != stored::VERIFIER_SIZE {
+        return 2;
+    }
+    let s = stored::read_verifier(session);
+    let called = s.response(message3);
+    keep(called, session)
+}
+
+// Takes message 4, the leaf that is to stay hidden.
+#[no_mangle]
+pub extern "C" fn unlock_verifier_leaf(session: &mut [u8], leaf: u8) -> u8
+    ensures { λ r. ⌜ kept r (now (session .exit)) ≡ verifierLeaf (now (session .entry)) leaf ⌝ }
+{
+    if session.len() != stored::VERIFIER_SIZE {
+        return 2;
+    }
+    let s = stored::read_verifier(session);
+    let called = s.leaf(leaf);
+    keep(called, session)
+}
+
+// Does an opening with this number close the exchange?
+fn is_judged(n: u8) -> bool
+    ensures { λ r. ⌜ r ≡ judges n ⌝ }
+{
+    if n == 0 {
+        return true;
+    }
+    if n < 5 {
+        return false;
+    }
+    n <= 7
+}
+
+// Writes the session of an opening that was judged; the number of its answer.
+fn keep_opening(called: Called, session: &mut [u8]) -> u8
+    requires { ⌜ (length (now session) ≡ verifierSize) × (judges (answerNumber (called .answer)) ≡ true → Small (called .verifier .parameters)) ⌝ }
+    ensures { λ r. ⌜ kept r (now (session .exit)) ≡ kept (answerNumber (called .answer)) (cond (judges (answerNumber (called .answer))) (verifierBytes (called .verifier)) (now (session .entry))) ⌝ }
+{
+    let answer = called.answer;
+    let n = answers::answer_number(answer);
+    if !is_judged(n) {
+        return n;
+    }
+    let next = called.verifier;
+    stored::write_verifier(next, session);
+    n
+}
+
+// Judges message 5 and closes the exchange: 0 where the opening is accepted, else 5, 6 or 7.
+#[no_mangle]
+pub extern "C" fn unlock_verifier_opening(
+    session: &mut [u8],
+    message5: &[u8],
+    matrix: &[u8],
+    y: &[u8],
+    work: &mut [u8],
+) -> u8
+    ensures { λ r. ⌜ judged r (now (session .exit)) (now (work .exit))
+        ≡ verifierOpening (now (session .entry)) (now (message5 .entry)) (keyOf (now (matrix .entry)) (now (y .entry))) (now (work .entry)) ⌝ }
+{
+    if session.len() != stored::VERIFIER_SIZE {
+        return 2;
+    }
+    let s = stored::read_verifier(session);
+    let called = s.opening(message5, matrix, y, work);
+    keep_opening(called, session)
+}

@@ -1,0 +1,26 @@
+-- Each field is what its function promises.
+use borrow.Author.Needs.{needs}
+use lib.ListN.{getD}
+use Rattle.lists.specs.Part.{part}
+use Rattle.stored.specs.Verifier.{verifierFrom}
+use Rattle.stored.proofs.read_verifier.Statement.{statement}
+use Rattle.stored.proofs.read_verifier.Tie as tie
+
+returns : tie.Need-returns
+unfolding verifierFrom part
+returns c = λ i. record {
+  phase = c .before .before .before .before .before .before .before .before .verifier-phase .ensures i;
+  parameters = c .before .before .before .before .before .before .before .read-parameters .ensures i;
+  message1 = c .before .before .before .before .before .array64 .ensures i;
+  message2 = c .before .before .before .array642 .ensures i;
+  message3 = c .before .array32 .ensures i;
+  leaf = getD (c .before .before .before .before .before .before .before .before .before .before .before .args .b .now) 166 0;
+}
+
+pub read-verifier-spec : {M : Type 1} → statement M
+read-verifier-spec =
+    tie.close
+    (tie.spec (λ c. search needs) (λ c κs. search needs) (λ c κs. search needs) (λ c. search needs) (λ c. search needs)
+    (λ c. search needs) (λ c κs. search needs) (λ c. search needs) (λ c. search needs) (λ c. search needs)
+    (λ c κs. search needs) (λ c. search needs) (λ c. search needs) (λ c. search needs) (λ c κs. search needs)
+    (λ c. search needs) returns)

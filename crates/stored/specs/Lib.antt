@@ -1,0 +1,4 @@
+pub mod Parameters
+pub mod Parts
+pub mod Prover
+pub mod Verifier

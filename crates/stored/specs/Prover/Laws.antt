@@ -1,0 +1,56 @@
+-- The laws of a prover's session as bytes.
+--
+-- ProverLengths s         the arrays of s have their lengths
+-- length-proverBytes      a session has `proverSize` bytes
+-- prover-back             what was written reads as the session again
+-- prover-fresh            a session before its first begin is zeros
+use mathlib.Core.Path.{_≡_, refl, _∙_}
+use Prim.Native.Nat.{ℕ, _+_}
+use native.Mathlib.Omega.{arith}
+use mathlib.Core.List.{_∷_, _++_}
+use lib.ListN.{length, replicate, length-append}
+use Rattle.lists.specs.Part.{part}
+use Rattle.lists.specs.Part.Laws.{part-whole}
+use Rattle.prover.specs.declared.Phase.{Phase}
+use Rattle.prover.specs.declared.Phase.the-variants.{Fresh, Begun, Answered, Closed}
+use Rattle.prover.specs.declared.Prover.{Prover}
+use Rattle.prover.specs.Session.{fresh}
+use Rattle.stored.specs.Parameters.{parameterBytes}
+use Rattle.stored.specs.Parts.{read-front, read-behind}
+use Rattle.stored.specs.Prover.{proverSize, proverPhaseByte, proverPhaseFrom, proverBytes, proverFrom}
+
+pub record ProverLengths (s : Prover) : Type 0 where
+  pub x : length (s .x) ≡ 255
+  pub salt : length (s .salt) ≡ 32
+  pub root : length (s .root) ≡ 16
+  pub message2 : length (s .message2) ≡ 64
+
+pub length-proverBytes : (s : Prover) → ProverLengths s → length (proverBytes s) ≡ proverSize
+unfolding proverBytes
+length-proverBytes s h = simp length-append (omega arith)
+
+phase-back : (f : Phase) → proverPhaseFrom (proverPhaseByte f) ≡ f
+phase-back Fresh = refl
+phase-back Begun = refl
+phase-back Answered = refl
+phase-back Closed = refl
+
+pub prover-back : (s : Prover) → ProverLengths s → proverFrom (proverBytes s) ≡ s
+unfolding proverBytes proverFrom
+prover-back s h = λ i. record {
+  phase = phase-back (s .phase) i;
+  parameters = s .parameters;
+  x = (behind 0 255 ∙ read-front (s .x) _ 255 (h .x)) i;
+  salt = (behind 255 32 ∙ read-behind (s .x) _ 255 0 32 (h .x) ∙ read-front (s .salt) _ 32 (h .salt)) i;
+  root = (behind 287 16 ∙ read-behind (s .x) _ 255 32 16 (h .x) ∙ read-behind (s .salt) _ 32 0 16 (h .salt) ∙ read-front (s .root) _ 16 (h .root)) i;
+  message2 =
+      (behind 303 64 ∙ read-behind (s .x) _ 255 48 64 (h .x) ∙ read-behind (s .salt) _ 32 16 64 (h .salt)
+      ∙ read-behind (s .root) _ 16 0 64 (h .root) ∙ part-whole (s .message2) 64 (omega arith)) i;
+}
+  where
+    behind : (at n : ℕ) → part (proverBytes s) (6 + at) n ≡ part (s .x ++ (s .salt ++ (s .root ++ s .message2))) at n
+    behind at n = read-behind (proverPhaseByte (s .phase) ∷ parameterBytes (s .parameters)) _ 6 at n refl
+
+pub prover-fresh : proverBytes fresh ≡ replicate proverSize 0
+unfolding proverBytes fresh
+prover-fresh = refl

@@ -1,0 +1,61 @@
+-- The laws of a verifier's session as bytes.
+--
+-- VerifierLengths s        the arrays of s have their lengths
+-- length-verifierBytes     a session has `verifierSize` bytes
+-- verifier-back            what was written reads as the session again
+-- verifier-fresh           a session before its first begin is zeros
+use mathlib.Core.Path.{_≡_, refl, sym, ap, _∙_}
+use Prim.Native.Nat.{ℕ, _+_}
+use native.Mathlib.Omega.{arith}
+use mathlib.Core.List.{List, [], _∷_, _++_}
+use lib.ListN.{length, replicate, getD, length-append}
+use Rattle.lists.specs.Part.{part}
+use Rattle.lists.specs.Part.Laws.{getD-part, part-whole}
+use Rattle.verifier.specs.declared.Phase.{Phase}
+use Rattle.verifier.specs.declared.Phase.the-variants.{Fresh, Begun, Pointed, Responded, Chosen, Closed}
+use Rattle.verifier.specs.declared.Verifier.{Verifier}
+use Rattle.verifier.specs.Session.{fresh}
+use Rattle.stored.specs.Parameters.{parameterBytes}
+use Rattle.stored.specs.Parts.{read-front, read-behind}
+use Rattle.stored.specs.Verifier.{verifierSize, verifierPhaseByte, verifierPhaseFrom, verifierBytes, verifierFrom}
+
+pub record VerifierLengths (s : Verifier) : Type 0 where
+  pub message1 : length (s .message1) ≡ 64
+  pub message2 : length (s .message2) ≡ 64
+  pub message3 : length (s .message3) ≡ 32
+
+pub length-verifierBytes : (s : Verifier) → VerifierLengths s → length (verifierBytes s) ≡ verifierSize
+unfolding verifierBytes
+length-verifierBytes s h = simp length-append (omega arith)
+
+phase-back : (f : Phase) → verifierPhaseFrom (verifierPhaseByte f) ≡ f
+phase-back Fresh = refl
+phase-back Begun = refl
+phase-back Pointed = refl
+phase-back Responded = refl
+phase-back Chosen = refl
+phase-back Closed = refl
+
+pub verifier-back : (s : Verifier) → VerifierLengths s → verifierFrom (verifierBytes s) ≡ s
+unfolding verifierBytes verifierFrom
+verifier-back s h = λ i. record {
+  phase = phase-back (s .phase) i;
+  parameters = s .parameters;
+  message1 = (behind 0 64 ∙ read-front (s .message1) _ 64 (h .message1)) i;
+  message2 = (behind 64 64 ∙ read-behind (s .message1) _ 64 0 64 (h .message1) ∙ read-front (s .message2) _ 64 (h .message2)) i;
+  message3 =
+      (behind 128 32 ∙ read-behind (s .message1) _ 64 64 32 (h .message1) ∙ read-behind (s .message2) _ 64 0 32 (h .message2)
+      ∙ read-front (s .message3) _ 32 (h .message3)) i;
+  leaf =
+      (sym (getD-part (verifierBytes s) 166 1 0 (omega arith))
+      ∙ ap (λ (l : List ℕ). getD l 0 0)
+      (behind 160 1 ∙ read-behind (s .message1) _ 64 96 1 (h .message1) ∙ read-behind (s .message2) _ 64 32 1 (h .message2)
+      ∙ read-behind (s .message3) _ 32 0 1 (h .message3) ∙ part-whole (s .leaf ∷ []) 1 (omega arith))) i;
+}
+  where
+    behind : (at n : ℕ) → part (verifierBytes s) (6 + at) n ≡ part (s .message1 ++ (s .message2 ++ (s .message3 ++ (s .leaf ∷ [])))) at n
+    behind at n = read-behind (verifierPhaseByte (s .phase) ∷ parameterBytes (s .parameters)) _ 6 at n refl
+
+pub verifier-fresh : verifierBytes fresh ≡ replicate verifierSize 0
+unfolding verifierBytes fresh
+verifier-fresh = refl

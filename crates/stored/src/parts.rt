@@ -1,0 +1,61 @@
+// What the bytes of both sessions share: the parameters, and parts one behind the other.
+use parameters::Parameters;
+ghost use mathlib.Core.Path.{_≡_};
+ghost use Prim.Native.Nat.{_+_, _≤_};
+ghost use mathlib.Core.List.{_∷_, _++_};
+ghost use lib.ListN.{length};
+ghost use Rattle.stored.specs.Parameters.{Small, parameterBytes, parametersFrom};
+
+// A slice of 255 bytes as an array.
+pub fn array255(s: &[u8]) -> [u8; 255]
+    requires { ⌜ length (now s) ≡ 255 ⌝ }
+    ensures { λ r. ⌜ r ≡ now (s .entry) ⌝ }
+{
+    let mut a = [0u8; 255];
+    lists::copy(&mut a, s);
+    a
+}
+
+fn wide(b: u8) -> usize
+    ensures { λ r. ⌜ r ≡ b ⌝ }
+{
+    b as usize
+}
+
+// The parameters, which stand behind the phase.
+pub fn read_parameters(b: &[u8]) -> Parameters
+    requires { ⌜ 6 ≤ length (now b) ⌝ }
+    ensures { λ r. ⌜ r ≡ parametersFrom (now (b .entry)) ⌝ }
+{
+    Parameters {
+        m: wide(b[1]),
+        k: wide(b[2]),
+        w: wide(b[3]),
+        d: wide(b[4]),
+        t: wide(b[5]),
+    }
+}
+
+// Phase and parameters, with which a session's bytes start.
+pub fn head(phase: u8, p: Parameters) -> [u8; 6]
+    requires { ⌜ Small p ⌝ }
+    ensures { λ r. ⌜ r ≡ phase ∷ parameterBytes p ⌝ }
+{
+    [phase, p.m as u8, p.k as u8, p.w as u8, p.d as u8, p.t as u8]
+}
+
+// The five parts are written to out, one behind the other; they fill it.
+pub fn write_parts(a: &[u8], b: &[u8], c: &[u8], d: &[u8], e: &[u8], out: &mut [u8])
+    requires { ⌜ length (now out) ≡ length (now a) + length (now b) + length (now c) + length (now d) + length (now e) ⌝ }
+    ensures { λ _. ⌜ now (out .exit) ≡ now (a .entry) ++ (now (b .entry) ++ (now (c .entry) ++ (now (d .entry) ++ now (e .entry)))) ⌝ }
+{
+    lists::put_at(out, 0, a);
+    let at_b = a.len();
+    lists::put_at(out, at_b, b);
+    let at_c = at_b + b.len();
+    lists::put_at(out, at_c, c);
+    let at_d = at_c + c.len();
+    lists::put_at(out, at_d, d);
+    let at_e = at_d + d.len();
+    lists::put_at(out, at_e, e);
+}

@@ -1,0 +1,153 @@
+/*
+ * The hypercube unlock exchange (document 01): prover, verifier, extractor and SHAKE256.
+ *
+ * Slices. A slice is an address and a length in bytes. Slices that a call writes to (session, work, out) may not overlap any other
+ * slice of the call. No address is null, not even that of an empty slice. No function allocates, and none keeps an address after it
+ * returns.
+ *
+ * Sessions. A session lives in a buffer that the caller lends, of unlock_prover_size() or unlock_verifier_size() bytes; a buffer of
+ * another length gives UNLOCK_LENGTH. A prover's session holds the secret x. A refused call leaves the buffer as it was; of the
+ * verifier's opening, UNLOCK_COMMITMENT, UNLOCK_SUMS and UNLOCK_RESPONSE close the exchange. Any bytes are some session; one with a
+ * phase that is none, parameters outside their limits, an x that is too heavy or a leaf not below n counts as never begun.
+ *
+ * Parameters. Length m (2 to 255), dimension k (1 to m - 1), weight w (1 to m), axes D (1 to 8), positions t (1 to 8); n = 2^D
+ * leaves, numbered from 0. The shipped set is m 230, k 126, w 79, D 8, t 3.
+ *
+ * Lengths. x_a k, salt 32, root 16, matrix (m - k) k, row after row, y m - k; message 1 64, message 2 8t (t points, then t
+ * multipliers, four bytes each), message 3 32, message 5 unlock_opening_size(). The work area has unlock_work_size() bytes or more;
+ * past all checks that length of it ends as zeros. A refused call writes no output.
+ */
+#ifndef UNLOCK_H
+#define UNLOCK_H
+
+#include <stddef.h>
+#include <stdint.h>
+
+#ifdef __cplusplus
+extern "C" {
+#endif
+
+/* What a call answers. A call that several refusals would fit gives the first of 12, 11, 1, 2, 3, 4, 13, 8, 9, 5, 6, 7. */
+enum {
+    UNLOCK_DONE = 0,        /* carried out; of an opening: accepted */
+    UNLOCK_PARAMETER = 1,   /* a parameter outside its limits */
+    UNLOCK_LENGTH = 2,      /* a slice of wrong length */
+    UNLOCK_WEIGHT = 3,      /* x has more than w nonzero entries */
+    UNLOCK_LEAF = 4,        /* leaf number not below n */
+    UNLOCK_COMMITMENT = 5,  /* the recomputed h differs */
+    UNLOCK_SUMS = 6,        /* sums of alpha, beta or v differ between axes */
+    UNLOCK_RESPONSE = 7,    /* the recomputed h' differs */
+    UNLOCK_EXCHANGE = 8,    /* extractor: salt, h, points, multipliers or h' differ */
+    UNLOCK_SAME_LEAF = 9,   /* extractor: same hidden leaf */
+    UNLOCK_NOT_DUE = 11,    /* the call is not due */
+    UNLOCK_CLOSED = 12,     /* the exchange is closed, only begin is due */
+    UNLOCK_REPEATED = 13    /* salt and root both equal those of the exchange held */
+};
+
+/* ---- lengths */
+
+/* The bytes of a session. */
+size_t unlock_prover_size(void);
+size_t unlock_verifier_size(void);
+
+/* The length of the work area; a longer one is taken too. 0 where a parameter is outside its limits. */
+size_t unlock_work_size(size_t m, size_t k, size_t w, size_t D, size_t t);
+
+/* The length of message 5 where the leaf is hidden. 0 where a parameter is outside its limits. */
+size_t unlock_opening_size(size_t m, size_t k, size_t w, size_t D, size_t t, uint8_t leaf);
+
+/* The length of the extractor's output. 0 where a parameter is outside its limits. */
+size_t unlock_extract_size(size_t m, size_t k, size_t w, size_t D, size_t t);
+
+/* ---- prover */
+
+/* A fresh session, before its first begin. */
+uint8_t unlock_prover_new(uint8_t *session, size_t session_length);
+
+/* Begins an exchange, dropping the one held, and gives message 1. Salt and root have to be random and fresh. */
+uint8_t unlock_prover_begin(uint8_t *session, size_t session_length,
+                            size_t m, size_t k, size_t w, size_t D, size_t t,
+                            const uint8_t *x_a, size_t x_a_length,
+                            const uint8_t *salt, size_t salt_length,
+                            const uint8_t *root, size_t root_length,
+                            const uint8_t *matrix, size_t matrix_length,
+                            const uint8_t *y, size_t y_length,
+                            uint8_t *work, size_t work_length,
+                            uint8_t *out, size_t out_length);
+
+/* Takes message 2 and gives message 3. */
+uint8_t unlock_prover_points(uint8_t *session, size_t session_length,
+                             const uint8_t *message2, size_t message2_length,
+                             const uint8_t *matrix, size_t matrix_length,
+                             const uint8_t *y, size_t y_length,
+                             uint8_t *work, size_t work_length,
+                             uint8_t *out, size_t out_length);
+
+/* Takes message 4, the leaf that stays hidden, gives message 5 and closes the exchange. */
+uint8_t unlock_prover_leaf(uint8_t *session, size_t session_length,
+                           uint8_t leaf,
+                           const uint8_t *matrix, size_t matrix_length,
+                           const uint8_t *y, size_t y_length,
+                           uint8_t *work, size_t work_length,
+                           uint8_t *out, size_t out_length);
+
+/* ---- verifier */
+
+/* A fresh session, before its first begin. */
+uint8_t unlock_verifier_new(uint8_t *session, size_t session_length);
+
+/* Begins an exchange with its parameters and message 1, dropping the one held. */
+uint8_t unlock_verifier_begin(uint8_t *session, size_t session_length,
+                              size_t m, size_t k, size_t w, size_t D, size_t t,
+                              const uint8_t *message1, size_t message1_length);
+
+/* Takes message 2, which the verifier sends: points and multipliers have to be random. */
+uint8_t unlock_verifier_points(uint8_t *session, size_t session_length,
+                               const uint8_t *message2, size_t message2_length);
+
+/* Takes message 3. */
+uint8_t unlock_verifier_response(uint8_t *session, size_t session_length,
+                                 const uint8_t *message3, size_t message3_length);
+
+/* Takes message 4, which the verifier sends: the leaf that stays hidden has to be random. */
+uint8_t unlock_verifier_leaf(uint8_t *session, size_t session_length, uint8_t leaf);
+
+/* Judges message 5 and closes the exchange: UNLOCK_DONE where the opening is accepted. */
+uint8_t unlock_verifier_opening(uint8_t *session, size_t session_length,
+                                const uint8_t *message5, size_t message5_length,
+                                const uint8_t *matrix, size_t matrix_length,
+                                const uint8_t *y, size_t y_length,
+                                uint8_t *work, size_t work_length);
+
+/* ---- extractor */
+
+/*
+ * From messages 1 to 5 of two exchanges. A refusal is its number; 256 + axis (from 1) where out is filled: seed and rho of every
+ * leaf, then aux; 65536 * layer + number for two unequal strings of one layer (4 to 7) and number that have one digest.
+ */
+uint32_t unlock_extract(size_t m, size_t k, size_t w, size_t D, size_t t,
+                        const uint8_t *first1, size_t first1_length,
+                        const uint8_t *first2, size_t first2_length,
+                        const uint8_t *first3, size_t first3_length,
+                        uint8_t first4,
+                        const uint8_t *first5, size_t first5_length,
+                        const uint8_t *second1, size_t second1_length,
+                        const uint8_t *second2, size_t second2_length,
+                        const uint8_t *second3, size_t second3_length,
+                        uint8_t second4,
+                        const uint8_t *second5, size_t second5_length,
+                        const uint8_t *matrix, size_t matrix_length,
+                        const uint8_t *y, size_t y_length,
+                        uint8_t *work, size_t work_length,
+                        uint8_t *out, size_t out_length);
+
+/* ---- hash */
+
+/* SHAKE256 of the message: fills out. */
+void unlock_shake256(const uint8_t *message, size_t message_length, uint8_t *out, size_t out_length);
+
+#ifdef __cplusplus
+}
+#endif
+
+#endif
