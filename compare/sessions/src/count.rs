@@ -1,0 +1,38 @@
+//! Passed and failed comparisons, and how often each number was answered.
+
+use std::collections::BTreeMap;
+
+/// The counts of a run.
+#[derive(Default)]
+pub struct Count {
+    passed: usize,
+    failed: usize,
+    numbers: BTreeMap<String, usize>,
+}
+
+impl Count {
+    /// Counts one comparison under its name; a failure is printed.
+    pub fn settle(&mut self, name: &str, outcome: Result<(), String>) {
+        match outcome {
+            Ok(()) => self.passed += 1,
+            Err(difference) => {
+                self.failed += 1;
+                println!("{name}: {difference}");
+            }
+        }
+    }
+
+    /// Counts an answer of a call.
+    pub fn answer(&mut self, call: &str, answer: impl std::fmt::Display) {
+        *self.numbers.entry(format!("{call} {answer}")).or_default() += 1;
+    }
+
+    /// Prints the counts; the exit status.
+    pub fn finish(&self) -> i32 {
+        for (answer, times) in &self.numbers {
+            println!("{answer}: {times} times");
+        }
+        println!("{} passed, {} failed", self.passed, self.failed);
+        i32::from(self.failed > 0 || self.passed == 0)
+    }
+}

@@ -1,0 +1,84 @@
+//! The calls of the samples made of the proved library.
+
+use reference::extractor::Answer;
+use reference::parameters::Parameters;
+use reference::sampling::calls::{Effect, ExtractorCall, ProverCall, ProverInput, VerifierCall};
+use reference::sampling::exchanges::Exchange;
+
+/// The parameters as the wrapper takes them.
+pub fn parameters(p: &Parameters) -> unlock::Parameters {
+    unlock::Parameters { m: p.m, k: p.k, w: p.w, d: p.axes, t: p.t }
+}
+
+/// Makes a prover's call.
+pub fn make_prover(call: &ProverCall, prover: &mut unlock::prover::Prover) -> Effect {
+    let (mut work, mut output) = (call.lent.work.clone(), call.output.clone());
+    let (matrix, y) = (&call.lent.matrix, &call.lent.y);
+    let number = match &call.input {
+        ProverInput::Begin { parameters: p, x_a, salt, root } => {
+            prover.begin(parameters(p), x_a, salt, root, matrix, y, &mut work, &mut output)
+        }
+        ProverInput::Points { message_2 } => prover.points(message_2, matrix, y, &mut work, &mut output),
+        ProverInput::Leaf { leaf } => prover.leaf(*leaf, matrix, y, &mut work, &mut output),
+    };
+    Effect { number, work, output }
+}
+
+/// Makes a verifier's call; a call without work area leaves an empty one.
+pub fn make_verifier(call: &VerifierCall, verifier: &mut unlock::verifier::Verifier) -> Effect {
+    let mut work = Vec::new();
+    let number = match call {
+        VerifierCall::Begin { parameters: p, message_1 } => verifier.begin(parameters(p), message_1),
+        VerifierCall::Points { message_2 } => verifier.points(message_2),
+        VerifierCall::Response { message_3 } => verifier.response(message_3),
+        VerifierCall::Leaf { leaf } => verifier.leaf(*leaf),
+        VerifierCall::Opening { message_5, lent } => {
+            work.clone_from(&lent.work);
+            verifier.opening(message_5, &lent.matrix, &lent.y, &mut work)
+        }
+    };
+    Effect { number, work, output: Vec::new() }
+}
+
+fn messages(exchange: &Exchange) -> unlock::extractor::Messages<'_> {
+    unlock::extractor::Messages {
+        message_1: &exchange.message_1,
+        message_2: &exchange.message_2,
+        message_3: &exchange.message_3,
+        leaf: exchange.leaf,
+        message_5: &exchange.message_5,
+    }
+}
+
+/// Makes a call of the extractor: its answer, the work area and the output after it.
+pub fn make_extractor(call: &ExtractorCall) -> (u32, Vec<u8>, Vec<u8>) {
+    let (mut work, mut output) = (call.lent.work.clone(), call.output.clone());
+    let (first, second) = (messages(&call.first), messages(&call.second));
+    let (matrix, y) = (&call.lent.matrix, &call.lent.y);
+    let p = parameters(&call.parameters);
+    let answer = unlock::extractor::extract(p, first, second, matrix, y, &mut work, &mut output);
+    (answer, work, output)
+}
+
+/// The extractor's answer as the C interface gives it.
+pub fn answer_number(answer: Answer) -> u32 {
+    match answer {
+        Answer::Refused(number) => u32::from(number),
+        Answer::Unequal { layer, number } => 65536 * u32::from(layer) + u32::from(number),
+        Answer::Extracted { axis } => 256 + u32::from(axis),
+    }
+}
+
+/// What differs between two effects, if anything.
+pub fn same(expected: &Effect, found: &Effect) -> Result<(), String> {
+    if expected.number != found.number {
+        return Err(format!("number {} for {}", found.number, expected.number));
+    }
+    if expected.output != found.output {
+        return Err("another output".to_string());
+    }
+    if expected.work != found.work {
+        return Err("another work area".to_string());
+    }
+    Ok(())
+}

@@ -1,0 +1,36 @@
+//! Compares the proved library with the second implementation on calls made from a seed: numbers, outputs and work areas
+//! byte for byte, and that a refused call leaves the session as it was.
+//!
+//! sessions_comparison SEED     what the gate runs; the last line is 'N passed, M failed'
+
+mod count;
+mod effects;
+mod extractor;
+mod fixed;
+mod prover;
+mod verifier;
+
+use count::Count;
+
+fn main() {
+    let seed = match std::env::args().nth(1).map(|word| word.parse()) {
+        Some(Ok(seed)) => seed,
+        _ => {
+            eprintln!("usage: sessions_comparison SEED");
+            std::process::exit(2);
+        }
+    };
+    let mut count = Count::default();
+    let printed = concat!(env!("CARGO_MANIFEST_DIR"), "/../../crates/proving/stdout");
+    fixed::compare(&std::fs::read_to_string(printed).unwrap_or_default(), &mut count);
+    prover::extremes(seed, &mut count);
+    prover::scripts(seed, 400, &mut count);
+    prover::strangers(seed, 100, &mut count);
+    verifier::honest(seed, 20, &mut count);
+    verifier::damaged(seed, 40, &mut count);
+    verifier::scripts(seed, 400, &mut count);
+    verifier::strangers(seed, 100, &mut count);
+    extractor::pairs(seed, 12, &mut count);
+    extractor::calls(seed, 400, &mut count);
+    std::process::exit(count.finish());
+}

@@ -1,0 +1,64 @@
+//! The extractor.
+
+use crate::interface;
+use crate::Parameters;
+
+/// Messages 1 to 5 of an exchange.
+#[derive(Clone, Copy, Debug)]
+#[allow(missing_docs)]
+pub struct Messages<'a> {
+    pub message_1: &'a [u8],
+    pub message_2: &'a [u8],
+    pub message_3: &'a [u8],
+    pub leaf: u8,
+    pub message_5: &'a [u8],
+}
+
+/// What the extractor answers: the number of a refusal as it stands, 256 + axis where the output is filled,
+/// 65536·layer + number for an unequal pair.
+pub fn extract(
+    p: Parameters,
+    first: Messages,
+    second: Messages,
+    matrix: &[u8],
+    y: &[u8],
+    work: &mut [u8],
+    out: &mut [u8],
+) -> u32 {
+    // SAFETY: each pointer stands with the length of its slice, and what is written overlaps nothing.
+    unsafe {
+        interface::unlock_extract(
+            p.m,
+            p.k,
+            p.w,
+            p.d,
+            p.t,
+            first.message_1.as_ptr(),
+            first.message_1.len(),
+            first.message_2.as_ptr(),
+            first.message_2.len(),
+            first.message_3.as_ptr(),
+            first.message_3.len(),
+            first.leaf,
+            first.message_5.as_ptr(),
+            first.message_5.len(),
+            second.message_1.as_ptr(),
+            second.message_1.len(),
+            second.message_2.as_ptr(),
+            second.message_2.len(),
+            second.message_3.as_ptr(),
+            second.message_3.len(),
+            second.leaf,
+            second.message_5.as_ptr(),
+            second.message_5.len(),
+            matrix.as_ptr(),
+            matrix.len(),
+            y.as_ptr(),
+            y.len(),
+            work.as_mut_ptr(),
+            work.len(),
+            out.as_mut_ptr(),
+            out.len(),
+        )
+    }
+}

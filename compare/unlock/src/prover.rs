@@ -1,0 +1,125 @@
+//! The prover's session.
+
+use crate::interface;
+use crate::Parameters;
+
+/// A session, as the bytes that the library keeps in it.
+#[derive(Clone, Debug, PartialEq, Eq)]
+pub struct Prover {
+    session: Vec<u8>,
+}
+
+impl Default for Prover {
+    fn default() -> Prover {
+        Prover::new()
+    }
+}
+
+impl Prover {
+    /// A session before its first begin.
+    pub fn new() -> Prover {
+        let mut session = vec![0; Prover::size()];
+        // SAFETY: the pointer stands with the length of its slice.
+        let number = unsafe { interface::unlock_prover_new(session.as_mut_ptr(), session.len()) };
+        assert_eq!(number, 0);
+        Prover { session }
+    }
+
+    /// How many bytes a session has.
+    pub fn size() -> usize {
+        // SAFETY: no argument.
+        unsafe { interface::unlock_prover_size() }
+    }
+
+    /// Any bytes as a session.
+    pub fn from_bytes(session: Vec<u8>) -> Prover {
+        Prover { session }
+    }
+
+    /// The bytes of the session.
+    pub fn bytes(&self) -> &[u8] {
+        &self.session
+    }
+
+    /// Starts an exchange and writes message 1.
+    #[allow(clippy::too_many_arguments)]
+    pub fn begin(
+        &mut self,
+        p: Parameters,
+        x_a: &[u8],
+        salt: &[u8],
+        root: &[u8],
+        matrix: &[u8],
+        y: &[u8],
+        work: &mut [u8],
+        out: &mut [u8],
+    ) -> u8 {
+        // SAFETY: each pointer stands with the length of its slice, and what is written overlaps nothing.
+        unsafe {
+            interface::unlock_prover_begin(
+                self.session.as_mut_ptr(),
+                self.session.len(),
+                p.m,
+                p.k,
+                p.w,
+                p.d,
+                p.t,
+                x_a.as_ptr(),
+                x_a.len(),
+                salt.as_ptr(),
+                salt.len(),
+                root.as_ptr(),
+                root.len(),
+                matrix.as_ptr(),
+                matrix.len(),
+                y.as_ptr(),
+                y.len(),
+                work.as_mut_ptr(),
+                work.len(),
+                out.as_mut_ptr(),
+                out.len(),
+            )
+        }
+    }
+
+    /// Takes message 2 and writes message 3.
+    pub fn points(&mut self, message_2: &[u8], matrix: &[u8], y: &[u8], work: &mut [u8], out: &mut [u8]) -> u8 {
+        // SAFETY: each pointer stands with the length of its slice, and what is written overlaps nothing.
+        unsafe {
+            interface::unlock_prover_points(
+                self.session.as_mut_ptr(),
+                self.session.len(),
+                message_2.as_ptr(),
+                message_2.len(),
+                matrix.as_ptr(),
+                matrix.len(),
+                y.as_ptr(),
+                y.len(),
+                work.as_mut_ptr(),
+                work.len(),
+                out.as_mut_ptr(),
+                out.len(),
+            )
+        }
+    }
+
+    /// Takes message 4, writes message 5 and closes the exchange.
+    pub fn leaf(&mut self, leaf: u8, matrix: &[u8], y: &[u8], work: &mut [u8], out: &mut [u8]) -> u8 {
+        // SAFETY: each pointer stands with the length of its slice, and what is written overlaps nothing.
+        unsafe {
+            interface::unlock_prover_leaf(
+                self.session.as_mut_ptr(),
+                self.session.len(),
+                leaf,
+                matrix.as_ptr(),
+                matrix.len(),
+                y.as_ptr(),
+                y.len(),
+                work.as_mut_ptr(),
+                work.len(),
+                out.as_mut_ptr(),
+                out.len(),
+            )
+        }
+    }
+}
