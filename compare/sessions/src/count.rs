@@ -27,11 +27,26 @@ impl Count {
         *self.numbers.entry(format!("{call} {answer}")).or_default() += 1;
     }
 
-    /// Prints the counts; the exit status.
-    pub fn finish(&self) -> i32 {
+    /// How many comparisons failed.
+    pub fn failed(&self) -> usize {
+        self.failed
+    }
+
+    /// How many calls were made of those whose name starts so.
+    pub fn calls(&self, start: &str) -> usize {
+        self.numbers.iter().filter(|(answer, _)| answer.starts_with(start)).map(|(_, times)| times).sum()
+    }
+
+    /// Prints how often each call answered each number.
+    pub fn print_answers(&self) {
         for (answer, times) in &self.numbers {
             println!("{answer}: {times} times");
         }
+    }
+
+    /// Prints the counts; the exit status.
+    pub fn finish(&self) -> i32 {
+        self.print_answers();
         println!("{} passed, {} failed", self.passed, self.failed);
         i32::from(self.failed > 0 || self.passed == 0)
     }

@@ -2,12 +2,14 @@
 
 use crate::count::Count;
 use crate::effects::{answer_number, make_extractor};
+use crate::size;
 use reference::sampling::calls::{ExtractorCall, LentBytes};
-use reference::sampling::exchanges::{honest_exchange, Start};
-use reference::sampling::keys::valid_key;
+use reference::sampling::exchanges::{honest_exchange, Exchange, Start};
+use reference::sampling::keys::{valid_key, Key};
 use reference::sampling::parameter_sets::random_set;
-use reference::sampling::scripts::{extractor_call, Size};
+use reference::sampling::scripts::extractor_call;
 use reference::sampling::Random;
+use std::ops::Range;
 
 fn compare(call: &ExtractorCall, count: &mut Count) -> Result<(), String> {
     let (answer, work, output) = call.make();
@@ -26,17 +28,20 @@ fn compare(call: &ExtractorCall, count: &mut Count) -> Result<(), String> {
 }
 
 /// Random calls: honest and simulated exchanges, undamaged and damaged.
-pub fn calls(seed: u64, calls: usize, count: &mut Count) {
-    for number in 0..calls {
-        let mut random = Random::new(seed.wrapping_mul(1_000_081).wrapping_add(number as u64));
-        let size = match number % 20 {
-            0 => Size { greatest_m: 40, greatest_axes: 8 },
-            1..=4 => Size { greatest_m: 24, greatest_axes: 5 },
-            _ => Size { greatest_m: 12, greatest_axes: 3 },
-        };
-        let outcome = compare(&extractor_call(&mut random, size), count);
+pub fn calls(seed: u64, numbers: Range<u64>, count: &mut Count) {
+    for number in numbers {
+        let mut random = Random::new(seed.wrapping_mul(1_000_081).wrapping_add(number));
+        let outcome = compare(&extractor_call(&mut random, size(number)), count);
         count.settle(&format!("extractor call {number}"), outcome);
     }
+}
+
+/// The call for two exchanges under a key.
+pub fn call(random: &mut Random, key: &Key, first: Exchange, second: Exchange) -> ExtractorCall {
+    let parameters = key.parameters;
+    let work = random.bytes(parameters.work_bytes());
+    let lent = LentBytes { matrix: key.matrix.clone(), y: key.y.clone(), work };
+    ExtractorCall { parameters, first, second, lent, output: random.bytes(parameters.extractor_bytes()) }
 }
 
 /// Every two leaves of honest exchanges at small D.
@@ -48,13 +53,8 @@ pub fn pairs(seed: u64, sets: usize, count: &mut Count) {
         let start = Start::random(&mut random, &set);
         for (first, second) in (0..set.leaves()).flat_map(|first| (0..set.leaves()).map(move |second| (first, second)))
         {
-            let call = ExtractorCall {
-                parameters: set,
-                first: honest_exchange(&key, &start, first as u8),
-                second: honest_exchange(&key, &start, second as u8),
-                lent: LentBytes { matrix: key.matrix.clone(), y: key.y.clone(), work: random.bytes(set.work_bytes()) },
-                output: random.bytes(set.extractor_bytes()),
-            };
+            let [one, other] = [first, second].map(|leaf| honest_exchange(&key, &start, leaf as u8));
+            let call = call(&mut random, &key, one, other);
             let outcome = compare(&call, count);
             count.settle(&format!("leaves {first} and {second} at {set:?}"), outcome);
         }

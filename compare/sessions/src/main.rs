@@ -1,16 +1,9 @@
-//! Compares the proved library with the second implementation on calls made from a seed: numbers, outputs and work areas
-//! byte for byte, and that a refused call leaves the session as it was.
+//! Compares the proved library with the second implementation on calls made from a seed.
 //!
 //! sessions_comparison SEED     what the gate runs; the last line is 'N passed, M failed'
 
-mod count;
-mod effects;
-mod extractor;
-mod fixed;
-mod prover;
-mod verifier;
-
-use count::Count;
+use sessions_comparison::count::Count;
+use sessions_comparison::{extractor, fixed, prover, verifier};
 
 fn main() {
     let seed = match std::env::args().nth(1).map(|word| word.parse()) {
@@ -24,13 +17,13 @@ fn main() {
     let printed = concat!(env!("CARGO_MANIFEST_DIR"), "/../../crates/proving/stdout");
     fixed::compare(&std::fs::read_to_string(printed).unwrap_or_default(), &mut count);
     prover::extremes(seed, &mut count);
-    prover::scripts(seed, 400, &mut count);
+    prover::scripts(seed, 0..400, &mut count);
     prover::strangers(seed, 100, &mut count);
     verifier::honest(seed, 20, &mut count);
     verifier::damaged(seed, 40, &mut count);
-    verifier::scripts(seed, 400, &mut count);
+    verifier::scripts(seed, 0..400, &mut count);
     verifier::strangers(seed, 100, &mut count);
     extractor::pairs(seed, 12, &mut count);
-    extractor::calls(seed, 400, &mut count);
+    extractor::calls(seed, 0..400, &mut count);
     std::process::exit(count.finish());
 }

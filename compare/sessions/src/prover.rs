@@ -2,6 +2,7 @@
 
 use crate::count::Count;
 use crate::effects::{make_prover, same};
+use crate::size;
 use reference::numbers::CARRIED_OUT;
 use reference::parameters::Parameters;
 use reference::prover::Prover;
@@ -11,6 +12,7 @@ use reference::sampling::keys::{valid_key, Key};
 use reference::sampling::parameter_sets::extreme_sets;
 use reference::sampling::scripts::{prover_script, Size};
 use reference::sampling::Random;
+use std::ops::Range;
 
 fn name(input: &ProverInput) -> &'static str {
     match input {
@@ -36,16 +38,11 @@ fn compare(calls: &[ProverCall], mut found: unlock::prover::Prover, count: &mut 
 }
 
 /// Random scripts of up to 20 calls: wrong orders, wrong lengths, bad parameters, repeated salt and root.
-pub fn scripts(seed: u64, scripts: usize, count: &mut Count) {
-    for number in 0..scripts {
-        let mut random = Random::new(seed.wrapping_mul(1_000_003).wrapping_add(number as u64));
-        let size = match number % 20 {
-            0 => Size { greatest_m: 40, greatest_axes: 8 },
-            1..=4 => Size { greatest_m: 24, greatest_axes: 5 },
-            _ => Size { greatest_m: 12, greatest_axes: 3 },
-        };
+pub fn scripts(seed: u64, numbers: Range<u64>, count: &mut Count) {
+    for number in numbers {
+        let mut random = Random::new(seed.wrapping_mul(1_000_003).wrapping_add(number));
         let length = random.between(1, 20);
-        let calls = prover_script(&mut random, size, length);
+        let calls = prover_script(&mut random, size(number), length);
         let outcome = compare(&calls, unlock::prover::Prover::new(), count);
         count.settle(&format!("prover script {number}"), outcome);
     }
@@ -55,19 +52,18 @@ fn lent(key: &Key, random: &mut Random) -> LentBytes {
     LentBytes { matrix: key.matrix.clone(), y: key.y.clone(), work: random.bytes(key.parameters.work_bytes() + 3) }
 }
 
-/// An exchange in the right order.
-fn honest(random: &mut Random, set: &Parameters) -> Vec<ProverCall> {
-    let key = valid_key(random, set);
-    let Start { salt, root, message_2 } = Start::random(random, set);
-    let leaf = random.below(set.leaves()) as u8;
-    let begin = ProverInput::Begin { parameters: *set, x_a: key.x_a.clone(), salt: salt.to_vec(), root: root.to_vec() };
+/// The calls of an exchange in the right order.
+pub fn calls(random: &mut Random, key: &Key, start: Start, leaf: u8) -> Vec<ProverCall> {
+    let Start { salt, root, message_2 } = start;
+    let set = key.parameters;
+    let begin = ProverInput::Begin { parameters: set, x_a: key.x_a.clone(), salt: salt.to_vec(), root: root.to_vec() };
     [
         (begin, Parameters::MESSAGE_1_BYTES),
         (ProverInput::Points { message_2 }, Parameters::MESSAGE_3_BYTES),
         (ProverInput::Leaf { leaf }, set.message_5_bytes(usize::from(leaf))),
     ]
     .into_iter()
-    .map(|(input, length)| ProverCall { input, lent: lent(&key, random), output: random.bytes(length) })
+    .map(|(input, length)| ProverCall { input, lent: lent(key, random), output: random.bytes(length) })
     .collect()
 }
 
@@ -75,7 +71,10 @@ fn honest(random: &mut Random, set: &Parameters) -> Vec<ProverCall> {
 pub fn extremes(seed: u64, count: &mut Count) {
     let mut random = Random::new(seed);
     for set in extreme_sets() {
-        let calls = honest(&mut random, &set);
+        let key = valid_key(&mut random, &set);
+        let start = Start::random(&mut random, &set);
+        let leaf = random.below(set.leaves()) as u8;
+        let calls = calls(&mut random, &key, start, leaf);
         let outcome = compare(&calls, unlock::prover::Prover::new(), count);
         count.settle(&format!("prover at {set:?}"), outcome);
     }

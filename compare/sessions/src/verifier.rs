@@ -2,6 +2,7 @@
 
 use crate::count::Count;
 use crate::effects::{make_verifier, same};
+use crate::size;
 use reference::sampling::calls::{LentBytes, VerifierCall};
 use reference::sampling::damage::flip_bit;
 use reference::sampling::exchanges::{honest_exchange, Exchange, Start};
@@ -10,6 +11,7 @@ use reference::sampling::parameter_sets::{extreme_sets, random_set};
 use reference::sampling::scripts::{verifier_script, Size};
 use reference::sampling::Random;
 use reference::verifier::Verifier;
+use std::ops::Range;
 
 fn name(call: &VerifierCall) -> &'static str {
     match call {
@@ -43,23 +45,18 @@ fn compare(
 }
 
 /// Random scripts of up to 20 calls.
-pub fn scripts(seed: u64, scripts: usize, count: &mut Count) {
-    for number in 0..scripts {
-        let mut random = Random::new(seed.wrapping_mul(1_000_037).wrapping_add(number as u64));
-        let size = match number % 20 {
-            0 => Size { greatest_m: 40, greatest_axes: 8 },
-            1..=4 => Size { greatest_m: 24, greatest_axes: 5 },
-            _ => Size { greatest_m: 12, greatest_axes: 3 },
-        };
+pub fn scripts(seed: u64, numbers: Range<u64>, count: &mut Count) {
+    for number in numbers {
+        let mut random = Random::new(seed.wrapping_mul(1_000_037).wrapping_add(number));
         let length = random.between(1, 20);
-        let calls = verifier_script(&mut random, size, length);
+        let calls = verifier_script(&mut random, size(number), length);
         let outcome = compare(&calls, unlock::verifier::Verifier::new(), count);
         count.settle(&format!("verifier script {number}"), outcome.map(|_| ()));
     }
 }
 
 /// The calls that hand an exchange to a verifier.
-fn calls(random: &mut Random, key: &Key, exchange: &Exchange) -> Vec<VerifierCall> {
+pub fn calls(random: &mut Random, key: &Key, exchange: &Exchange) -> Vec<VerifierCall> {
     let longer = random.below(3);
     let work = random.bytes(key.parameters.work_bytes() + longer);
     let lent = LentBytes { matrix: key.matrix.clone(), y: key.y.clone(), work };

@@ -14,7 +14,7 @@ const COMMON: [(&str, &[&str]); 8] = [
     ("Rattle.answers.specs.Number", &["answerNumber"]),
     ("Rattle.parameters.specs.declared.Parameters", &["Parameters"]),
     ("Rattle.exchange.specs.Values", &["Key"]),
-    ("Rattle.trial.specs.StandIn", &["hex", "standIn", "weak", "weakLeaves"]),
+    ("Rattle.standin.specs.StandIn", &["hex", "standIn", "weak", "weakLeaves"]),
 ];
 
 /// From so many equal bytes on, a list is written as a repetition.
@@ -132,6 +132,13 @@ impl Module {
     /// A list of bytes by a name.
     pub fn bytes(&mut self, name: &str, bytes: &[u8]) {
         self.value(name, "List ℕ", &list(bytes));
+    }
+
+    /// An exchange, from its messages.
+    pub fn exchange(&self, exchange: &Exchange) -> String {
+        let [m1, m2, m3, m5] = [&exchange.message_1, &exchange.message_2, &exchange.message_3, &exchange.message_5]
+            .map(|message| self.list(message));
+        format!("\n    exchange\n    {m1}\n    {m2}\n    {m3}\n    {}\n    {m5}", exchange.leaf)
     }
 
     /// States what a term computes to.

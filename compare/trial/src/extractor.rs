@@ -7,10 +7,15 @@ use reference::sampling::calls::{ExtractorCall, LentBytes};
 use reference::sampling::exchanges::{extraction, Exchange};
 use reference::stand_in::{under, Weakness};
 
-const USES: [(&str, &[&str]); 3] = [
+const FINDING_USES: [(&str, &[&str]); 3] = [
+    ("Rattle.exchange.specs.Opening", &["Exchange", "exchange"]),
     ("Rattle.exchange.specs.Extractor", &["extract"]),
-    ("Rattle.extractor.specs.Call", &["Transcript", "exchangeOf", "Outcome", "extraction"]),
-    ("Rattle.trial.specs.Definitions", &["definitions", "findingLists", "extractionNumbers"]),
+    ("Rattle.standin.specs.Definitions", &["definitions", "findingLists"]),
+];
+
+const CALL_USES: [(&str, &[&str]); 2] = [
+    ("Rattle.extractor.specs.Call", &["Transcript", "Outcome", "extraction"]),
+    ("Rattle.trial_extractor.specs.Definitions", &["definitions", "extractionNumbers"]),
 ];
 
 /// The hash of a weakness.
@@ -61,9 +66,12 @@ impl<'a> Pair<'a> {
             Answer::Extracted { axis } => format!("({axis} ∷ []) ∷ {} ∷ []", list(&output)),
         };
         let hash = hash(self.weakness);
-        let first = named(module, &format!("{name}A"), &self.first);
-        let second = named(module, &format!("{name}B"), &self.second);
-        let computed = format!("findingLists (extract {hash} p key (exchangeOf {first}) (exchangeOf {second}))");
+        let [first, second] = [("A", &self.first), ("B", &self.second)].map(|(side, exchange)| {
+            let term = module.exchange(exchange);
+            module.value(&format!("{name}{side}"), "Exchange", &term);
+            format!("{name}{side}")
+        });
+        let computed = format!("findingLists (extract {hash} p key {first} {second})");
         module.fact(&format!("{name}-found"), &computed, &found);
     }
 
@@ -110,10 +118,10 @@ fn findings_module(name: &'static str, title: &str, sample: &Sample) -> Module {
         title,
         "",
         "p, key       parameters, matrix and y",
-        "..A, ..B     the messages of two exchanges, accepted under the hash named in the fact",
+        "..A, ..B     two exchanges, accepted under the hash named in the fact",
         "..-found     what the extractor finds in them: layer and number; or the axis, then the output",
     ];
-    let mut module = Module::new(name, &comment, &USES);
+    let mut module = Module::new(name, &comment, &FINDING_USES);
     module.key(&sample.key);
     module
 }
@@ -169,7 +177,7 @@ pub fn calls(sample: &Sample) -> Module {
         "..-gives              what the call answers: a refusal's number; or 0, layer and number; or 0 and the axis;",
         "                      then output and work area",
     ];
-    let mut module = Module::new("ExtractorCalls", &comment, &USES);
+    let mut module = Module::new("ExtractorCalls", &comment, &CALL_USES);
     let honest = Pair::new(Weakness::Nothing, sample, [0, 1], [None; 2]).call();
     let response = Pair::new(Weakness::Layer(7), sample, [0, 1], [None, Some(Part::Alpha)]).call();
     module.key(&sample.key);

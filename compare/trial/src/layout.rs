@@ -15,7 +15,7 @@ const USES: [(&str, &[&str]); 5] = [
     ("Rattle.exchange.specs.Tree", &["siblings"]),
     ("Rattle.exchange.specs.Opening", &["Exchange"]),
     ("Rattle.exchange.specs.Extractor", &["compared", "axis"]),
-    ("Rattle.trial.specs.Definitions", &["definitions"]),
+    ("Rattle.standin.specs.Definitions", &["definitions"]),
 ];
 
 /// A list of terms.

@@ -4,8 +4,9 @@
 //! trial DIRECTORY
 //! ```
 //!
-//! Each module of crates/trial/specs that states facts is written there, and the root module that names them all. One
-//! line a module is printed: its name and how many facts it states.
+//! Each module of the crates `trial`, `trial_axes`, `trial_prover`, `trial_verifier` and `trial_extractor` that states facts
+//! is written there, below its crate's name, and the root module that names them all. One line a module is printed: its
+//! crate, its name and how many facts it states.
 
 mod antt;
 mod extractor;
@@ -23,43 +24,54 @@ use std::path::Path;
 use std::process::ExitCode;
 use std::{fs, io};
 
-/// The modules that are not written here: the stand-in, and the definitions that the facts open.
-const GIVEN: [&str; 2] = ["StandIn", "Definitions"];
+/// A crate of facts: its name, its modules that are written by hand, and those that are written here.
+struct Crate {
+    name: &'static str,
+    given: &'static [&'static str],
+    modules: Vec<Module>,
+}
 
 /// m, k, w, D, t and the weight of x: small, since the facts are computed by the definitions.
-fn modules() -> Vec<Module> {
+fn crates() -> [Crate; 5] {
     let one_axis = Sample::new(1, Parameters::new(3, 1, 2, 1, 1), 2);
     let two_axes = Sample::new(2, Parameters::new(5, 3, 2, 2, 1), 1);
     let two_positions = Sample::new(3, Parameters::new(3, 2, 1, 1, 2), 1);
     let small = Sample::new(4, Parameters::new(2, 1, 1, 1, 1), 1);
     let small_square = Sample::new(5, Parameters::new(2, 1, 1, 2, 1), 1);
-    let mut modules = vec![
+    let [one_axis_findings, two_axes_findings] = extractor::findings(&small, &small_square);
+    let trial = vec![
         layout::module(),
         messages::module("OneAxis", "m 3, k 1, w 2, D 1, t 1.", &one_axis, 0, Extent::Verdicts),
-        messages::module(
-            "TwoAxes",
-            "m 5, k 3, w 2, D 2, t 1; x has one nonzero entry, so E is filled.",
-            &two_axes,
-            1,
-            Extent::Messages,
-        ),
         messages::module("TwoPositions", "m 3, k 2, w 1, D 1, t 2.", &two_positions, 0, Extent::Messages),
+        one_axis_findings,
     ];
-    modules.extend(extractor::findings(&small, &small_square));
-    modules.extend([prover::calls(&small), verifier::calls(&small), extractor::calls(&small)]);
-    modules
+    let title = "m 5, k 3, w 2, D 2, t 1; x has one nonzero entry, so E is filled.";
+    let trial_axes = vec![messages::module("TwoAxes", title, &two_axes, 1, Extent::Messages), two_axes_findings];
+    let calls = |name, module| Crate { name, given: &["Definitions"], modules: vec![module] };
+    [
+        Crate { name: "trial", given: &[], modules: trial },
+        Crate { name: "trial_axes", given: &[], modules: trial_axes },
+        calls("trial_prover", prover::calls(&small)),
+        calls("trial_verifier", verifier::calls(&small)),
+        calls("trial_extractor", extractor::calls(&small)),
+    ]
 }
 
-fn write_modules(directory: &Path) -> io::Result<()> {
-    let modules = modules();
-    let names = GIVEN.into_iter().chain(modules.iter().map(|module| module.name));
+fn write_crate(directory: &Path, written: &Crate) -> io::Result<()> {
+    let specs = directory.join(written.name).join("specs");
+    fs::create_dir_all(&specs)?;
+    let names = written.given.iter().copied().chain(written.modules.iter().map(|module| module.name));
     let root: String = names.map(|name| format!("pub mod {name}\n")).collect();
-    fs::write(directory.join("Lib.antt"), root)?;
-    for module in &modules {
-        fs::write(directory.join(format!("{}.antt", module.name)), module.text())?;
-        println!("{} {}", module.name, module.facts());
+    fs::write(specs.join("Lib.antt"), root)?;
+    for module in &written.modules {
+        fs::write(specs.join(format!("{}.antt", module.name)), module.text())?;
+        println!("{} {} {}", written.name, module.name, module.facts());
     }
     Ok(())
+}
+
+fn write_crates(directory: &Path) -> io::Result<()> {
+    crates().iter().try_for_each(|written| write_crate(directory, written))
 }
 
 fn main() -> ExitCode {
@@ -68,7 +80,7 @@ fn main() -> ExitCode {
         eprintln!("usage: trial DIRECTORY");
         return ExitCode::from(2);
     };
-    match write_modules(Path::new(directory)) {
+    match write_crates(Path::new(directory)) {
         Ok(()) => ExitCode::SUCCESS,
         Err(error) => {
             eprintln!("{directory}: {error}");

@@ -7,10 +7,10 @@ use reference::sampling::exchanges::{verdict, Exchange};
 
 const USES: [(&str, &[&str]); 5] = [
     ("Rattle.polynomial.specs.Interpolant", &["interpolantOf", "vanishingOf"]),
-    ("Rattle.key.specs.Key", &["vectorOf", "locatorOf", "quotientOf"]),
+    ("Rattle.relation.specs.Key", &["vectorOf", "locatorOf", "quotientOf"]),
     ("Rattle.exchange.specs.Messages", &["message1", "message3", "message5"]),
     ("Rattle.exchange.specs.Opening", &["Exchange", "exchange", "verdict"]),
-    ("Rattle.trial.specs.Definitions", &["definitions"]),
+    ("Rattle.standin.specs.Definitions", &["definitions"]),
 ];
 
 /// How many of the facts a module states: a verdict costs as much as three messages 3, and the more the longer x is.
@@ -72,16 +72,9 @@ fn message_facts(module: &mut Module, exchanges: &[Exchange; 2]) {
     }
 }
 
-/// Names an exchange.
-fn name_exchange(module: &mut Module, name: &str, exchange: &Exchange) {
-    let [m1, m2, m3, m5] = [&exchange.message_1, &exchange.message_2, &exchange.message_3, &exchange.message_5]
-        .map(|message| module.list(message));
-    let term = format!("\n    exchange\n    {m1}\n    {m2}\n    {m3}\n    {}\n    {m5}", exchange.leaf);
-    module.value(name, "Exchange", &term);
-}
-
 fn verdict_fact(module: &mut Module, sample: &Sample, name: &str, exchange: &Exchange) {
-    name_exchange(module, name, exchange);
+    let term = module.exchange(exchange);
+    module.value(name, "Exchange", &term);
     let number = verdict(&sample.key.parameters, sample.key.public(), exchange);
     let computed = format!("answerNumber (verdict standIn p {name} key)");
     module.fact(&format!("{name}-judged"), &computed, &number.to_string());

@@ -8,7 +8,7 @@ use reference::sampling::calls::{LentBytes, ProverCall, ProverInput};
 
 const USES: [(&str, &[&str]); 2] = [
     ("Rattle.prover.specs.Session", &["Outcome", "fresh", "begin", "points", "leaf"]),
-    ("Rattle.trial.specs.Definitions", &["definitions"]),
+    ("Rattle.trial_prover.specs.Definitions", &["definitions"]),
 ];
 
 /// A session and the calls made on it so far.

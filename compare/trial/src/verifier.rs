@@ -12,7 +12,7 @@ const USES: [(&str, &[&str]); 2] = [
         "Rattle.verifier.specs.Session",
         &["Outcome", "Judged", "fresh", "begin", "points", "response", "leaf", "opening"],
     ),
-    ("Rattle.trial.specs.Definitions", &["definitions"]),
+    ("Rattle.trial_verifier.specs.Definitions", &["definitions"]),
 ];
 
 /// A session and the calls made on it so far.

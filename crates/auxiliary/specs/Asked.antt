@@ -8,7 +8,7 @@ use Prim.Native.Nat.{ℕ, _*_}
 use lib.ListN.{length}
 use Rattle.parameters.specs.declared.Parameters.{Parameters}
 use Rattle.parameters.specs.Limits.{Within}
-use Rattle.key.specs.Light.{Light}
+use Rattle.relation.specs.Light.{Light}
 use Rattle.exchange.specs.Layout.{auxLength, shareLength}
 
 pub record ProductsAsked (p : Parameters) (drawn out : List ℕ) : Type 0 where

@@ -8,9 +8,9 @@ use mathlib.Core.List.{List, _++_}
 use Prim.Native.Nat.{ℕ, _*_}
 use lib.ListN.{take, drop}
 use Rattle.lists.specs.Sum.{xorList}
-use Rattle.points.specs.Field.{Point}
+use Rattle.tower.specs.Field.{Point}
 use Rattle.parameters.specs.declared.Parameters.{Parameters}
-use Rattle.key.specs.Key.{locatorOf, quotientOf}
+use Rattle.relation.specs.Key.{locatorOf, quotientOf}
 use Rattle.exchange.specs.Reading.{encode, _⊠_}
 use Rattle.exchange.specs.Values.{aOf, bOf}
 pub mod Laws

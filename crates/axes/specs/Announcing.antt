@@ -7,21 +7,21 @@
 --                          in the place of `disclosed`
 -- partyFrom p parts j c    the sum of the disclosed leaves of party c on axis j, from D + 1 shares: the first parties of all axes,
 --                          then the sum of all disclosed leaves. The second party has what the first has not
--- hiddenParty p leaf j     the party that holds the hidden leaf on axis j
 -- rowOf p key m2 parts leaf hidden j   what is hashed of axis j behind its number; `hidden` is α (4t) and β (4t) of the hidden leaf
 use mathlib.Core.Bool.{cond}
 use mathlib.Core.List.{List}
 use Prim.Native.Nat.{ℕ, _+_, _*_}
-use lib.Dec.{eqb, ltb}
+use lib.Dec.{eqb}
 use Rattle.lists.specs.Part.{part}
 use Rattle.lists.specs.Sum.{xorList}
-use Rattle.points.specs.Field.{Point}
+use Rattle.tower.specs.Field.{Point}
 use Rattle.parameters.specs.declared.Parameters.{Parameters}
-use Rattle.exchange.specs.Layout.{side, leaves, digit, shareLength}
+use Rattle.exchange.specs.Layout.{side, shareLength}
 use Rattle.exchange.specs.Sequences.{joined}
 use Rattle.exchange.specs.Reading.{pointAt, _⊞_, 𝟎}
 use Rattle.exchange.specs.Values.{Key, alpha, beta, partV}
 use Rattle.exchange.specs.Parties.{Announced, sums, announcedBytes}
+use Rattle.partyrows.specs.Row.{hiddenParty}
 pub mod Laws
 pub mod Strings
 
@@ -47,9 +47,6 @@ unfoldable pub partyFrom : Parameters → List ℕ → ℕ → ℕ → List ℕ
 partyFrom p parts j c =
     cond (eqb c 0) (part parts (j * shareLength p) (shareLength p))
     (xorList (part parts (p .d * shareLength p) (shareLength p)) (part parts (j * shareLength p) (shareLength p)))
-
-unfoldable pub hiddenParty : Parameters → ℕ → ℕ → ℕ
-hiddenParty p leaf j = cond (ltb leaf (leaves p)) (digit p j leaf) (side p)
 
 unfoldable pub rowOf : Parameters → Key → List ℕ → List ℕ → ℕ → List ℕ → ℕ → List ℕ
 rowOf p key m2 parts leaf hidden j =

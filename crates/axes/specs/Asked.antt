@@ -1,9 +1,7 @@
 -- What the functions of this crate ask of their slices.
 --
 -- RowsAsked          all that the rows of all axes take: D + 1 shares, message 2, the key, α and β of the hidden leaf, room for the rows
--- ResponseAsked      the rows of all axes
--- RowAsked           what the row of a share takes: the share, its block, the constants, α̂ and β̂
--- AxisAsked          the same of an axis: also the row of the sum of all disclosed leaves, and α and β of the hidden leaf
+-- AxisAsked          what the rows of an axis take: that of a share (RowAsked of crate partyrows), also the row of the sum of all disclosed leaves, and α and β of the hidden leaf
 -- TotalAsked         the D + 1 shares with their blocks, the constants, and α and β of the hidden leaf
 -- AxesAsked          the same with α̂ and β̂, and the row of the sum of all disclosed leaves
 -- EvaluateAsked      the D + 1 shares, message 2 and the key, and room for the constants and the blocks
@@ -15,6 +13,7 @@ use lib.ListN.{length}
 use Rattle.parameters.specs.declared.Parameters.{Parameters}
 use Rattle.parameters.specs.Limits.{Within}
 use Rattle.exchange.specs.Layout.{shareLength, message2Length}
+use Rattle.partyrows.specs.Asked.{RowAsked}
 pub mod Laws
 
 pub record RowsAsked (p : Parameters) (parts m2 matrix y hidden rows : List ℕ) : Type 0 where
@@ -25,17 +24,6 @@ pub record RowsAsked (p : Parameters) (parts m2 matrix y hidden rows : List ℕ)
   pub sized-y : length y ≡ p .m - p .k
   pub sized-hidden : length hidden ≡ 8 * p .t
   pub sized-rows : length rows ≡ p .d * (24 * p .t)
-
-pub record ResponseAsked (p : Parameters) (rows : List ℕ) : Type 0 where
-  pub within : Within p
-  pub sized-rows : length rows ≡ p .d * (24 * p .t)
-
-pub record RowAsked (p : Parameters) (s block constants sums : List ℕ) : Type 0 where
-  pub within : Within p
-  pub sized-s : length s ≡ shareLength p
-  pub sized-block : length block ≡ 12 * p .t
-  pub sized-constants : length constants ≡ 8 * p .t
-  pub sized-sums : length sums ≡ 8 * p .t
 
 pub record AxisAsked (p : Parameters) (s block constants sums total hidden : List ℕ) : Type 0 where
   pub row : RowAsked p s block constants sums

@@ -1,6 +1,5 @@
 pub mod Announcing
-pub mod Difference
-pub mod Row
+pub mod Parties
+pub mod Axes
 pub mod Asked
 pub mod Slices
-pub mod Streamed

@@ -1,6 +1,5 @@
 -- Slices that are written part by part.
 --
--- halves-room, halves-made     the front of a slice and then the rest of it are lent and come back: how long the rest is, and what stands in the slice
 -- pair-made                    two lists written one after the other
 -- middle-part                  the part that is lent as `&w[a..e]`
 -- Blocks f size d q i          the first i blocks of d, of one size, are f 0 to f (i−1) by now
@@ -11,24 +10,10 @@ use Prim.Native.Nat.{ℕ, _+_, _-_, _*_, _≤_, _<_}
 use native.Mathlib.Nat.{suc-mul, zero-mul}
 use native.Mathlib.Numerals.{add-one}
 use native.Mathlib.Omega.{arith}
-use lib.ListN.{length, take, drop, length-append, length-drop}
-use lib.Seq.{take-at, drop-at}
+use lib.ListN.{length, take, drop, length-append}
 use Rattle.lists.specs.Part.{part, putAt}
-use Rattle.lists.specs.Part.Laws.{tail-part, tail-back, lent-back, part-fits, putAt-putAt, putAt-whole}
+use Rattle.lists.specs.Part.Laws.{lent-back, part-fits, putAt-putAt, putAt-whole}
 use Rattle.exchange.specs.Sequences.{joined}
-
--- ---- two halves
-
-module _ (d ys : List ℕ) (a : ℕ) (e : length ys ≡ a) where
-  pub halves-room : (b : ℕ) → length d ≡ a + b → length (take (length (ys ++ drop a d) - a) (drop a (ys ++ drop a d))) ≡ b
-  halves-room b n =
-      ap length (tail-part (ys ++ drop a d) a ∙ drop-at ys (drop a d) a e) ∙ length-drop a d ∙ omega arith
-
-  pub halves-made : (u : List ℕ) → a ≤ length d
-      → take a (ys ++ drop a d) ++ (u ++ drop (length (ys ++ drop a d) - a) (drop a (ys ++ drop a d))) ≡ ys ++ u
-  halves-made u h =
-      tail-back (ys ++ drop a d) u a (let k = length-append ys (drop a d) in omega arith)
-      ∙ ap (λ (z : List ℕ). z ++ u) (take-at ys (drop a d) a e)
 
 pub pair-made : (d a b : List ℕ) → length d ≡ length a + length b → putAt (putAt d 0 a) (length a) b ≡ a ++ b
 pair-made d a b e =

@@ -1,8 +1,8 @@
 // The rows of an axis's two parties, from the share of the first party and the row of the sum of all disclosed leaves.
-use crate::hidden::hidden_party;
-use crate::hidden::hide_leaf;
-use crate::row::put_row;
 use parameters::Parameters;
+use partyrows::hidden::hidden_party;
+use partyrows::hidden::hide_leaf;
+use partyrows::row::put_row;
 ghost use mathlib.Core.Path.{_≡_};
 ghost use mathlib.Core.List.{_++_};
 ghost use Prim.Native.Nat.{_+_, _*_, _<_};
@@ -10,9 +10,9 @@ ghost use lib.ListN.{length};
 ghost use Rattle.bytefield.specs.Tables.{logs, powers};
 ghost use Rattle.lists.specs.Sum.{xorList};
 ghost use Rattle.values.specs.Shares.{shareOf, blockOf};
-ghost use Rattle.axes.specs.Announcing.{hiddenParty};
-ghost use Rattle.axes.specs.Row.{rowBy, axisBy};
-ghost use Rattle.axes.specs.Asked.{RowAsked, AxisAsked, AxesAsked};
+ghost use Rattle.partyrows.specs.Row.{hiddenParty, rowBy, axisBy};
+ghost use Rattle.partyrows.specs.Asked.{RowAsked};
+ghost use Rattle.axes.specs.Asked.{AxisAsked, AxesAsked};
 
 // first and second become the rows of the two parties by the formula: the second party has what the total has and the first has not.
 fn formula_rows(

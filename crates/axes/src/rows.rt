@@ -10,8 +10,8 @@ ghost use Rattle.bytefield.specs.Tables.{logs, powers};
 ghost use Rattle.exchange.specs.Sequences.{joined};
 ghost use Rattle.coefficients.specs.Coefficients.{keyOf};
 ghost use Rattle.values.specs.Shares.{shareOf, blockOf};
-ghost use Rattle.axes.specs.Announcing.{hiddenParty, rowOf};
-ghost use Rattle.axes.specs.Row.{axisBy};
+ghost use Rattle.partyrows.specs.Row.{hiddenParty, axisBy};
+ghost use Rattle.axes.specs.Announcing.{rowOf};
 ghost use Rattle.axes.specs.Asked.{RowsAsked, RoomAsked, AxesAsked};
 
 // rows becomes the rows of all axes, from what is made once for all of them.

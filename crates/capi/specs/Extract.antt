@@ -11,8 +11,8 @@ use Rattle.answers.specs.Number.{refusalNumber}
 use Rattle.parameters.specs.declared.Parameters.{Parameters}
 use Rattle.shake256.specs.Fips.{SHAKE256}
 use Rattle.exchange.specs.Values.{Key}
-use Rattle.extractor.specs.declared.Extraction.{Extraction}
-use Rattle.extractor.specs.declared.Extraction.the-variants.{Refused, Unequal, Extracted}
+use Rattle.findings.specs.declared.Extraction.{Extraction}
+use Rattle.findings.specs.declared.Extraction.the-variants.{Refused, Unequal, Extracted}
 use Rattle.extractor.specs.Call as extractor
 pub mod Laws
 

@@ -1,42 +1,17 @@
--- A session in a buffer that the caller lends.
+-- Fresh sessions in a buffer that the caller lends. What a buffer holds after a call is said in buffer/specs/Buffer.antt.
 --
--- fits b n call other   what the call gives; where the buffer b has not n bytes, the other
--- after a old new       the buffer after a call that answered a: the session written anew where the call was carried out, else as it was
--- Kept                  a call's number, and the bytes in the buffer after it
--- misfit b              2, and nothing else changes
 -- proverNew b           a prover's session before its first begin
 -- verifierNew b         a verifier's session before its first begin
-use mathlib.Core.Bool.{cond}
 use mathlib.Core.List.{List}
 use Prim.Native.Nat.{ℕ}
-use lib.Dec.{eqb}
-use lib.ListN.{length}
-use Rattle.answers.specs.Number.{answerNumber, refusalNumber}
-use Rattle.answers.specs.declared.Answer.{Answer}
-use Rattle.answers.specs.declared.Answer.the-variants.{Done, Refused}
-use Rattle.answers.specs.declared.Refusal.the-variants.{Length}
+use Rattle.answers.specs.Number.{answerNumber}
+use Rattle.answers.specs.declared.Answer.the-variants.{Done}
+unfoldable pub use Rattle.buffer.specs.Buffer.{fits}
+pub use Rattle.buffer.specs.Buffer.{after, Kept, kept, misfit}
 use Rattle.prover.specs.Session as prover
 use Rattle.verifier.specs.Session as verifier
 use Rattle.stored.specs.Prover.{proverSize, proverBytes}
 use Rattle.stored.specs.Verifier.{verifierSize, verifierBytes}
-pub mod Laws
-
-unfoldable pub fits : {A : Type 0} → List ℕ → ℕ → A → A → A
-fits b n call other = cond (eqb (length b) n) call other
-
-abbrev pub after : Answer → List ℕ → List ℕ → List ℕ
-after Done old new = new
-after (Refused r) old new = old
-
-pub record Kept : Type 0 where
-  pub number : ℕ
-  pub session : List ℕ
-
-abbrev pub kept : ℕ → List ℕ → Kept
-kept n b = record { number = n; session = b }
-
-abbrev pub misfit : List ℕ → Kept
-misfit b = kept (refusalNumber Length) b
 
 abbrev pub proverNew : List ℕ → Kept
 proverNew b = fits b proverSize (kept (answerNumber Done) (proverBytes prover.fresh)) (misfit b)

@@ -4,18 +4,17 @@
 -- verifierCall b call         the call on the session that the bytes b are; a buffer of another length gives 2, and nothing changes
 -- verifierBegin, verifierPoints, verifierResponse, verifierLeaf   the calls but the opening
 -- Judged                      number, bytes of the session and work area
--- judges n                    'opening (closes with accepted, 5, 6 or 7)': with these numbers the session is written anew
 -- openingAfter b o            what the outcome o of the opening on the bytes b gives
 -- verifierOpening             the opening, at SHAKE256
-use mathlib.Core.Bool.{Bool, _&&_, _||_, cond}
+use mathlib.Core.Bool.{cond}
 use mathlib.Core.List.{List}
 use Prim.Native.Nat.{ℕ}
-use lib.Dec.{eqb, leb}
 use Rattle.answers.specs.Number.{answerNumber, refusalNumber}
 use Rattle.answers.specs.declared.Refusal.the-variants.{Length}
 use Rattle.parameters.specs.declared.Parameters.{Parameters}
 use Rattle.shake256.specs.Fips.{SHAKE256}
 use Rattle.exchange.specs.Values.{Key}
+unfoldable pub use Rattle.buffer.specs.Buffer.{judges}
 use Rattle.verifier.specs.declared.Verifier.{Verifier}
 use Rattle.verifier.specs.Session as verifier
 use Rattle.stored.specs.Verifier.{verifierSize, verifierBytes, verifierFrom}
@@ -51,9 +50,6 @@ pub record Judged : Type 0 where
 -- what a function returned and left in the lent slices
 abbrev pub judged : ℕ → List ℕ → List ℕ → Judged
 judged n session work = record { number = n; session = session; work = work }
-
-unfoldable pub judges : ℕ → Bool
-judges n = eqb n 0 || (leb 5 n && leb n 7)
 
 unfoldable pub openingAfter : List ℕ → verifier.Judged → Judged
 openingAfter b o = judged (answerNumber (o .answer)) (cond (judges (answerNumber (o .answer))) (verifierBytes (o .verifier)) b) (o .work)

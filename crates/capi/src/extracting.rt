@@ -1,5 +1,5 @@
 // The extractor's call.
-use extractor::Extraction;
+use findings::Extraction;
 use parameters::Parameters;
 ghost use mathlib.Core.Path.{_≡_};
 ghost use Rattle.coefficients.specs.Coefficients.{keyOf};

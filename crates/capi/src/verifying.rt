@@ -1,5 +1,6 @@
 // The verifier's calls.
 use answers::Answer;
+use buffer::is_judged;
 use parameters::Parameters;
 use verifier::Called;
 ghost use mathlib.Core.Path.{_≡_};
@@ -87,19 +88,6 @@ pub extern "C" fn unlock_verifier_leaf(session: &mut [u8], leaf: u8) -> u8
     let s = stored::read_verifier(session);
     let called = s.leaf(leaf);
     keep(called, session)
-}
-
-// Does an opening with this number close the exchange?
-fn is_judged(n: u8) -> bool
-    ensures { λ r. ⌜ r ≡ judges n ⌝ }
-{
-    if n == 0 {
-        return true;
-    }
-    if n < 5 {
-        return false;
-    }
-    n <= 7
 }
 
 // Writes the session of an opening that was judged; the number of its answer.

@@ -20,7 +20,7 @@ use Rattle.answers.specs.declared.Answer.the-variants.{Done}
 use Rattle.parameters.specs.declared.Parameters.{Parameters}
 use Rattle.parameters.specs.Limits.{Within}
 use Rattle.polynomial.specs.Bytes.{Bytes}
-use Rattle.key.specs.Key.{weightOf, vectorOf}
+use Rattle.relation.specs.Key.{weightOf, vectorOf}
 use Rattle.exchange.specs.Layout.{leaves, message2Length, message5Length, workLength}
 use Rattle.exchange.specs.Values.{Key}
 use Rattle.prover.specs.declared.Prover.{Prover}

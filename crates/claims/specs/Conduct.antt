@@ -25,13 +25,13 @@ use Rattle.answers.specs.Checks.{check}
 use Rattle.answers.specs.Checks.Laws.{Done≢Refused, check-true, check-rest}
 use Rattle.parameters.specs.declared.Parameters.{Parameters}
 use Rattle.exchange.specs.Values.{Key}
-use Rattle.prover.specs.declared.Phase.{Phase}
-use Rattle.prover.specs.declared.Phase.the-variants.{Fresh, Begun, Answered, Closed}
+use Rattle.prover_phase.specs.declared.Phase.{Phase}
+use Rattle.prover_phase.specs.declared.Phase.the-variants.{Fresh, Begun, Answered, Closed}
 use Rattle.prover.specs.declared.Prover.{Prover}
 use lib.Dec.{leb}
 use Rattle.lists.specs.Checks.{allTrue}
 use Rattle.parameters.specs.Limits.{withinLimits}
-use Rattle.key.specs.Key.{weightOf, vectorOf}
+use Rattle.relation.specs.Key.{weightOf, vectorOf}
 use Rattle.prover.specs.Session.{Outcome, settle, holds, repeated, beginLengths, isBegun, isAnswered, closed, pointsDue, leafDue, beginChecks, pointsChecks, leafChecks, begun, answered, opened, begin, points, leaf}
 
 pub data Call : Type 0 where

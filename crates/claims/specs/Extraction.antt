@@ -12,7 +12,7 @@ use Rattle.parameters.specs.declared.Parameters.{Parameters}
 use Rattle.answers.specs.declared.Refusal.{Refusal}
 use Rattle.exchange.specs.Values.{Key}
 use Rattle.exchange.specs.Extractor.{axis, compared, stringAt}
-use Rattle.extractor.specs.declared.Extraction.the-variants.{Refused, Unequal, Extracted}
+use Rattle.findings.specs.declared.Extraction.the-variants.{Refused, Unequal, Extracted}
 use Rattle.extractor.specs.Call.{Transcript, exchangeOf, Outcome, extraction}
 use Rattle.claims.specs.Words.{At, Clash, States}
 pub mod Sums

@@ -23,15 +23,15 @@ use mathlib.Core.List.{List, [], _∷_, map}
 use Prim.Native.Nat.{ℕ, _+_, _%_, _≤_, _<_}
 use lib.ListN.{length}
 use Rattle.algebra.specs.Each.{Each, Distinct}
-use Rattle.points.specs.Field.{Point}
+use Rattle.tower.specs.Field.{Point}
 use Rattle.parameters.specs.declared.Parameters.{Parameters}
 use Rattle.polynomial.specs.Bytes.{Bytes}
-use Rattle.key.specs.Key.{weightOf}
+use Rattle.relation.specs.Key.{weightOf}
 use Rattle.exchange.specs.Layout.{leaves}
 use Rattle.exchange.specs.Values.{Key, pointOf, multiplierOf}
 use Rattle.exchange.specs.Opening.{Exchange}
 use Rattle.exchange.specs.Extractor.{axis, stringAt}
-use Rattle.extractor.specs.declared.Extraction.the-variants.{Extracted}
+use Rattle.findings.specs.declared.Extraction.the-variants.{Extracted}
 use Rattle.extractor.specs.Call.{Transcript, exchangeOf, extraction}
 use Rattle.claims.specs.Words.{Comparable, leafShare, xSum}
 pub mod Light

@@ -9,7 +9,7 @@
 -- coefficientsLength p   how many bytes that is
 use mathlib.Core.List.{List, _++_}
 use Prim.Native.Nat.{ℕ, _+_, _-_, _*_}
-use Rattle.points.specs.Field.{Point, bytesOf}
+use Rattle.tower.specs.Field.{Point, bytesOf}
 use Rattle.parameters.specs.declared.Parameters.{Parameters}
 use Rattle.exchange.specs.Reading.{encode, _⊠_}
 use Rattle.exchange.specs.Values.{Key, pointOf, multiplierOf}

@@ -4,7 +4,7 @@
 use mathlib.Core.List.{List}
 use Prim.Native.Nat.{ℕ, _+_, _*_}
 use lib.ListN.{getD}
-use Rattle.points.specs.Field.{Point}
+use Rattle.tower.specs.Field.{Point}
 use Rattle.exchange.specs.Reading.{_⊞_, _⊠_}
 use Rattle.exchange.specs.Parties.{sums}
 use Rattle.lagrange.specs.AtPoint.{scalar}

@@ -18,8 +18,8 @@ use Rattle.algebra.specs.Polynomial.{pow}
 use Rattle.cube.specs.Group.{additive}
 use Rattle.cube.specs.Sum.{sum}
 use Rattle.cube.specs.Sum.Laws.{sum-ext}
-use Rattle.points.specs.Point.{lone, fourSum, fourTimes}
-use Rattle.points.specs.Field.{Point, point, bytesOf, point-bytesOf}
+use Rattle.tower.specs.Point.{lone, fourSum, fourTimes}
+use Rattle.tower.specs.Field.{Point, point, bytesOf, point-bytesOf}
 use Rattle.exchange.specs.Reading.{points, pointAt, encode, _⊞_, _⊠_}
 use Rattle.exchange.specs.Reading.Laws.{encode-ext}
 use Rattle.exchange.specs.Parties.{sums}

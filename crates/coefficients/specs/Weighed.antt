@@ -17,8 +17,8 @@ use Rattle.cube.specs.Group.{additive}
 use Rattle.cube.specs.Sum.{sum}
 use Rattle.cube.specs.Sum.Laws.{sum-ext, sum-zero, sum-add, sum-swap}
 use Rattle.bytefield.specs.Product.{_⊗_}
-use Rattle.points.specs.Field.{Point}
-use Rattle.key.specs.Key.{dot, rows}
+use Rattle.tower.specs.Field.{Point}
+use Rattle.relation.specs.Key.{dot, rows}
 use Rattle.exchange.specs.Reading.{points, _⊞_, _⊠_, 𝟎}
 use Rattle.exchange.specs.Reading.Laws.{lone-homomorphism}
 use Rattle.exchange.specs.Parties.{sums}

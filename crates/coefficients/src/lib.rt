@@ -5,7 +5,7 @@ ghost use mathlib.Core.Path.{_≡_};
 ghost use Prim.Native.Nat.{_+_, _-_, _*_, _<_, _≤_};
 ghost use lib.ListN.{length};
 ghost use Rattle.bytefield.specs.Tables.{logs, powers};
-ghost use Rattle.points.specs.Field.{point, bytesOf};
+ghost use Rattle.tower.specs.Field.{point, bytesOf};
 ghost use Rattle.exchange.specs.Reading.{encode, _⊠_};
 ghost use Rattle.lagrange.specs.AtPoint.{_^_};
 ghost use Rattle.coefficients.specs.Folded.{folded};

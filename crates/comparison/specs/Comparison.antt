@@ -2,7 +2,7 @@
 --
 -- View, view             an opening recomputed: the hidden leaf, its commitment, aux, the states of all leaves one after another (the
 --                        hidden leaf's means nothing), and the rows of all axes
--- stateAt states i       state of leaf i
+-- stateAt states i       state of leaf i (crate leaves)
 -- rowAt p rows j         row of axis j: what its parties announce
 -- digestAt               digest of layer 6 of axis j
 -- commitmentAt, commitments   commitment of leaf i; the hidden leaf's is the one given
@@ -29,6 +29,7 @@ use Rattle.exchange.specs.Sequences.{joined, least}
 use Rattle.exchange.specs.Strings.{string}
 use Rattle.exchange.specs.Leaf.{commitment}
 use Rattle.exchange.specs.Extractor.{Finding, states as extracted}
+pub use Rattle.leaves.specs.States.{stateAt}
 use Rattle.comparison.specs.Chain.{chain}
 pub mod Laws
 pub mod Leaf
@@ -43,9 +44,6 @@ pub record View : Type 0 where
 
 abbrev pub view : ℕ → List ℕ → List ℕ → List ℕ → List ℕ → View
 view leaf given aux states rows = record { leaf = leaf; given = given; aux = aux; states = states; rows = rows }
-
-abbrev pub stateAt : List ℕ → ℕ → List ℕ
-stateAt states i = part states (32 * i) 32
 
 abbrev pub rowAt : Parameters → List ℕ → ℕ → List ℕ
 rowAt p rows j = part rows (j * (24 * p .t)) (24 * p .t)

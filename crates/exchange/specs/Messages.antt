@@ -17,9 +17,9 @@ use Prim.Native.Nat.{ℕ, _*_}
 use lib.Dec.{eqb}
 use lib.ListN.{getD, take, drop}
 use Rattle.lists.specs.Sum.{xorList}
-use Rattle.points.specs.Field.{Point}
+use Rattle.tower.specs.Field.{Point}
 use Rattle.parameters.specs.declared.Parameters.{Parameters}
-use Rattle.key.specs.Key.{locatorOf, quotientOf}
+use Rattle.relation.specs.Key.{locatorOf, quotientOf}
 use Rattle.exchange.specs.Layout.{side, levels, leaves, isLast}
 use Rattle.exchange.specs.Strings.{string5, string7}
 use Rattle.exchange.specs.Tree.{leafSeeds, siblingSeeds}

@@ -15,7 +15,7 @@ use lib.ListN.{replicate}
 use Rattle.cube.specs.Group.{additive}
 use Rattle.cube.specs.Sum.{sum}
 use Rattle.lists.specs.Sum.{xorList}
-use Rattle.points.specs.Field.{Point}
+use Rattle.tower.specs.Field.{Point}
 use Rattle.parameters.specs.declared.Parameters.{Parameters}
 use Rattle.exchange.specs.Layout.{side, digit, shareLength}
 use Rattle.exchange.specs.Strings.{string6}

@@ -12,8 +12,8 @@ use lib.ListN.{getD}
 use Rattle.algebra.specs.Field.{Field2}
 use Rattle.algebra.specs.Ring.{ops}
 use Rattle.algebra.specs.Polynomial.{eval}
-use Rattle.points.specs.Point.{lone}
-use Rattle.points.specs.Field.{Point, pointField, point, bytesOf}
+use Rattle.tower.specs.Point.{lone}
+use Rattle.tower.specs.Field.{Point, pointField, point, bytesOf}
 use Rattle.exchange.specs.Sequences.{joined}
 pub mod Laws
 

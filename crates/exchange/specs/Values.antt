@@ -16,10 +16,10 @@ use mathlib.Core.Bool.{Bool, cond}
 use mathlib.Core.List.{List, [], _∷_, _++_}
 use Prim.Native.Nat.{ℕ, _+_, _-_, _*_}
 use Rattle.lists.specs.Sum.{xorList}
-use Rattle.points.specs.Field.{Point}
+use Rattle.tower.specs.Field.{Point}
 use Rattle.parameters.specs.declared.Parameters.{Parameters}
 use Rattle.polynomial.specs.Interpolant.{interpolantOf, vanishingOf}
-use Rattle.key.specs.Key.{rows}
+use Rattle.relation.specs.Key.{rows}
 use Rattle.exchange.specs.Layout.{atB, atX, atQ, atP, atC}
 use Rattle.exchange.specs.Reading.{bytesAt, pointAt, value, _⊞_, _⊠_, 𝟎}
 pub mod Laws

@@ -27,8 +27,8 @@ use Rattle.exchange.specs.Layout.{leaves, message2Length, message5Length, workL
 use Rattle.exchange.specs.Values.{Key}
 use Rattle.exchange.specs.Opening.{Exchange, exchange, verdict}
 use Rattle.exchange.specs.Extractor.{Finding, unequal, states, extract}
-use Rattle.extractor.specs.declared.Extraction.{Extraction}
-use Rattle.extractor.specs.declared.Extraction.the-variants.{Refused, Unequal, Extracted}
+use Rattle.findings.specs.declared.Extraction.{Extraction}
+use Rattle.findings.specs.declared.Extraction.the-variants.{Refused, Unequal, Extracted}
 pub mod Laws
 pub mod Outcomes
 

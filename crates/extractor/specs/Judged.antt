@@ -4,30 +4,30 @@
 -- Judging                     what the check of an opening asks
 -- Judged                      what it gives: the verdict, the named length of the work area zeroed, states of the disclosed leaves, rows
 -- shows                       the view shows the exchange
--- long, viewed                the lengths of message 5 and of the view
+-- viewed                      the lengths of the view
+-- Message5                    what the reading of the commitment asks
 -- Openings                    two checked openings, to be compared
--- lent-view                   the view over the parts of message 5 that are lent
-use mathlib.Core.Path.{_≡_, refl, ap, ap₂, _∙_}
+-- read-view                   the view over what was read of message 5
+use mathlib.Core.Path.{_≡_, refl, ap₂, _∙_}
 use mathlib.Core.List.{List, _∷_}
 use Prim.Native.Nat.{ℕ, _+_, _*_, _-_, _≤_, _<_}
-use native.Mathlib.Nat.{one-mul}
-use native.Mathlib.Omega.{arith}
-use borrow.Author.Tests.{eqb-false}
-use lib.ListN.{length, take, drop, length-drop}
+use lib.ListN.{length, take, drop}
 use Rattle.lists.specs.Part.{part}
-use Rattle.lists.specs.Part.Laws.{length-part, tail-part}
+use Rattle.lists.specs.Part.Laws.{tail-part}
 use Rattle.lists.specs.Zeroed.{zeroed}
 use Rattle.shake256.specs.Fips.{SHAKE256}
 use Rattle.answers.specs.declared.Answer.{Answer}
 use Rattle.parameters.specs.declared.Parameters.{Parameters}
 use Rattle.parameters.specs.Limits.{Within}
-use Rattle.exchange.specs.Layout.{bits, levels, leaves, isLast, message5Length, workLength}
-use Rattle.exchange.specs.Layout.Laws.{message5-other}
+use Rattle.exchange.specs.Layout.{leaves, message5Length, workLength}
 use Rattle.exchange.specs.Strings.{string}
 use Rattle.exchange.specs.Values.{Key}
 use Rattle.exchange.specs.Parties.{axisString}
 use Rattle.exchange.specs.Opening.{exchange, commitmentOf, auxOf, openedState, announced, verdict}
 use Rattle.layout.specs.Lent.{Lent}
+use Rattle.reader.specs.Message5.{auxPlace, commitmentIn, auxIn}
+use Rattle.reader.specs.Message5.Laws.{length-commitmentIn, all-aux}
+use Rattle.reader.specs.Opening.Laws.{rest-is}
 use Rattle.extractor.specs.Call.{Transcript, exchangeOf}
 use Rattle.extractor.specs.Call.Laws.{Sent}
 use Rattle.comparison.specs.Comparison.{View, view, stateAt, rowAt}
@@ -37,11 +37,7 @@ pub mod Laws
 pub mod Pair
 
 abbrev pub viewOf : Parameters → ℕ → List ℕ → List ℕ → List ℕ → View
-viewOf p i m5 states rows = view i (part m5 (16 * p .d) 32) (drop (16 * p .d + 32 + 8 * p .t) m5) states rows
-
-levels-are : (p : Parameters) → levels p ≡ p .d
-unfolding bits
-levels-are p = one-mul (p .d)
+viewOf p i m5 states rows = view i (commitmentIn p m5) (auxIn p m5) states rows
 
 pub record Judging (p : Parameters) (t : Transcript) (matrix y work : ℕ) (states rows : List ℕ) : Type 0 where
   pub within : Within p
@@ -60,46 +56,41 @@ pub record Judged (p : Parameters) (t : Transcript) (key : Key) (work : List ℕ
 
 module _ (p : Parameters) (t : Transcript) (key : Key) (work : List ℕ) (r : Answer) (work′ states rows : List ℕ) (sent : Sent p t) where
   pub shows : Judged p t key work r work′ states rows → Shows p key (take 32 (t .message1)) (exchangeOf t) (viewOf p (t .leaf) (t .message5) states rows)
-  unfolding exchangeOf exchange commitmentOf auxOf part
+  unfolding exchangeOf exchange commitmentOf auxOf part commitmentIn auxIn
   shows j = record {
     salt = refl;
     leaf = refl;
-    given = ap (λ (d : ℕ). part (t .message5) (16 * d) 32) (levels-are p);
-    aux = ap (λ (d : ℕ). drop (16 * d + 32 + 8 * p .t) (t .message5)) (levels-are p);
+    given = refl;
+    aux = refl;
     state = j .state;
     row = j .row;
     sent = sent .size5;
   }
 
 module _ (p : Parameters) (t : Transcript) (sent : Sent p t) where
-  pub long : 16 * p .d + 32 + 8 * p .t ≤ length (t .message5)
-  unfolding message5Length
-  long = omega (arith, sent .size5, levels-are p)
-
   pub viewed : (states rows : List ℕ) → t .leaf < leaves p → 32 * leaves p ≤ length states → p .d * (24 * p .t) ≤ length rows
       → Viewed p (viewOf p (t .leaf) (t .message5) states rows)
   viewed states rows below s w = record {
     below = below;
-    size = let l = long in length-part (t .message5) (16 * p .d) 32 (omega arith);
-    aux = λ e.
-        length-drop (16 * p .d + 32 + 8 * p .t) (t .message5)
-        ∙ (let q = sent .size5 ∙ message5-other p (t .leaf) (eqb-false (t .leaf) (leaves p - 1) (unfold isLast in e)) in let z = levels-are p in omega arith);
+    size = length-commitmentIn p (t .leaf) (t .message5) (sent .size5);
+    aux = all-aux p (t .leaf) (t .message5) (sent .size5);
     states = s;
     rows = w;
   }
 
+pub record Message5 (p : Parameters) (m5 commitment : List ℕ) : Type 0 where
+  pub within : Within p
+  pub size : length commitment ≡ 32
+  pub long : auxPlace p ≤ length m5
+
 pub record Openings (p : Parameters) (m1 : List ℕ) (u : ℕ) (m5 states rows : List ℕ) (u′ : ℕ) (other5 others other-rows out : List ℕ) : Type 0 where
   pub salt : 32 ≤ length m1
-  pub long5 : 16 * p .d + 32 + 8 * p .t ≤ length m5
-  pub long5′ : 16 * p .d + 32 + 8 * p .t ≤ length other5
+  pub size5 : length m5 ≡ message5Length p u
+  pub size5′ : length other5 ≡ message5Length p u′
   pub views : Views p (viewOf p u m5 states rows) (viewOf p u′ other5 others other-rows) out
 
--- the left side is what the borrow checker has
-pub lent-view : (p : Parameters) (i : ℕ) (m5 states rows : List ℕ)
-    → view i (take (16 * p .d + 32 - 16 * p .d) (drop (16 * p .d) m5))
-    (take (length m5 - (16 * p .d + 32 + 8 * p .t)) (drop (16 * p .d + 32 + 8 * p .t) m5)) states rows
-    ≡ viewOf p i m5 states rows
-unfolding part
-lent-view p i m5 states rows =
-    let z : 16 * p .d + 32 - 16 * p .d ≡ 32 = omega arith in
-    ap₂ (λ (g a : List ℕ). view i g a states rows) (ap (λ (n : ℕ). take n (drop (16 * p .d) m5)) z) (tail-part m5 (16 * p .d + 32 + 8 * p .t))
+-- aux as the borrow checker has it
+pub read-view : (p : Parameters) (i : ℕ) (m5 states rows : List ℕ) → auxPlace p ≤ length m5 → {given : List ℕ} {n : ℕ} → given ≡ commitmentIn p m5 → n ≡ length (auxIn p m5)
+    → view i given (take (length m5 - (length m5 - n)) (drop (length m5 - n) m5)) states rows ≡ viewOf p i m5 states rows
+read-view p i m5 states rows long {given} {n} of-given l =
+    ap₂ (λ (g a : List ℕ). view i g a states rows) of-given (tail-part m5 (length m5 - n) ∙ rest-is p m5 long l)

@@ -1,85 +1,26 @@
-// Two openings compared: the first unequal pair of strings, or every leaf's state.
-use crate::Extraction;
-use crate::digests::first_digest;
-use comparison::axis::first_axis;
-use comparison::commitments::first_commitment;
-use comparison::opened::first_leaf;
-use comparison::output::write_output;
-use comparison::rows::first_row;
-use leaves::leaf_count;
+// Two checked openings compared.
+use findings::Extraction;
+use findings::compare;
 use parameters::Parameters;
-ghost use lib.ListN.{take};
-ghost use Rattle.comparison.specs.Comparison.{view, comparison};
-ghost use Rattle.extractor.specs.Found.{Found};
-ghost use Rattle.extractor.specs.Judged.{viewOf, Openings};
-ghost use Rattle.comparison.specs.Shapes.{Views};
+use reader::opening::MOST_SIBLINGS;
+use reader::opening::MOST_VALUES;
+use reader::opening::read_opening;
+ghost use mathlib.Core.Path.{_≡_};
+ghost use lib.ListN.{length, take};
+ghost use Rattle.reader.specs.Message5.{commitmentIn, auxIn};
+ghost use Rattle.comparison.specs.Comparison.{comparison};
+ghost use Rattle.findings.specs.Found.{Found};
+ghost use Rattle.extractor.specs.Judged.{viewOf, Message5, Openings};
 
-// Names the first unequal pair of strings, or fills out with the states and names the axis.
-pub fn compare(
-    p: Parameters,
-    prefix: &[u8],
-    first: u8,
-    given: &[u8],
-    aux: &[u8],
-    states: &[u8],
-    rows: &[u8],
-    second: u8,
-    other_given: &[u8],
-    other_aux: &[u8],
-    others: &[u8],
-    other_rows: &[u8],
-    out: &mut [u8],
-) -> Extraction
-    requires { ⌜ Views p (view first (now given) (now aux) (now states) (now rows)) (view second (now «other_given») (now «other_aux») (now others) (now «other_rows»)) (now out) ⌝ }
-    ensures { λ r. ⌜ Found (comparison p (now (prefix .entry)) (view first (now (given .entry)) (now (aux .entry)) (now (states .entry)) (now (rows .entry))) (view second (now («other_given» .entry)) (now («other_aux» .entry)) (now (others .entry)) (now («other_rows» .entry)))) (now (out .entry)) r (now (out .exit)) ⌝ }
+// Reads the hidden leaf's commitment; the answer is how long aux is, which ends message 5.
+fn read_commitment(p: Parameters, m5: &[u8], commitment: &mut [u8]) -> usize
+    requires { ⌜ Message5 p (now m5) (now commitment) ⌝ }
+    ensures { λ r. ⌜ r ≡ length (auxIn p (now (m5 .entry))) ⌝ }
+    ensures { λ _. ⌜ now (commitment .exit) ≡ commitmentIn p (now (m5 .entry)) ⌝ }
 {
-    let d = p.d;
-    if first_digest(p, prefix, rows, other_rows) < d {
-        return Extraction::Unequal {
-            layer: 7,
-            number: 0,
-        };
-    }
-    let axis = first_row(p, rows, other_rows);
-    if axis < d {
-        return Extraction::Unequal {
-            layer: 6,
-            number: axis as u8 + 1,
-        };
-    }
-    let n = leaf_count(p);
-    let u = first as usize;
-    let v = second as usize;
-    if first_commitment(
-        p,
-        prefix,
-        u,
-        given,
-        aux,
-        states,
-        v,
-        other_given,
-        other_aux,
-        others,
-    )
-        < n
-    {
-        return Extraction::Unequal {
-            layer: 5,
-            number: 0,
-        };
-    }
-    let leaf = first_leaf(p, u, aux, states, v, other_aux, others);
-    if leaf < n {
-        return Extraction::Unequal {
-            layer: 4,
-            number: leaf as u8,
-        };
-    }
-    write_output(p, u, aux, states, other_aux, others, out);
-    Extraction::Extracted {
-        axis: first_axis(first, second),
-    }
+    let mut siblings = [0u8; MOST_SIBLINGS];
+    let mut values = [0u8; MOST_VALUES];
+    read_opening(p, m5, &mut siblings, commitment, &mut values)
 }
 
 // Compares two checked openings: commitment and aux are read from message 5.
@@ -99,20 +40,21 @@ pub fn compare_openings(
     requires { ⌜ Openings p (now m1) first (now m5) (now states) (now rows) second (now other5) (now others) (now «other_rows») (now out) ⌝ }
     ensures { λ r. ⌜ Found (comparison p (take 32 (now (m1 .entry))) (viewOf p first (now (m5 .entry)) (now (states .entry)) (now (rows .entry))) (viewOf p second (now (other5 .entry)) (now (others .entry)) (now («other_rows» .entry)))) (now (out .entry)) r (now (out .exit)) ⌝ }
 {
-    let at = 16 * p.d;
-    let end = at + 32;
-    let rest = end + 8 * p.t;
+    let mut given = [0u8; 32];
+    let aux = m5.len() - read_commitment(p, m5, &mut given);
+    let mut other_given = [0u8; 32];
+    let other_aux = other5.len() - read_commitment(p, other5, &mut other_given);
     compare(
         p,
         &m1[..32],
         first,
-        &m5[at..end],
-        &m5[rest..],
+        &given,
+        &m5[aux..],
         states,
         rows,
         second,
-        &other5[at..end],
-        &other5[rest..],
+        &other_given,
+        &other5[other_aux..],
         others,
         other_rows,
         out,

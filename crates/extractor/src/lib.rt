@@ -1,28 +1,18 @@
 // The extractor: from two accepted openings of one commitment, two unequal strings hashed to one digest, or every leaf's state.
 mod checks;
 mod compare;
-mod digests;
 mod judge;
 
 use answers::Answer;
-use answers::Refusal;
 use checks::early_checks;
 use compare::compare_openings;
+use findings::Extraction;
 use judge::judge;
 use parameters::Parameters;
 ghost use mathlib.Core.Path.{_≡_};
 ghost use Rattle.shake256.specs.Fips.{SHAKE256};
 ghost use Rattle.coefficients.specs.Coefficients.{keyOf};
 ghost use Rattle.extractor.specs.Call as spec;
-
-// What the extractor answers.
-pub enum Extraction {
-    Refused(Refusal),
-    // the first unequal pair of strings: its layer, and the axis for 6, the leaf for 4, 0 for 7 and 5
-    Unequal { layer: u8, number: u8 },
-    // the output is filled: the first axis, from 1, on which the hidden leaves differ
-    Extracted { axis: u8 },
-}
 
 // Compares two openings of one commitment with different hidden leaves: names the first unequal pair of strings hashed
 // to one digest, or fills out with every leaf's state and aux.

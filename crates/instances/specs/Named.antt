@@ -14,11 +14,11 @@ use Rattle.answers.specs.declared.Answer.the-variants.{Done}
 use Rattle.exchange.specs.Messages.{message1, message3, message5}
 use Rattle.exchange.specs.Opening.{verdict}
 use Rattle.exchange.specs.Opening.Laws.{accepted-then}
-use Rattle.extractor.specs.declared.Extraction.the-variants.{Unequal}
-use Rattle.extractor.specs.Call.{Transcript, exchangeOf, extraction}
+use Rattle.findings.specs.declared.Extraction.the-variants.{Unequal}
+use Rattle.extractor.specs.Call.{Transcript, exchangeOf, extractLengths, sameStatement, earlyChecks, found, second, first, early, extraction}
 use Rattle.claims.specs.Words.{Sent, Comparable}
-use Rattle.trial.specs.StandIn.{weak}
-use Rattle.trial.specs.Definitions.{definitions}
+use Rattle.standin.specs.StandIn.{weak}
+use Rattle.standin.specs.Definitions.{definitions}
 use Rattle.meetings.specs.Meetings.{p, key, x, salt, root, message2, within}
 
 unfoldable pub honest : ℕ → Transcript
@@ -49,7 +49,7 @@ unfolding bent honest definitions
 sent-bent = record { message1 = refl; message2 = refl; message3 = refl; leaf = omega arith; message5 = refl }
 
 accepted : (verdict (weak 7) p (exchangeOf (honest 0)) key ≡ Done) × (verdict (weak 7) p (exchangeOf bent) key ≡ Done)
-unfolding bent honest definitions
+unfolding bent honest exchangeOf definitions
 accepted = (refl, refl)
 
 pub comparable : Comparable (weak 7) p key (honest 0) bent
@@ -68,5 +68,5 @@ comparable = record {
 }
 
 pub names-7 : extraction (weak 7) p (honest 0) bent key (replicate 32 1) (replicate 71 0) .answer ≡ Unequal 7 0
-unfolding bent honest definitions
+unfolding bent honest exchangeOf extractLengths sameStatement earlyChecks found second first early extraction definitions
 names-7 = refl

@@ -6,24 +6,28 @@
 -- right                       so the extractor's outcome is right
 use mathlib.Core.Path.{_≡_, refl}
 use mathlib.Core.List.{List, [], _∷_}
-use Prim.Native.Nat.{ℕ, _≤_}
+use Prim.Native.Nat.{ℕ, _≤_, _<_}
 use native.Mathlib.Omega.{arith}
+use lib.Dec.{lit<}
 use lib.ListN.{length, replicate}
 use Rattle.answers.specs.declared.Answer.the-variants.{Done}
 use Rattle.parameters.specs.declared.Parameters.{Parameters}
 use Rattle.parameters.specs.Limits.{Within}
-use Rattle.exchange.specs.Layout.{workLength, outputLength}
+use Rattle.relation.specs.Key.{vectorOf}
+use Rattle.exchange.specs.Layout.{leaves, workLength, outputLength}
 use Rattle.exchange.specs.Values.{Key}
 use Rattle.exchange.specs.Messages.{message1, message3, message5}
+use Rattle.exchange.specs.Messages.Laws.{Secret, length-message1, length-message3, length-message5}
 use Rattle.exchange.specs.Opening.{verdict}
 use Rattle.exchange.specs.Opening.Laws.{accepted-then}
 use Rattle.extractor.specs.Call.{Transcript, exchangeOf}
 use Rattle.claims.specs.Words.{Sent, Comparable}
 use Rattle.claims.specs.Extraction.{Extracts}
 use Rattle.claims.specs.Extraction.Proof.{extracts}
-use Rattle.trial.specs.StandIn.{standIn}
-use Rattle.trial.specs.Definitions.{definitions}
+use Rattle.standin.specs.StandIn.{standIn}
+use Rattle.standin.specs.Definitions.{definitions}
 use Rattle.meetings.specs.StandIn.{length-standIn}
+use Rattle.meetings.specs.Honest.{honest-accepted}
 
 abbrev pub p : Parameters
 p = record { m = 4; k = 2; w = 2; d = 2; t = 2 }
@@ -66,35 +70,45 @@ within = record {
   t-most = omega arith;
 }
 
-sent-2 : Sent p (transcript 2)
-unfolding transcript definitions
-sent-2 = record { message1 = refl; message2 = refl; message3 = refl; leaf = omega arith; message5 = refl }
+x-is : vectorOf (key .matrix) (key .y) (5 ∷ 0 ∷ []) ≡ x
+unfolding definitions
+x-is = refl
 
-sent-3 : Sent p (transcript 3)
-unfolding transcript definitions
-sent-3 = record { message1 = refl; message2 = refl; message3 = refl; leaf = omega arith; message5 = refl }
+secret : Secret p x
+unfolding definitions
+secret = record { within = within; long = refl; light = omega arith; bytes = (lit< tt, (lit< tt, (lit< tt, (lit< tt, tt)))) }
 
-accepts-2 : verdict standIn p (exchangeOf (transcript 2)) key ≡ Done
-unfolding transcript definitions
-accepts-2 = refl
+inside : (u : ℕ) → u < 4 → u < leaves p
+unfolding definitions
+inside u h = h
 
-accepts-3 : verdict standIn p (exchangeOf (transcript 3)) key ≡ Done
-unfolding transcript definitions
-accepts-3 = refl
+sent : (u : ℕ) → u < 4 → Sent p (transcript u)
+unfolding transcript
+sent u h = record {
+  message1 = length-message1 standIn length-standIn p x secret salt root refl;
+  message2 = refl;
+  message3 = length-message3 standIn length-standIn p x secret salt root key m2;
+  leaf = inside u h;
+  message5 = length-message5 standIn length-standIn p x secret salt root key m2 u;
+}
+
+accepts : (u : ℕ) → u < 4 → verdict standIn p (exchangeOf (transcript u)) key ≡ Done
+unfolding transcript exchangeOf
+accepts u h = honest-accepted p key salt root m2 u (5 ∷ 0 ∷ []) x refl refl x-is secret (inside u h) refl
 
 pub comparable : Comparable standIn p key (transcript 2) (transcript 3)
 unfolding transcript
 comparable = record {
   within = within;
   lent = record { matrix = refl; y = refl };
-  sent = sent-2;
-  sent′ = sent-3;
+  sent = sent 2 (lit< tt);
+  sent′ = sent 3 (lit< tt);
   salt-and-h = refl;
   points-and-multipliers = refl;
   response = refl;
   hidden = λ e. omega arith;
-  accepted = accepted-then standIn p (exchangeOf (transcript 2)) key accepts-2;
-  accepted′ = accepted-then standIn p (exchangeOf (transcript 3)) key accepts-3;
+  accepted = accepted-then standIn p (exchangeOf (transcript 2)) key (accepts 2 (lit< tt));
+  accepted′ = accepted-then standIn p (exchangeOf (transcript 3)) key (accepts 3 (lit< tt));
 }
 
 pub right : (work out : List ℕ) → workLength p ≤ length work → length out ≡ outputLength p

@@ -24,14 +24,14 @@ use Rattle.answers.specs.Checks.{checks}
 use Rattle.exchange.specs.Layout.{leaves}
 use Rattle.exchange.specs.Opening.{Exchange, openedState, commitmentString}
 use Rattle.exchange.specs.Extractor.{unequal, states, compared, stringAt, unequalAt, extract}
-use Rattle.extractor.specs.declared.Extraction.the-variants.{Unequal}
+use Rattle.findings.specs.declared.Extraction.the-variants.{Unequal}
 use Rattle.extractor.specs.Call.{Transcript, exchangeOf, Outcome, found}
 use Rattle.claims.specs.Words.{At, leafState}
 use Rattle.claims.specs.Extraction.{Right}
 use Rattle.claims.specs.Extraction.Compared.{at-member, Equal, none-then}
 use Rattle.claims.specs.Extraction.Proof.{matched-of}
-use Rattle.trial.specs.StandIn.{standIn}
-use Rattle.trial.specs.Definitions.{definitions}
+use Rattle.standin.specs.StandIn.{standIn}
+use Rattle.standin.specs.Definitions.{definitions}
 use Rattle.meetings.specs.StandIn.{length-standIn}
 use Rattle.meetings.specs.Meetings.{p, key, transcript, pairs, pair}
 use Rattle.meetings.specs.Meetings.Accepted.{all-under}
@@ -54,7 +54,7 @@ unfoldable pub namesFirst : Outcome
 namesFirst = found standIn p one other key work out (unequal 7 0)
 
 same-7 : stringAt standIn p key (exchangeOf one) 7 0 ≡ stringAt standIn p key (exchangeOf other) 7 0
-unfolding transcript definitions
+unfolding transcript exchangeOf definitions
 same-7 = refl
 
 pub names-first-wrong : Right standIn p key one other out namesFirst → ⊥
@@ -67,7 +67,7 @@ unfoldable pub blank : Outcome
 blank = found standIn p one other key work out (states 1 out)
 
 none-unequal : unequalAt standIn p key (exchangeOf one) (exchangeOf other) ≡ []
-unfolding transcript definitions
+unfolding transcript exchangeOf definitions
 none-unequal = refl
 
 all-equal : (layer number : ℕ) → At layer number (compared p (exchangeOf one) (exchangeOf other))
@@ -78,7 +78,7 @@ all-equal layer number m =
     (matched-of standIn p key one other (all-under .0 .comparable)) none-unequal (layer, number) (at-member m)
 
 leaf-1 : (1 ≡ exchangeOf one .leaf → ⊥) × (leafState out 1 ≡ openedState standIn p (exchangeOf one) 1 → ⊥)
-unfolding leafState transcript definitions
+unfolding leafState transcript exchangeOf definitions
 leaf-1 = ((λ e. omega arith), (λ e. omega (arith, ap (λ (l : List ℕ). getD l 0 0) e)))
 
 pub blank-wrong : Right standIn p key one other out blank → ⊥
@@ -107,15 +107,15 @@ unfoldable pub afterSkipping : Outcome
 afterSkipping = found standIn p one bent key work out (extract standIn p key (exchangeOf one) (exchangeOf bent))
 
 pub both-accepted : (skipsAxes (exchangeOf one) ≡ Done) × (skipsAxes (exchangeOf bent) ≡ Done)
-unfolding skipsAxes bent transcript definitions
+unfolding skipsAxes bent transcript exchangeOf definitions
 both-accepted = (refl, refl)
 
 answer-7 : afterSkipping .answer ≡ Unequal 7 0
-unfolding afterSkipping bent transcript definitions
+unfolding afterSkipping found bent transcript exchangeOf definitions
 answer-7 = refl
 
 two-digests : eqList (standIn (stringAt standIn p key (exchangeOf one) 7 0) 32) (standIn (stringAt standIn p key (exchangeOf bent) 7 0) 32) ≡ false
-unfolding bent transcript definitions
+unfolding bent transcript exchangeOf definitions
 two-digests = refl
 
 pub skips-axes-wrong : Right standIn p key one bent out afterSkipping → ⊥

@@ -5,7 +5,7 @@ use Prim.Native.Nat.{ℕ, suc, _+_, _-_, _*_, _/_, _%_, _^_, _≤_, _<_}
 use native.Mathlib.Nat.{eq-zero-or-pos}
 use native.Mathlib.Omega.{arith}
 use lib.Pow.{shr-shr, shr-lt, high, low, field, mod-mod-pow}
-use Rattle.keccak.specs.Steps.{rotl}
+use Rattle.fips.specs.Steps.{rotl}
 use Rattle.keccak.proofs.Rotation.{up}
 
 abbrev pub bit : ℕ → ℕ → ℕ

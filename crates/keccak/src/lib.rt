@@ -8,7 +8,7 @@ use crate::steps::rho_pi;
 use crate::steps::theta;
 use crate::tables::ROUND_CONSTANTS;
 ghost use mathlib.Core.Path.{_≡_};
-ghost use Rattle.keccak.specs.Permutation as spec;
+ghost use Rattle.fips.specs.Permutation as spec;
 
 // One round (3.3) with the round constant c.
 fn round(a: [u64; 25], c: u64) -> [u64; 25]

@@ -3,7 +3,7 @@ use crate::tables::OFFSETS;
 ghost use mathlib.Core.Path.{_≡_};
 ghost use mathlib.Core.List.{[], _∷_};
 ghost use Prim.Native.Nat.{_<_};
-ghost use Rattle.keccak.specs.Steps as spec;
+ghost use Rattle.fips.specs.Steps as spec;
 
 // The bits of x moved up by r places, those past the top coming in below.
 fn rotated(x: u64, r: u32) -> u64

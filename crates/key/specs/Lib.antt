@@ -1,4 +1,1 @@
-pub mod Key
-pub mod Light
-pub mod Admission
 pub mod Loops

@@ -1,5 +1,9 @@
 // The four lines of a key (document 01, Key listing), read in pieces of any length. The scanner is a state by value; the bytes of the matrix, y and
 // x_A go into lent slices as they come.
+use keyform::accepts_word;
+use keyform::all_lines;
+use keyform::last_field;
+use keyform::push_word;
 use text::both;
 use text::decimal::DecimalScan;
 use text::hex::HexScan;
@@ -8,7 +12,7 @@ ghost use mathlib.Core.Path.{_≡_};
 ghost use Rattle.text.specs.Fold.{fold};
 ghost use Rattle.text.specs.Scanner.Word.{wordStep, wordAccepts};
 ghost use Rattle.text.specs.Scanner.Decimal.{decimalStep};
-ghost use Rattle.keytext.specs.Form.{wordOf, lastField};
+ghost use Rattle.keyform.specs.Form.{wordOf};
 ghost use Rattle.keytext.specs.Scan.{start, broken, withWord, withNumber, hexed, hexByte, held, byteStep, accepted, savedNumbers, savedLengths, closed, fieldEnd, lineEnd, step, complete};
 
 // A key's text as its bytes come. `sound` while it can still be the four lines; `line` of them have ended, and `field` fields of the next one; the
@@ -22,45 +26,6 @@ pub struct KeyScan {
     pub hex: HexScan,
     pub numbers: [usize; 5],
     pub lengths: [usize; 3],
-}
-
-// The field compared with the word of its line, one byte more.
-fn push_word(w: WordScan, line: usize, b: u8) -> WordScan
-    ensures { λ r. ⌜ r ≡ wordStep (wordOf line) w b ⌝ }
-{
-    if line == 0 {
-        return w.push(b, b"set");
-    }
-    if line == 1 {
-        return w.push(b, b"matrix");
-    }
-    if line == 2 {
-        return w.push(b, b"syndrome");
-    }
-    w.push(b, b"key")
-}
-
-// Is the field the word of its line?
-fn accepts_word(w: WordScan, line: usize) -> bool
-    ensures { λ r. ⌜ r ≡ wordAccepts (wordOf line) w ⌝ }
-{
-    if line == 0 {
-        return w.accepts(b"set");
-    }
-    if line == 1 {
-        return w.accepts(b"matrix");
-    }
-    if line == 2 {
-        return w.accepts(b"syndrome");
-    }
-    w.accepts(b"key")
-}
-
-// The place of a line's last field.
-fn last_field(line: usize) -> usize
-    ensures { λ r. ⌜ r ≡ lastField line ⌝ }
-{
-    if line == 0 { 5 } else { 1 }
 }
 
 impl KeyScan {
@@ -267,9 +232,6 @@ impl KeyScan {
     pub fn complete(self) -> bool
         ensures { λ r. ⌜ r ≡ complete self ⌝ }
     {
-        if self.line != 4 {
-            return false;
-        }
-        self.sound
+        both(all_lines(self.line), self.sound)
     }
 }

@@ -19,8 +19,8 @@ use Rattle.cube.specs.Sum.{sum}
 use Rattle.bytefield.specs.Product.{byteOps}
 use Rattle.bytefield.specs.Inverse.{inverse}
 use Rattle.bytefield.specs.Byte.{byte}
-use Rattle.points.specs.Point.{lone}
-use Rattle.points.specs.Field.{Point, point}
+use Rattle.tower.specs.Point.{lone}
+use Rattle.tower.specs.Field.{Point, point}
 use Rattle.exchange.specs.Reading.{points, _⊞_, _⊠_}
 use Rattle.exchange.specs.Parties.{sums}
 use Rattle.lagrange.specs.Product.{prod, others}

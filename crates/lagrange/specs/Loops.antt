@@ -23,8 +23,8 @@ use Rattle.bytefield.specs.Product.{_⊗_, byteOps}
 use Rattle.bytefield.specs.Powers.{power, power-add, power-mod}
 use Rattle.bytefield.specs.Inverse.{inverse}
 use Rattle.bytefield.specs.Byte.{byteRing}
-use Rattle.points.specs.Point.{lone, fourSum, fourTimes}
-use Rattle.points.specs.Field.{Point, point, bytesOf, point-bytesOf}
+use Rattle.tower.specs.Point.{lone, fourSum, fourTimes}
+use Rattle.tower.specs.Field.{Point, point, bytesOf, point-bytesOf}
 use Rattle.exchange.specs.Reading.{points, pointAt, encode, _⊞_, _⊠_}
 use Rattle.exchange.specs.Reading.Laws.{encode-ext}
 use Rattle.exchange.specs.Parties.{sums}

@@ -27,10 +27,10 @@ use lib.Seq.{take-at, drop-at, take-append-le, drop-append-le, drop-append-add, 
 use Rattle.lists.specs.Part.{part, putAt}
 use Rattle.lists.specs.Part.Laws.{putAt-none, putAt-more, putAt-all, putAt-whole, putAt-putAt, part-putAt-behind}
 use Rattle.bytefield.specs.Byte.{byte, byteRing, val-byte}
-use Rattle.points.specs.Point.{pointOps, quad, lone, fourSum, fourTimes}
-use Rattle.points.specs.Point.Laws.{bytes-times}
-use Rattle.points.specs.Point.Written.{four-path}
-use Rattle.points.specs.Field.{Point, point, bytesOf, bytesOf-point, point-bytesOf, point-times}
+use Rattle.tower.specs.Point.{pointOps, quad, lone, fourSum, fourTimes}
+use Rattle.tower.specs.Point.Laws.{bytes-times}
+use Rattle.tower.specs.Point.Written.{four-path}
+use Rattle.tower.specs.Field.{Point, point, bytesOf, bytesOf-point, point-bytesOf, point-times}
 use Rattle.exchange.specs.Sequences.{joined}
 use Rattle.exchange.specs.Reading.{points, bytesAt, pointAt, encode, _⊞_, _⊠_}
 use Rattle.exchange.specs.Reading.Laws.{length-bytesOf, length-encode, encode-ext, bytesAt-part, pointAt-drop, pointAt-encode}

@@ -9,7 +9,7 @@ ghost use Rattle.bytefield.specs.Tables.{logs, powers};
 ghost use Rattle.bytefield.specs.Product.{byteOps};
 ghost use Rattle.bytefield.specs.Powers.{power};
 ghost use Rattle.bytefield.specs.Inverse.{inverse};
-ghost use Rattle.points.specs.Field.{point, bytesOf};
+ghost use Rattle.tower.specs.Field.{point, bytesOf};
 ghost use Rattle.exchange.specs.Reading.{pointAt, encode, _⊞_, _⊠_};
 ghost use Rattle.lagrange.specs.Product.{prod};
 ghost use Rattle.lagrange.specs.AtPoint.{scalar, weighed, node, upTo, distances, weightsOf, lagrangeAt};

@@ -5,7 +5,7 @@
 use mathlib.Core.Bool.{false}
 use mathlib.Core.List.{List, [], _++_}
 use Prim.Native.Nat.{ℕ}
-use Rattle.points.specs.Field.{Point}
+use Rattle.tower.specs.Field.{Point}
 use Rattle.parameters.specs.declared.Parameters.{Parameters}
 use Rattle.polynomial.specs.Interpolant.{interpolantOf}
 use Rattle.exchange.specs.Reading.{encode, value, _⊞_}

@@ -9,7 +9,7 @@ ghost use Prim.Native.Nat.{_*_, _<_};
 ghost use lib.ListN.{length};
 ghost use Rattle.lists.specs.Zeroed.{zeroed};
 ghost use Rattle.bytefield.specs.Tables.{logs, powers};
-ghost use Rattle.points.specs.Field.{bytesOf};
+ghost use Rattle.tower.specs.Field.{bytesOf};
 ghost use Rattle.exchange.specs.Reading.{encode};
 ghost use Rattle.exchange.specs.Values.{xOf, alpha};
 ghost use Rattle.coefficients.specs.Coefficients.{keyOf};

@@ -1,5 +1,3 @@
 pub mod After
 pub mod States
-pub mod Commitments
-pub mod Joined
 pub mod Shapes

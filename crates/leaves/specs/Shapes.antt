@@ -5,18 +5,14 @@
 -- ShareBytes i st      a leaf's number of one byte, and a state that begins with its seed
 -- Share p i st aux s   a leaf's state and aux where it is leaf n−1, and room for its share
 -- Commitment p i s     a leaf, and room for its commitment
--- PutState i ss st     a leaf's number of one byte, its seed among the seeds ss, and its place among the states st
--- States n ss st       at most 256 leaves, their seeds, and room for their states
--- Absorb p i st        a leaf, and its state among the states st
--- Commitments p st     parameters within their limits, and the states of all leaves
 use mathlib.Core.Path.{_≡_}
 use mathlib.Core.Bool.{true}
 use mathlib.Core.List.{List}
-use Prim.Native.Nat.{ℕ, _+_, _*_, _≤_, _<_}
+use Prim.Native.Nat.{ℕ, _≤_, _<_}
 use lib.ListN.{length}
 use Rattle.parameters.specs.declared.Parameters.{Parameters}
 use Rattle.parameters.specs.Limits.{Within}
-use Rattle.exchange.specs.Layout.{leaves, isLast, auxLength, shareLength}
+use Rattle.exchange.specs.Layout.{isLast, auxLength, shareLength}
 pub mod Laws
 
 pub record LeafOf (p : Parameters) (i : ℕ) : Type 0 where
@@ -40,21 +36,3 @@ pub record Share (p : Parameters) (i : ℕ) (st aux s : List ℕ) : Type 0 where
   pub state : length st ≡ 32
   pub last : isLast p i ≡ true → length aux ≡ auxLength p
   pub room : length s ≡ shareLength p
-
-pub record PutState (i : ℕ) (ss st : List ℕ) : Type 0 where
-  pub number : i < 256
-  pub seed : 16 * i + 16 ≤ length ss
-  pub room : 32 * i + 32 ≤ length st
-
-pub record States (n : ℕ) (ss st : List ℕ) : Type 0 where
-  pub most : n ≤ 256
-  pub seeds : length ss ≡ 16 * n
-  pub room : length st ≡ 32 * n
-
-pub record Absorb (p : Parameters) (i : ℕ) (st : List ℕ) : Type 0 where
-  pub of : LeafOf p i
-  pub state : 32 * i + 32 ≤ length st
-
-pub record Commitments (p : Parameters) (st : List ℕ) : Type 0 where
-  pub within : Within p
-  pub states : length st ≡ 32 * leaves p

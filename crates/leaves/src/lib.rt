@@ -1,7 +1,5 @@
-// Leaves (document 01, layers 2 to 5): state, share and commitment of a leaf, all states, and the digest of all commitments.
+// A leaf (document 01, layers 2 to 4): its state, share and commitment.
 // Each string goes on from the start of its layer, which `strings::begin` makes once for all leaves.
-pub mod commitments;
-pub mod states;
 
 use lists::put_at;
 use parameters::Parameters;

@@ -1,4 +1,5 @@
 // The key listing: what `keylist` prints for what it reads (document 01, Key listing).
+use answers::Answer;
 use answers::Refusal;
 use keytext::KeyScan;
 use parameters::Parameters;
@@ -8,18 +9,18 @@ ghost use Prim.Native.Nat.{_+_, _*_, _-_, _≤_, _<_};
 ghost use lib.ListN.{length, replicate};
 ghost use Rattle.bytefield.specs.Tables.{logs, powers};
 ghost use Rattle.polynomial.specs.Interpolant.{interpolantOf, vanishingOf};
-ghost use Rattle.key.specs.Key.{locatorOf, quotientOf};
+ghost use Rattle.relation.specs.Key.{locatorOf, quotientOf};
 ghost use Rattle.parameters.specs.Limits.{Within};
-ghost use Rattle.listing.specs.Listing.{locatorWord, sWord, pWord, fWord, resultLine, refusedLine, keyLines, listingOf};
-ghost use Rattle.listing.specs.Listing.Laws.{Written, Weighted};
+ghost use Rattle.keylisting.specs.Listing.{locatorWord, sWord, pWord, fWord, resultLine, refusedLine, keyLines, listingOf};
+ghost use Rattle.keylisting.specs.Listing.Laws.{Written, Weighted};
 ghost use lib.Dec.{leb, eqb};
 ghost use mathlib.Core.Bool.{_&&_};
 ghost use Rattle.lists.specs.Part.{putAt};
-ghost use Rattle.key.specs.Key.{vectorOf};
-ghost use Rattle.listing.specs.Finish.{parametersRead, rowsOf, sizeOf, readIn, lengthsRead, weighed, finishOf};
+ghost use Rattle.relation.specs.Key.{vectorOf};
+ghost use Rattle.keylisting.specs.Finish.{parametersRead, rowsOf, sizeOf, readIn, lengthsRead, weighed, readChecks, finishOf};
 
 // A line of a word and bytes in hex is written to out from index at on; the answer is the place behind it.
-fn result_line(out: &mut [u8], at: usize, word: &[u8], s: &[u8]) -> usize
+pub fn result_line(out: &mut [u8], at: usize, word: &[u8], s: &[u8]) -> usize
     requires { ⌜ at + length (now word) + 2 * length (now s) + 2 ≤ length (now out) ⌝ }
     ensures { λ r. ⌜ Written (now (out .entry)) at (resultLine (now (word .entry)) (now (s .entry))) r (now (out .exit)) ⌝ }
     ensures { λ r. ⌜ r ≡ at + length (now (word .entry)) + 2 * length (now (s .entry)) + 2 ⌝ }
@@ -172,7 +173,7 @@ fn lines_of(out: &mut [u8], w: usize, x: &[u8], log: &[u8; 256], pow: &[u8; 256]
 }
 
 // The line of a refusal.
-fn refused(out: &mut [u8], r: Refusal) -> usize
+pub fn refused(out: &mut [u8], r: Refusal) -> usize
     requires { ⌜ 12 ≤ length (now out) ⌝ }
     ensures { λ n. ⌜ Written (now (out .entry)) 0 (refusedLine r) n (now (out .exit)) ⌝ }
 {
@@ -184,7 +185,7 @@ fn refused(out: &mut [u8], r: Refusal) -> usize
 }
 
 // The parameters that were read.
-fn parameters_read(numbers: [usize; 5]) -> Parameters
+pub fn parameters_read(numbers: [usize; 5]) -> Parameters
     ensures { λ r. ⌜ r ≡ parametersRead numbers ⌝ }
 {
     Parameters {
@@ -256,22 +257,35 @@ fn listed(p: Parameters, matrix: &[u8], y: &[u8], x_a: &[u8], out: &mut [u8]) ->
     weighed(p.w, matrix, y, x_a, &mut x[..m], out, &log, &pow)
 }
 
-// The listing of a text that was scanned into the three slices, ended here: its bytes stand at the front of out, and the answer is how many they are.
-pub fn finish(scan: KeyScan, matrix: &[u8], y: &[u8], x_a: &[u8], out: &mut [u8; 2580]) -> usize
-    ensures { λ r. ⌜ (r ≡ length (finishOf scan (now (matrix .entry)) (now (y .entry)) (now («x_a» .entry)))) × (now (out .exit) ≡ putAt (now (out .entry)) 0 (finishOf scan (now (matrix .entry)) (now (y .entry)) (now («x_a» .entry)))) ⌝ }
+// The checks 10, 1 and 2 of a text that was scanned into slices of these lengths, ended here.
+pub fn read_checks(scan: KeyScan, matrix: usize, y: usize, x_a: usize) -> Answer
+    ensures { λ r. ⌜ r ≡ readChecks scan matrix y «x_a» ⌝ }
 {
     if !scan.complete() {
-        return refused(out, Refusal::Malformed);
+        return Answer::Refused(Refusal::Malformed);
     }
     let numbers = scan.numbers;
     let p = parameters_read(numbers);
     if !parameters::within_limits(p) {
-        return refused(out, Refusal::Parameter);
+        return Answer::Refused(Refusal::Parameter);
     }
     let lengths = scan.lengths;
-    if !lengths_read(p, lengths, matrix.len(), y.len(), x_a.len()) {
-        return refused(out, Refusal::Length);
+    if !lengths_read(p, lengths, matrix, y, x_a) {
+        return Answer::Refused(Refusal::Length);
     }
+    Answer::Done
+}
+
+// The listing of a text that was scanned into the three slices, ended here: its bytes stand at the front of out, and the answer is how many they are.
+pub fn finish(scan: KeyScan, matrix: &[u8], y: &[u8], x_a: &[u8], out: &mut [u8; 2580]) -> usize
+    ensures { λ r. ⌜ (r ≡ length (finishOf scan (now (matrix .entry)) (now (y .entry)) (now («x_a» .entry)))) × (now (out .exit) ≡ putAt (now (out .entry)) 0 (finishOf scan (now (matrix .entry)) (now (y .entry)) (now («x_a» .entry)))) ⌝ }
+{
+    let checked = read_checks(scan, matrix.len(), y.len(), x_a.len());
+    if let Answer::Refused(r) = checked {
+        return refused(out, r);
+    }
+    let numbers = scan.numbers;
+    let p = parameters_read(numbers);
     let k = p.k;
     let rows = p.m - k;
     let size = rows * k;

@@ -1,2 +1,3 @@
 pub mod StandIn
+pub mod Honest
 pub mod Meetings

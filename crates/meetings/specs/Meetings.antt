@@ -12,7 +12,7 @@ use Prim.Native.Nat.{ℕ, _<_}
 use native.Mathlib.Omega.{arith}
 use lib.Dec.{lit<}
 use lib.ListN.{replicate}
-use Rattle.points.specs.Field.{point}
+use Rattle.tower.specs.Field.{point}
 use Rattle.parameters.specs.declared.Parameters.{Parameters}
 use Rattle.parameters.specs.Limits.{Within}
 use Rattle.exchange.specs.Layout.{leaves}
@@ -22,8 +22,8 @@ use Rattle.exchange.specs.Messages.Laws.{Secret, length-message1, length-messag
 use Rattle.extractor.specs.Call.{Transcript}
 use Rattle.claims.specs.Words.{Sent}
 use Rattle.claims.specs.Weight.{Pair, openings}
-use Rattle.trial.specs.StandIn.{standIn}
-use Rattle.trial.specs.Definitions.{definitions}
+use Rattle.standin.specs.StandIn.{standIn}
+use Rattle.standin.specs.Definitions.{definitions}
 use Rattle.meetings.specs.StandIn.{length-standIn}
 pub mod Accepted
 pub mod Apart
@@ -88,7 +88,7 @@ pub secret : Secret p x
 unfolding definitions
 secret = record { within = within; long = refl; light = omega arith; bytes = (lit< tt, (lit< tt, tt)) }
 
-inside : (u : ℕ) → u < 2 → u < leaves p
+pub inside : (u : ℕ) → u < 2 → u < leaves p
 unfolding definitions
 inside u h = h
 

@@ -9,7 +9,7 @@ use native.Mathlib.Nat.{mod-lt}
 use lib.Dec.{lit<}
 use lib.ListN.{length}
 use Rattle.polynomial.specs.Bytes.{Bytes}
-use Rattle.trial.specs.StandIn.{absorb, emitted, standIn}
+use Rattle.standin.specs.StandIn.{absorb, emitted, standIn}
 
 length-emitted : (a n : ℕ) → length (emitted a n) ≡ n
 unfolding emitted

@@ -15,8 +15,8 @@ use Rattle.exchange.specs.Layout.{leaves}
 use Rattle.exchange.specs.Strings.{string5}
 use Rattle.exchange.specs.Messages.{ownAux, message1}
 use Rattle.leaves.specs.States.{stateAt}
-use Rattle.leaves.specs.Commitments.{commitmentsOf}
-use Rattle.leaves.specs.Commitments.Laws.{commitments-message1}
+use Rattle.commitments.specs.Commitments.{commitmentsOf}
+use Rattle.commitments.specs.Commitments.Laws.{commitments-message1}
 use Rattle.ownleaves.specs.Own.{ownStates}
 use Rattle.ownleaves.specs.Own.Laws.{ownStates-at}
 

@@ -1,7 +1,7 @@
 // Message 1: salt, and the digest h of all leaf commitments.
 use bytefield::log_table;
 use bytefield::power_table;
-use leaves::commitments::digest_commitments;
+use commitments::digest_commitments;
 use leaves::leaf_count;
 use lists::put_at;
 use ownleaves::own_leaves;
@@ -14,7 +14,7 @@ ghost use Rattle.shake256.specs.Fips.{SHAKE256};
 ghost use Rattle.exchange.specs.Layout.{leaves, auxLength, workLength};
 ghost use Rattle.exchange.specs.Strings.{string5};
 ghost use Rattle.exchange.specs.Messages as spec;
-ghost use Rattle.leaves.specs.Commitments.{commitmentsOf};
+ghost use Rattle.commitments.specs.Commitments.{commitmentsOf};
 ghost use Rattle.ownleaves.specs.Asked.{Held};
 ghost use Rattle.messages.specs.Asked.{FirstAsked};
 

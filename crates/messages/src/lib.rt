@@ -1,4 +1,4 @@
-// The prover's messages (document 01, Messages) from what its session holds. The work area that is lent ends as zeros.
+// The prover's messages 1 and 5 (document 01, Messages) from what its session holds. The work area that is lent ends as zeros.
 mod commitment;
 mod opening;
 
@@ -38,26 +38,6 @@ pub fn message1(p: Parameters, x: &[u8], salt: &[u8], root: &[u8], area: &mut [u
         &mut aux[..length],
         out,
     );
-}
-
-// out becomes message 3, and the area ends as zeros.
-pub fn message3(
-    p: Parameters,
-    x: &[u8],
-    salt: &[u8],
-    root: &[u8],
-    m2: &[u8],
-    matrix: &[u8],
-    y: &[u8],
-    area: &mut [u8],
-    out: &mut [u8],
-)
-    requires { ⌜ Held p (now x) (now salt) (now root) (now area) × Keyed p (now m2) (now matrix) (now y) × (length (now out) ≡ 32) ⌝ }
-    ensures { λ _. ⌜ (now (out .exit) ≡ spec.message3 SHAKE256 p (now (x .entry)) (now (salt .entry)) (now (root .entry))
-        (keyOf (now (matrix .entry)) (now (y .entry))) (now (m2 .entry)))
-        × (now (area .exit) ≡ replicate (workLength p) 0) ⌝ }
-{
-    response::message3(p, x, salt, root, m2, matrix, y, area, out);
 }
 
 // out becomes message 5 for the leaf, and the area ends as zeros. y, lent as at every call, does not enter.

@@ -1,11 +1,11 @@
 -- What each step makes from what it is lent.
 --
 -- statesFrom p pre leaf s          the states of all leaves, from the sibling seeds s of the hidden leaf
--- digestFrom p pre leaf m5 st n    n bytes of the digest of all commitments, from the states st and message 5
--- announcedFrom p key m2 area leaf m5   what the parties of every axis announce, from the sums in the front of the work area
--- rowsFrom p key pre m2 st leaf m5      the same, from the states st
+-- digestFrom p pre leaf c a st n   n bytes of the digest of all commitments, from the states st, and commitment c and aux a of message 5
+-- announcedFrom p key m2 area leaf v    what the parties of every axis announce, from the sums in the front of the work area, and α and β in v
+-- rowsFrom p key pre m2 st leaf v a     the same, from the states st and aux a
 -- responseFrom p pre rows n        n bytes of the digest of what the parties of every axis announce
--- judged p m1 m3 leaf m5 st rows   the answer, from the comparisons of the two digests with messages 1 and 3
+-- judged p m1 m3 leaf c a st rows  the answer, from the comparisons of the two digests with messages 1 and 3
 use mathlib.Core.List.{List, [], _∷_}
 use Prim.Native.Nat.{ℕ, _+_, _*_}
 use lib.ListN.{take, drop}
@@ -21,33 +21,31 @@ use Rattle.exchange.specs.Strings.{string5}
 use Rattle.exchange.specs.Tree.{openedSeeds}
 use Rattle.exchange.specs.Values.{Key}
 use Rattle.seedtree.specs.Laid.{laid}
-use Rattle.leaves.specs.States.{statesOf}
-use Rattle.leaves.specs.Commitments.{commitmentsOf}
+use Rattle.leafstates.specs.States.{statesOf}
+use Rattle.commitments.specs.Commitments.{commitmentsOf}
 use Rattle.parties.specs.Sums.Front.{filled}
 use Rattle.axes.specs.Announcing.{rowOf}
-use Rattle.axes.specs.Announcing.Strings.{rowsString}
-use Rattle.openings.specs.Message5.{commitmentIn, valuesIn, auxIn}
+use Rattle.axisdigests.specs.Rows.{rowsString}
 
 unfoldable pub statesFrom : Parameters → List ℕ → ℕ → List ℕ → List ℕ
 statesFrom p prefix leaf siblings = statesOf prefix (laid (openedSeeds SHAKE256 prefix (p .d) 1 leaf siblings)) (leaves p)
 
-unfoldable pub digestFrom : Parameters → List ℕ → ℕ → List ℕ → List ℕ → ℕ → List ℕ
-digestFrom p prefix leaf m5 states n =
-    SHAKE256 (string5 prefix (commitmentsOf p prefix states leaf (commitmentIn p m5) (auxIn p m5)) (leaves p)) n
+unfoldable pub digestFrom : Parameters → List ℕ → ℕ → List ℕ → List ℕ → List ℕ → ℕ → List ℕ
+digestFrom p prefix leaf commitment aux states n = SHAKE256 (string5 prefix (commitmentsOf p prefix states leaf commitment aux) (leaves p)) n
 
 unfoldable pub announcedFrom : Parameters → Key → List ℕ → List ℕ → ℕ → List ℕ → List ℕ
-announcedFrom p key m2 area leaf m5 = joined (rowOf p key m2 (take ((p .d + 1) * shareLength p) area) leaf (valuesIn p m5)) (p .d)
+announcedFrom p key m2 area leaf values = joined (rowOf p key m2 (take ((p .d + 1) * shareLength p) area) leaf values) (p .d)
 
-unfoldable pub rowsFrom : Parameters → Key → List ℕ → List ℕ → List ℕ → ℕ → List ℕ → List ℕ
-rowsFrom p key prefix m2 states leaf m5 = announcedFrom p key m2 (filled p prefix states leaf (auxIn p m5)) leaf m5
+unfoldable pub rowsFrom : Parameters → Key → List ℕ → List ℕ → List ℕ → ℕ → List ℕ → List ℕ → List ℕ
+rowsFrom p key prefix m2 states leaf values aux = announcedFrom p key m2 (filled p prefix states leaf aux) leaf values
 
 unfoldable pub responseFrom : Parameters → List ℕ → List ℕ → ℕ → List ℕ
 responseFrom p prefix rows n = SHAKE256 (rowsString SHAKE256 p prefix rows) n
 
-unfoldable pub judged : Parameters → List ℕ → List ℕ → ℕ → List ℕ → List ℕ → List ℕ → Answer
-judged p m1 m3 leaf m5 states rows =
+unfoldable pub judged : Parameters → List ℕ → List ℕ → ℕ → List ℕ → List ℕ → List ℕ → List ℕ → Answer
+judged p m1 m3 leaf commitment aux states rows =
     checks (
-    (eqList (digestFrom p (take 32 m1) leaf m5 states 32) (drop 32 m1), Commitment)
+    (eqList (digestFrom p (take 32 m1) leaf commitment aux states 32) (drop 32 m1), Commitment)
     ∷ (eqList (responseFrom p (take 32 m1) rows 32) m3, Response)
     ∷ []
     )

@@ -1,4 +1,3 @@
-pub mod Message5
 pub mod From
 pub mod Opened
 pub mod Asked

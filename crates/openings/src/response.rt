@@ -1,9 +1,7 @@
 // Layers 3, 6 and 7 of an opening: the sums of the disclosed leaves, what the parties of every axis announce, and h'
 // recomputed.
-use crate::message5::aux_place;
-use crate::message5::values_place;
 use axes::axis_rows;
-use axes::response_digest;
+use axisdigests::response_digest;
 use bytefield::log_table;
 use bytefield::power_table;
 use layout::aux_length;
@@ -23,7 +21,8 @@ ghost use Rattle.exchange.specs.Sequences.{joined};
 ghost use Rattle.coefficients.specs.Coefficients.{keyOf};
 ghost use Rattle.parties.specs.Sums.Front.{filled};
 ghost use Rattle.axes.specs.Announcing.{rowOf};
-ghost use Rattle.axes.specs.Asked.{RowsAsked, ResponseAsked};
+ghost use Rattle.axes.specs.Asked.{RowsAsked};
+ghost use Rattle.axisdigests.specs.Rows.{ResponseAsked};
 ghost use Rattle.openings.specs.From.{announcedFrom, rowsFrom, responseFrom};
 ghost use Rattle.openings.specs.Asked.{SumsAsked, AnnounceAsked, AxesAsked};
 
@@ -65,7 +64,7 @@ fn announce(
     axis_rows(p, sums, m2, matrix, y, leaf, values, rows, &log, &pow);
 }
 
-// The same, from the front of the work area, and with the hidden leaf's α and β as message 5 has them.
+// The same, from the front of the work area.
 fn announce_front(
     p: Parameters,
     area: &[u8],
@@ -73,16 +72,14 @@ fn announce_front(
     matrix: &[u8],
     y: &[u8],
     leaf: usize,
-    m5: &[u8],
+    values: &[u8],
     rows: &mut [u8],
 )
-    requires { ⌜ AnnounceAsked p (now m2) leaf (now m5) (now matrix) (now y) (now area) (now rows) ⌝ }
-    ensures { λ _. ⌜ now (rows .exit) ≡ announcedFrom p (keyOf (now (matrix .entry)) (now (y .entry))) (now (m2 .entry)) (now (area .entry)) leaf (now (m5 .entry)) ⌝ }
+    requires { ⌜ AnnounceAsked p (now m2) (now values) (now matrix) (now y) (now area) (now rows) ⌝ }
+    ensures { λ _. ⌜ now (rows .exit) ≡ announcedFrom p (keyOf (now (matrix .entry)) (now (y .entry))) (now (m2 .entry)) (now (area .entry)) leaf (now (values .entry)) ⌝ }
 {
     let front = shares_length(p, p.d + 1);
-    let from = values_place(p);
-    let to = aux_place(p);
-    announce(p, &area[..front], m2, matrix, y, leaf, &m5[from..to], rows);
+    announce(p, &area[..front], m2, matrix, y, leaf, values, rows);
 }
 
 // Fills `rows` with what the parties of every axis announce, by way of the work area.
@@ -91,19 +88,19 @@ fn rows_by(
     prefix: &[u8],
     m2: &[u8],
     leaf: usize,
-    m5: &[u8],
+    values: &[u8],
+    aux: &[u8],
     matrix: &[u8],
     y: &[u8],
     states: &[u8],
     area: &mut [u8],
     rows: &mut [u8],
 )
-    requires { ⌜ AxesAsked p (now m2) leaf (now m5) (now matrix) (now y) (now states) (now area) (now rows) ⌝ }
-    ensures { λ _. ⌜ now (rows .exit) ≡ rowsFrom p (keyOf (now (matrix .entry)) (now (y .entry))) (now (prefix .entry)) (now (m2 .entry)) (now (states .entry)) leaf (now (m5 .entry)) ⌝ }
+    requires { ⌜ AxesAsked p (now m2) (now values) (now aux) (now matrix) (now y) (now states) (now area) (now rows) ⌝ }
+    ensures { λ _. ⌜ now (rows .exit) ≡ rowsFrom p (keyOf (now (matrix .entry)) (now (y .entry))) (now (prefix .entry)) (now (m2 .entry)) (now (states .entry)) leaf (now (values .entry)) (now (aux .entry)) ⌝ }
 {
-    let aux = aux_place(p);
-    sum_leaves(p, prefix, leaf, &m5[aux..], states, area);
-    announce_front(p, area, m2, matrix, y, leaf, m5, rows);
+    sum_leaves(p, prefix, leaf, aux, states, area);
+    announce_front(p, area, m2, matrix, y, leaf, values, rows);
 }
 
 // Fills `rows` with what the parties of every axis announce; the work area ends as zeros.
@@ -112,18 +109,31 @@ pub fn opened_rows(
     prefix: &[u8],
     m2: &[u8],
     leaf: usize,
-    m5: &[u8],
+    values: &[u8],
+    aux: &[u8],
     matrix: &[u8],
     y: &[u8],
     states: &[u8],
     area: &mut [u8],
     rows: &mut [u8],
 )
-    requires { ⌜ AxesAsked p (now m2) leaf (now m5) (now matrix) (now y) (now states) (now area) (now rows) ⌝ }
-    ensures { λ _. ⌜ now (rows .exit) ≡ rowsFrom p (keyOf (now (matrix .entry)) (now (y .entry))) (now (prefix .entry)) (now (m2 .entry)) (now (states .entry)) leaf (now (m5 .entry)) ⌝ }
+    requires { ⌜ AxesAsked p (now m2) (now values) (now aux) (now matrix) (now y) (now states) (now area) (now rows) ⌝ }
+    ensures { λ _. ⌜ now (rows .exit) ≡ rowsFrom p (keyOf (now (matrix .entry)) (now (y .entry))) (now (prefix .entry)) (now (m2 .entry)) (now (states .entry)) leaf (now (values .entry)) (now (aux .entry)) ⌝ }
     ensures { λ _. ⌜ now (area .exit) ≡ replicate (workLength p) 0 ⌝ }
 {
-    rows_by(p, prefix, m2, leaf, m5, matrix, y, states, area, rows);
+    rows_by(
+        p,
+        prefix,
+        m2,
+        leaf,
+        values,
+        aux,
+        matrix,
+        y,
+        states,
+        area,
+        rows,
+    );
     let size = area.len();
     zero_front(area, size);
 }

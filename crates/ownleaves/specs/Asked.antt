@@ -10,7 +10,7 @@ use Prim.Native.Nat.{ℕ, _*_, _-_}
 use lib.ListN.{length}
 use Rattle.parameters.specs.declared.Parameters.{Parameters}
 use Rattle.parameters.specs.Limits.{Within}
-use Rattle.key.specs.Light.{Light}
+use Rattle.relation.specs.Light.{Light}
 use Rattle.exchange.specs.Layout.{leaves, auxLength, shareLength, message2Length, workLength}
 
 pub record Held (p : Parameters) (x salt root area : List ℕ) : Type 0 where

@@ -11,7 +11,7 @@ use Rattle.exchange.specs.Layout.{leaves}
 use Rattle.exchange.specs.Tree.{leafSeeds}
 use Rattle.exchange.specs.Parties.{total}
 use Rattle.seedtree.specs.Laid.{laid}
-use Rattle.leaves.specs.States.{statesOf}
+use Rattle.leafstates.specs.States.{statesOf}
 use Rattle.parties.specs.Drawn.{drawnShare}
 pub mod Laws
 

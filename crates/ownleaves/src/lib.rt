@@ -1,7 +1,7 @@
 // What the prover has of its leaves: all states, and aux.
 use layout::aux_length;
+use leafstates::leaf_states;
 use leaves::leaf_count;
-use leaves::states::leaf_states;
 use lists::zero_front;
 use parameters::Parameters;
 use parties::share_sum;

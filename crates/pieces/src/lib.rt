@@ -3,7 +3,7 @@ use shake256::Sponge;
 ghost use mathlib.Core.Path.{_≡_};
 ghost use Prim.Native.Nat.{_≤_};
 ghost use lib.ListN.{length};
-ghost use Rattle.keccak.specs.Permutation.{keccakF};
+ghost use Rattle.fips.specs.Permutation.{keccakF};
 ghost use Rattle.shake256.specs.Fips.{SHAKE256};
 ghost use Rattle.shake256.specs.Stream as stream;
 

@@ -5,8 +5,8 @@ ghost use Prim.Native.Nat.{_+_, _*_, _<_, _≤_};
 ghost use lib.ListN.{length};
 ghost use Rattle.bytefield.specs.Tables.{logs, powers};
 ghost use Rattle.points.specs.Pairs.{pairOf};
-ghost use Rattle.points.specs.Point.{pairOps, lone, fourSum, fourTimes};
-ghost use Rattle.points.specs.Value.{valueAt, powerAt};
+ghost use Rattle.tower.specs.Point.{pairOps, lone, fourSum, fourTimes};
+ghost use Rattle.tower.specs.Value.{valueAt, powerAt};
 
 // lo + hi·X.
 struct Pair {

@@ -20,11 +20,11 @@ use Rattle.algebra.specs.Polynomial.Maps.{map-eval, map-times}
 use Rattle.bytefield.specs.Product.{byteOps}
 use Rattle.bytefield.specs.Product.Laws.{bytefield}
 use Rattle.bytefield.specs.Byte.{byte, byteRing, byte-homomorphism}
-use Rattle.points.specs.Point.{pointOps, Quad, quad, four, lone, fourSum, fourTimes}
-use Rattle.points.specs.Point.Laws.{Bytes as FourBytes, bytes-times as four-bytes}
-use Rattle.points.specs.Field.{Point, pointField, point, bytesOf, loneOf, point-times, point-value, point-lone, bytesOf-point, loneField}
-use Rattle.points.specs.Value.{coefficients, valueAt}
-use Rattle.points.specs.Value.Laws.{value-plus}
+use Rattle.tower.specs.Point.{pointOps, Quad, quad, four, lone, fourSum, fourTimes}
+use Rattle.tower.specs.Point.Laws.{Bytes as FourBytes, bytes-times as four-bytes}
+use Rattle.tower.specs.Field.{Point, pointField, point, bytesOf, loneOf, point-times, point-value, point-lone, bytesOf-point, loneField}
+use Rattle.tower.specs.Value.{coefficients, valueAt}
+use Rattle.tower.specs.Value.Laws.{value-plus}
 use Rattle.polynomial.specs.Bytes.{Bytes, inField, xorList-plus, bytes-times}
 
 pub value-xor : (p q r : List ℕ) → length p ≡ length q → valueAt (xorList p q) r ≡ fourSum (valueAt p r) (valueAt q r)

@@ -1,13 +1,18 @@
--- How long the arrays are that a session holds: what its type tells of a session that a function is passed.
+-- How long the arrays are that a session holds: what its type tells of a session that a function is passed. `held-arrays`: a message can be made from them.
 use mathlib.Core.Path.{_≡_, sym, _∙_}
-use mathlib.Core.List.{[], _∷_}
+use mathlib.Core.List.{List, [], _∷_}
+use Prim.Native.Nat.{ℕ, _≤_}
 use lib.ListN.{length, length-map}
 use denote.RattleType.{Valss}
 use denote.Shadow.{shadow}
 use denote.Struct.Declared.{shape}
 use denote.Struct.Laws.{val}
 use denote.Struct.Struct.{within}
+use Rattle.exchange.specs.Layout.{workLength}
+use Rattle.rounds.specs.Rounds.{Arrays}
 use Rattle.prover.specs.declared.Prover.{Prover}
+use Rattle.prover.specs.Facts.{Ready}
+use Rattle.prover.specs.Session.{heldX}
 use Rattle.prover.proofs.Prover.{the-type}
 use Rattle.prover.proofs.Prover.Laws.{the-laws}
 
@@ -23,3 +28,14 @@ module _ (s : Prover) (told : (vs : Valss (shape the-type .fields)) × shadow (w
 
   pub message2-length : length (s .message2) ≡ 64
   message2-length = sym (length-map (s .message2) _) ∙ told .1 .1 .1 .1 .1 .1 .1 .0 .1 .0 .1
+
+  pub held-arrays : (work : List ℕ) → Ready s → workLength (s .parameters) ≤ length work → Arrays (s .parameters) (s .x) (s .salt) (s .root) work
+  unfolding heldX
+  held-arrays work h fits = record {
+    within = h .within;
+    light = h .light;
+    x-is = x-length;
+    salt-is = salt-length;
+    root-is = root-length;
+    work-fits = fits;
+  }

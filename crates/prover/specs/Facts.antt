@@ -2,9 +2,7 @@
 --
 -- isDone a                          the checks passed
 -- outcomeOf a s out work            what a call gives
--- Weighing p xA matrix y x          matrix, y and x_A of the lengths that the parameters say, and 255 zeros to make x in
 -- Ready s                           the parameters that a session holds are within their limits, and its x is not too heavy
--- Sized p xA salt root matrix y work out    the slices that begin is lent have the lengths that it asks
 -- Begins p xA salt root matrix y work out   what begin's checks say
 -- Starting p x salt root work out   the same of an x that stands at the front of 255 bytes
 -- Answering s m2 matrix y work out  what the checks of points say
@@ -12,15 +10,16 @@
 use mathlib.Core.Path.{_≡_}
 use mathlib.Core.Bool.{Bool, true, false}
 use mathlib.Core.List.{List}
-use Prim.Native.Nat.{ℕ, _*_, _-_, _≤_, _<_}
-use lib.ListN.{length, replicate, take}
+use Prim.Native.Nat.{ℕ, _≤_, _<_}
+use lib.ListN.{length, take}
 use Rattle.answers.specs.declared.Answer.{Answer}
 use Rattle.answers.specs.declared.Answer.the-variants.{Done, Refused}
 use Rattle.parameters.specs.declared.Parameters.{Parameters}
 use Rattle.parameters.specs.Limits.{Within}
-use Rattle.key.specs.Key.{vectorOf, weightOf}
+use Rattle.relation.specs.Key.{vectorOf, weightOf}
 use Rattle.exchange.specs.Layout.{leaves, message2Length, message5Length, workLength}
 use Rattle.layout.specs.Lent.{Lent}
+use Rattle.arguments.specs.Arguments.{Sized}
 use Rattle.prover.specs.declared.Prover.{Prover}
 use Rattle.prover.specs.Session.{Outcome, heldX}
 
@@ -31,20 +30,6 @@ isDone (Refused r) = false
 
 abbrev pub outcomeOf : Answer → Prover → List ℕ → List ℕ → Outcome
 outcomeOf a s out work = record { answer = a; prover = s; out = out; work = work }
-
-pub record Weighing (p : Parameters) (xA matrix y x : List ℕ) : Type 0 where
-  pub within : Within p
-  pub xA-is : length xA ≡ p .k
-  pub matrix-is : length matrix ≡ (p .m - p .k) * p .k
-  pub y-is : length y ≡ p .m - p .k
-  pub zeros : x ≡ replicate 255 0
-
-pub record Sized (p : Parameters) (xA salt root matrix y work out : List ℕ) : Type 0 where
-  pub xA-is : length xA ≡ p .k
-  pub salt-is : length salt ≡ 32
-  pub root-is : length root ≡ 16
-  pub out-is : length out ≡ 64
-  pub lent : Lent p (length matrix) (length y) (length work)
 
 pub record Begins (p : Parameters) (xA salt root matrix y work out : List ℕ) : Type 0 where
   pub within : Within p

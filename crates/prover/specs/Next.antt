@@ -1,6 +1,6 @@
 -- The session after a call that is carried out.
 --
--- nextBegun p x salt root    begin: a new exchange, x in 255 bytes
+-- nextBegun f p x salt root  begin: a new exchange, x in 255 bytes, in the phase f
 -- nextAnswered s m2          points: message 2 is held, in 64 bytes
 -- nextClosed s               leaf: 'Closing changes nothing else that a session holds'
 -- begunWith                  begin carried out, with x at the front of 255 bytes
@@ -13,12 +13,13 @@ use Rattle.answers.specs.declared.Answer.the-variants.{Done}
 use Rattle.parameters.specs.declared.Parameters.{Parameters}
 use Rattle.exchange.specs.Layout.{workLength}
 use Rattle.exchange.specs.Messages.{message1}
-use Rattle.prover.specs.declared.Phase.the-variants.{Begun, Answered, Closed}
+use Rattle.prover_phase.specs.declared.Phase.{Phase}
+use Rattle.prover_phase.specs.declared.Phase.the-variants.{Begun, Answered, Closed}
 use Rattle.prover.specs.declared.Prover.{Prover}
 use Rattle.prover.specs.Session.{Outcome}
 
-abbrev pub nextBegun : Parameters → List ℕ → List ℕ → List ℕ → Prover
-nextBegun p x salt root = record { phase = Begun; parameters = p; x = x; salt = salt; root = root; message2 = replicate 64 0 }
+abbrev pub nextBegun : Phase → Parameters → List ℕ → List ℕ → List ℕ → Prover
+nextBegun f p x salt root = record { phase = f; parameters = p; x = x; salt = salt; root = root; message2 = replicate 64 0 }
 
 abbrev pub nextAnswered : Prover → List ℕ → Prover
 nextAnswered s m2 = record { phase = Answered; parameters = s .parameters; x = s .x; salt = s .salt; root = s .root; message2 = m2 }
@@ -29,7 +30,7 @@ nextClosed s = record { phase = Closed; parameters = s .parameters; x = s .x; sa
 unfoldable pub begunWith : Parameters → List ℕ → List ℕ → List ℕ → List ℕ → Outcome
 begunWith p x salt root work = record {
   answer = Done;
-  prover = nextBegun p x salt root;
+  prover = nextBegun Begun p x salt root;
   out = message1 SHAKE256 p (take (p .m) x) salt root;
   work = zeroed (workLength p) work;
 }

@@ -13,7 +13,7 @@
 -- begin                 'begin (key, salt, root seed; gives 1)'; 'drops the exchange held'
 -- points                'points (gives 3)'
 -- leaf                  'leaf (gives 5, closes)'
-use mathlib.Core.Bool.{Bool, true, false, _&&_, not}
+use mathlib.Core.Bool.{Bool, _&&_, not}
 use mathlib.Core.List.{List, [], _∷_}
 use Prim.Native.Nat.{ℕ, _*_, _-_}
 use lib.Dec.{eqb, leb, ltb}
@@ -28,12 +28,12 @@ use Rattle.answers.specs.declared.Refusal.the-variants.{Parameter, Length, Weig
 use Rattle.answers.specs.Checks.{checks}
 use Rattle.parameters.specs.declared.Parameters.{Parameters}
 use Rattle.parameters.specs.Limits.{withinLimits}
-use Rattle.key.specs.Key.{weightOf, vectorOf}
+use Rattle.relation.specs.Key.{weightOf, vectorOf}
 use Rattle.exchange.specs.Layout.{leaves, message2Length, message5Length, workLength}
 use Rattle.exchange.specs.Values.{Key}
 use Rattle.exchange.specs.Messages.{message1, message3, message5}
-use Rattle.prover.specs.declared.Phase.{Phase}
-use Rattle.prover.specs.declared.Phase.the-variants.{Fresh, Begun, Answered, Closed}
+use Rattle.prover_phase.specs.declared.Phase.the-variants.{Fresh, Begun, Answered, Closed}
+pub use Rattle.prover_phase.specs.Phases.{isFresh, isBegun, isAnswered, isClosed}
 use Rattle.prover.specs.declared.Prover.{Prover}
 use Rattle.prover.specs.declared.Called.{Called}
 pub mod Checks
@@ -50,30 +50,6 @@ fresh = record {
   root = replicate 16 0;
   message2 = replicate 64 0;
 }
-
-abbrev pub isFresh : Phase → Bool
-isFresh Fresh = true
-isFresh Begun = false
-isFresh Answered = false
-isFresh Closed = false
-
-abbrev pub isBegun : Phase → Bool
-isBegun Fresh = false
-isBegun Begun = true
-isBegun Answered = false
-isBegun Closed = false
-
-abbrev pub isAnswered : Phase → Bool
-isAnswered Fresh = false
-isAnswered Begun = false
-isAnswered Answered = true
-isAnswered Closed = false
-
-abbrev pub isClosed : Phase → Bool
-isClosed Fresh = false
-isClosed Begun = false
-isClosed Answered = false
-isClosed Closed = true
 
 unfoldable pub heldX : Prover → List ℕ
 heldX s = take (s .parameters .m) (s .x)

@@ -1,21 +1,12 @@
 // What a session holds, and what the checks of a call answer.
-use crate::Phase;
 use crate::Prover;
 use answers::Answer;
+use arguments::both;
+use prover_phase::due::is_closed;
+use prover_phase::is_fresh;
 ghost use mathlib.Core.Path.{_≡_};
-ghost use mathlib.Core.Bool.{_&&_};
 ghost use Rattle.prover.specs.Facts.{isDone};
 ghost use Rattle.prover.specs.Session as spec;
-
-// Do both hold?
-pub fn both(a: bool, b: bool) -> bool
-    ensures { λ r. ⌜ r ≡ (a && b) ⌝ }
-{
-    if a {
-        return b;
-    }
-    false
-}
 
 // Did the checks pass?
 pub fn is_done(a: Answer) -> bool
@@ -24,18 +15,6 @@ pub fn is_done(a: Answer) -> bool
     match a {
         Answer::Done => true,
         Answer::Refused(_) => false,
-    }
-}
-
-// Was begin never carried out?
-fn is_fresh(f: Phase) -> bool
-    ensures { λ r. ⌜ r ≡ spec.isFresh f ⌝ }
-{
-    match f {
-        Phase::Fresh => true,
-        Phase::Begun => false,
-        Phase::Answered => false,
-        Phase::Closed => false,
     }
 }
 
@@ -54,18 +33,6 @@ pub fn holds(s: Prover) -> bool
     let x = s.x;
     let m = p.m;
     key::within_weight(p.w, &x[..m])
-}
-
-// Was message 5 given?
-fn is_closed(f: Phase) -> bool
-    ensures { λ r. ⌜ r ≡ spec.isClosed f ⌝ }
-{
-    match f {
-        Phase::Fresh => false,
-        Phase::Begun => false,
-        Phase::Answered => false,
-        Phase::Closed => true,
-    }
 }
 
 // Is the exchange closed, so that only begin is due?

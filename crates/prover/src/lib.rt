@@ -6,23 +6,12 @@ mod on_points;
 
 use answers::Answer;
 use parameters::Parameters;
+use prover_phase::Phase;
 ghost use mathlib.Core.Path.{_≡_};
 ghost use lib.ListN.{replicate};
 ghost use Rattle.shake256.specs.Fips.{SHAKE256};
 ghost use Rattle.coefficients.specs.Coefficients.{keyOf};
 ghost use Rattle.prover.specs.Session as spec;
-
-// Which call is due. Begin is due always.
-pub enum Phase {
-    // before the first begin
-    Fresh,
-    // message 1 was given: points is due
-    Begun,
-    // message 3 was given: leaf is due
-    Answered,
-    // message 5 was given: only begin is due
-    Closed,
-}
 
 // A session. Of x the first m entries count, of message 2 the first 8t bytes.
 pub struct Prover {

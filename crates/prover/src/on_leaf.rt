@@ -1,37 +1,19 @@
 // The call leaf: its checks, and the call carried out.
 use crate::Called;
-use crate::Phase;
 use crate::Prover;
-use crate::held::both;
 use crate::held::closed;
 use crate::held::holds;
 use answers::Answer;
 use answers::Refusal;
-use parameters::Parameters;
+use arguments::both;
+use arguments::leaf_lengths;
+use prover_phase::due::is_answered;
 ghost use mathlib.Core.Path.{_≡_};
-ghost use mathlib.Core.List.{_∷_};
-ghost use lib.Dec.{eqb};
-ghost use Rattle.lists.specs.Checks.{allTrue};
 ghost use Rattle.shake256.specs.Fips.{SHAKE256};
-ghost use Rattle.parameters.specs.Limits.{Within};
-ghost use Rattle.exchange.specs.Layout.{message5Length};
 ghost use Rattle.coefficients.specs.Coefficients.{keyOf};
-ghost use Rattle.layout.specs.Lent.{lentTests};
 ghost use Rattle.prover.specs.Facts.{Opening};
 ghost use Rattle.prover.specs.Next.{nextClosed};
 ghost use Rattle.prover.specs.Session as spec;
-
-// Does the phase have leaf due?
-fn is_answered(f: Phase) -> bool
-    ensures { λ r. ⌜ r ≡ spec.isAnswered f ⌝ }
-{
-    match f {
-        Phase::Fresh => false,
-        Phase::Begun => false,
-        Phase::Answered => true,
-        Phase::Closed => false,
-    }
-}
 
 // Is leaf due?
 fn leaf_due(s: Prover) -> bool
@@ -39,22 +21,6 @@ fn leaf_due(s: Prover) -> bool
 {
     let phase = s.phase;
     both(holds(s), is_answered(phase))
-}
-
-// Have the slices that leaf is lent, of these lengths, the lengths that the parameters say?
-fn leaf_lengths(
-    p: Parameters,
-    leaf: usize,
-    matrix: usize,
-    y: usize,
-    work: usize,
-    out: usize,
-) -> bool
-    requires { ⌜ Within p ⌝ }
-    ensures { λ r. ⌜ r ≡ allTrue (eqb out (message5Length p leaf) ∷ lentTests p matrix y work) ⌝ }
-{
-    let n = layout::message5_length(p, leaf);
-    both(out == n, layout::lent(p, matrix, y, work))
 }
 
 // The checks of leaf.
@@ -94,8 +60,9 @@ fn ended(s: Prover) -> Prover
     let salt = s.salt;
     let root = s.root;
     let message2 = s.message2;
+    let phase = prover_phase::after::leaf();
     Prover {
-        phase: Phase::Closed,
+        phase,
         parameters,
         x,
         salt,
@@ -118,25 +85,11 @@ pub fn opened(
         (now (work .entry)) (now (out .entry)) ⌝ }
 {
     let p = s.parameters;
-    let m = p.m;
-    let e = layout::message2_length(p);
-    let n = layout::work_length(p);
     let x = s.x;
     let salt = s.salt;
     let root = s.root;
     let message2 = s.message2;
-    messages::message5(
-        p,
-        &x[..m],
-        &salt,
-        &root,
-        &message2[..e],
-        leaf,
-        matrix,
-        y,
-        &mut work[..n],
-        out,
-    );
+    rounds::message5(p, &x, &salt, &root, &message2, leaf, matrix, y, work, out);
     let prover = ended(s);
     Called {
         prover,

@@ -1,38 +1,20 @@
 // The call points: its checks, and the call carried out.
 use crate::Called;
-use crate::Phase;
 use crate::Prover;
-use crate::held::both;
 use crate::held::closed;
 use crate::held::holds;
 use answers::Answer;
 use answers::Refusal;
+use arguments::both;
+use arguments::points_lengths;
 use layout::arrays;
-use parameters::Parameters;
+use prover_phase::due::is_begun;
 ghost use mathlib.Core.Path.{_≡_};
-ghost use mathlib.Core.List.{_∷_};
-ghost use lib.Dec.{eqb};
-ghost use Rattle.lists.specs.Checks.{allTrue};
 ghost use Rattle.shake256.specs.Fips.{SHAKE256};
-ghost use Rattle.parameters.specs.Limits.{Within};
-ghost use Rattle.exchange.specs.Layout.{message2Length};
 ghost use Rattle.coefficients.specs.Coefficients.{keyOf};
-ghost use Rattle.layout.specs.Lent.{lentTests};
 ghost use Rattle.prover.specs.Facts.{Answering};
 ghost use Rattle.prover.specs.Next.{nextAnswered};
 ghost use Rattle.prover.specs.Session as spec;
-
-// Does the phase have points due?
-fn is_begun(f: Phase) -> bool
-    ensures { λ r. ⌜ r ≡ spec.isBegun f ⌝ }
-{
-    match f {
-        Phase::Fresh => false,
-        Phase::Begun => true,
-        Phase::Answered => false,
-        Phase::Closed => false,
-    }
-}
 
 // Is points due?
 fn points_due(s: Prover) -> bool
@@ -40,25 +22,6 @@ fn points_due(s: Prover) -> bool
 {
     let phase = s.phase;
     both(holds(s), is_begun(phase))
-}
-
-// Have the slices that points is lent, of these lengths, the lengths that the parameters say?
-fn points_lengths(
-    p: Parameters,
-    message2: usize,
-    matrix: usize,
-    y: usize,
-    work: usize,
-    out: usize,
-) -> bool
-    requires { ⌜ Within p ⌝ }
-    ensures { λ r. ⌜ r ≡ allTrue (eqb message2 (message2Length p) ∷ eqb out 32 ∷ lentTests p matrix y work) ⌝ }
-{
-    let n = layout::message2_length(p);
-    both(
-        message2 == n,
-        both(out == 32, layout::lent(p, matrix, y, work)),
-    )
 }
 
 // The checks of points.
@@ -101,8 +64,9 @@ fn responded(s: Prover, held: [u8; 64]) -> Prover
     let x = s.x;
     let salt = s.salt;
     let root = s.root;
+    let phase = prover_phase::after::points();
     Prover {
-        phase: Phase::Answered,
+        phase,
         parameters,
         x,
         salt,
@@ -125,22 +89,10 @@ pub fn answered(
         (now (work .entry)) (now (out .entry)) ⌝ }
 {
     let p = s.parameters;
-    let m = p.m;
-    let n = layout::work_length(p);
     let x = s.x;
     let salt = s.salt;
     let root = s.root;
-    messages::message3(
-        p,
-        &x[..m],
-        &salt,
-        &root,
-        message2,
-        matrix,
-        y,
-        &mut work[..n],
-        out,
-    );
+    rounds::message3(p, &x, &salt, &root, message2, matrix, y, work, out);
     let held = arrays::padded64(message2);
     let prover = responded(s, held);
     Called {

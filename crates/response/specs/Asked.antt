@@ -8,7 +8,7 @@ use Prim.Native.Nat.{ℕ, _+_, _*_}
 use lib.ListN.{length}
 use Rattle.parameters.specs.declared.Parameters.{Parameters}
 use Rattle.parameters.specs.Limits.{Within}
-use Rattle.key.specs.Light.{Light}
+use Rattle.relation.specs.Light.{Light}
 use Rattle.ownleaves.specs.Asked.{Keyed}
 use Rattle.exchange.specs.Layout.{auxLength, shareLength, workLength}
 

@@ -15,7 +15,7 @@ use Rattle.exchange.specs.Values.{Key}
 use Rattle.exchange.specs.Messages.{ownAux}
 use Rattle.parties.specs.Sums.Front.{filled}
 use Rattle.axes.specs.Announcing.{rowOf}
-use Rattle.axes.specs.Announcing.Strings.{rowsString}
+use Rattle.axisdigests.specs.Rows.{rowsString}
 use Rattle.ownleaves.specs.Own.{ownStates}
 pub mod Laws
 

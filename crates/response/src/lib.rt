@@ -3,7 +3,7 @@ mod filled;
 
 use crate::filled::fill;
 use axes::axis_rows;
-use axes::response_digest;
+use axisdigests::response_digest;
 use bytefield::log_table;
 use bytefield::power_table;
 use leaves::leaf_count;

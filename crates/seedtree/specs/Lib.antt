@@ -1,5 +1,6 @@
 pub mod Writes
 pub mod Laid
 pub mod Levels
-pub mod Way
+pub mod Siblings
+pub mod Opened
 pub mod Shapes

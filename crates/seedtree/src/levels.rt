@@ -2,6 +2,7 @@
 use lists::put_at;
 use shake256::Sponge;
 use strings::digest;
+use treenodes::node_bytes;
 ghost use mathlib.Core.Path.{_≡_};
 ghost use mathlib.Core.List.{List, _++_};
 ghost use Prim.Native.Nat.{ℕ, _<_};
@@ -15,14 +16,6 @@ ghost use Rattle.strings.specs.Digest.{begun};
 ghost use Rattle.seedtree.specs.Laid.{laid};
 ghost use Rattle.seedtree.specs.Levels.{grown};
 ghost use Rattle.seedtree.specs.Shapes.{Expand, Grow, Below, Subtree};
-
-// The two bytes of a node's number, low byte first.
-fn node_bytes(v: usize) -> [u8; 2]
-    requires { ⌜ v < 65536 ⌝ }
-    ensures { λ r. ⌜ r ≡ nodeBytes v ⌝ }
-{
-    [(v % 256) as u8, (v / 256) as u8]
-}
 
 // The sponge that has absorbed the string of node v, from the start of layer 1.
 fn absorb_node(nodes: Sponge, v: usize, seed: &[u8]) -> Sponge

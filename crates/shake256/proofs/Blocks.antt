@@ -9,11 +9,12 @@ use native.Mathlib.Omega.{arith}
 use lib.Bits.{bitXor, xor-zero-r}
 use lib.ListN.{length, take, drop, getD, set, replicate, length-append, length-replicate, length-drop, length-take, take-append-drop, drop-of-length-le}
 use lib.Seq.{set-set, set-getD, set-at, getD-at, append-snoc, length-take-le, take-append-add, take-append-le}
-use Rattle.keccak.specs.Permutation.{keccakF}
+use Rattle.fips.specs.Permutation.{keccakF}
 use Rattle.keccak.proofs.Lengths.{length-keccakF}
-use Rattle.shake256.specs.Parameters.{rate, domain, final}
-use Rattle.shake256.specs.Bytes.{word, byteAt, bytesAt, xorAt, xorBytes}
-use Rattle.shake256.specs.Fips.{pad, added, absorb, squeeze}
+use Rattle.fips.specs.Parameters.{rate, domain, final}
+use Rattle.fips.specs.Bytes.{word, byteAt, bytesAt}
+use Rattle.shake256.specs.Bytes.{xorAt, xorBytes}
+use Rattle.fips.specs.Shake256.{pad, added, absorb, squeeze}
 use Rattle.shake256.specs.declared.Sponge.{Sponge}
 use Rattle.shake256.specs.Stream.{ready, put, absorbed, finished, squeezed}
 use Rattle.shake256.proofs.Xor.{xor-assoc}

@@ -10,7 +10,8 @@ use lib.Bits.{bitXor, bitOr, xor-zero-r, xor-comm, xor-lt, xor-shifted, or-shift
 use lib.ListN.{length, take, drop, getD, set}
 use lib.Pow.{pow-add, pow-mono, shl-lt}
 use lib.Seq.{sets, drop-cons, getD-set-same, set-set, set-getD, set-out}
-use Rattle.shake256.specs.Bytes.{word, byteAt, byteOf, bytesAt, bytesOf, xorAt, xorBytes}
+use Rattle.fips.specs.Bytes.{word, byteAt, byteOf, bytesAt}
+use Rattle.shake256.specs.Bytes.{bytesOf, xorAt, xorBytes}
 use Rattle.shake256.proofs.Xor.{xor-assoc, xor-shl}
 
 -- ---- the bytes vs, the first at byte j of the lane, xored into the lane x one by one

@@ -12,9 +12,9 @@ use native.Mathlib.Nat.{zero-add}
 use native.Mathlib.Omega.{arith}
 use lib.Bits.{xor-comm, xor-shifted}
 use lib.ListN.{length, getD, length-append}
-use Rattle.shake256.specs.Parameters.{rate}
-use Rattle.shake256.specs.Bytes.{word}
-use Rattle.shake256.specs.Fips.{pad, padded, zeros, enough, absorb, SHAKE256}
+use Rattle.fips.specs.Parameters.{rate}
+use Rattle.fips.specs.Bytes.{word}
+use Rattle.fips.specs.Shake256.{pad, padded, zeros, enough, absorb, SHAKE256}
 use Rattle.shake256.specs.declared.Sponge.{Sponge}
 use Rattle.shake256.specs.Stream.{start, ready, next, absorbed, finished, squeezed}
 use Rattle.shake256.proofs.Sponges.{mk, absorbed-append, squeezed-ready, length-squeezed}

@@ -8,9 +8,10 @@ use native.Mathlib.Numerals.{add-one}
 use native.Mathlib.Omega.{arith}
 use borrow.Author.Tests.{le-leb, lt-leb}
 use lib.ListN.{length}
-use Rattle.keccak.specs.Permutation.{keccakF}
-use Rattle.shake256.specs.Parameters.{rate}
-use Rattle.shake256.specs.Bytes.{byteAt, bytesAt, xorAt, xorBytes}
+use Rattle.fips.specs.Permutation.{keccakF}
+use Rattle.fips.specs.Parameters.{rate}
+use Rattle.fips.specs.Bytes.{byteAt, bytesAt}
+use Rattle.shake256.specs.Bytes.{xorAt, xorBytes}
 use Rattle.shake256.specs.declared.Sponge.{Sponge}
 use Rattle.shake256.specs.Stream.{permuted, ready, put, absorbed, next, after, squeezed}
 

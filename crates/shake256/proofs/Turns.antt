@@ -6,8 +6,8 @@ use Prim.Native.Nat.{ℕ, _+_, _≤_, _<_}
 use native.Mathlib.Omega.{arith}
 use lib.ListN.{length, take, drop, length-drop}
 use lib.Seq.{length-take-le, take-add, sets, sets-eq, take-at, drop-at, drop-drop}
-use Rattle.shake256.specs.Parameters.{rate}
-use Rattle.shake256.specs.Bytes.{bytesAt}
+use Rattle.fips.specs.Parameters.{rate}
+use Rattle.fips.specs.Bytes.{bytesAt}
 use Rattle.shake256.specs.declared.Sponge.{Sponge}
 use Rattle.shake256.specs.Stream.{ready, absorbed, after, squeezed}
 use Rattle.shake256.specs.Turns.{Taken}

@@ -15,10 +15,11 @@ use Prim.Native.Nat.{ℕ, zero, suc, _+_, _-_}
 use mathlib.Core.Bool.{Bool, true, false}
 use mathlib.Core.List.{List, [], _∷_}
 use lib.Dec.{leb}
-use Rattle.keccak.specs.Permutation.{keccakF}
-use Rattle.shake256.specs.Parameters.{rate, domain, final}
-use Rattle.shake256.specs.Bytes.{byteAt, xorAt}
-use Rattle.shake256.specs.Fips.{zeros}
+use Rattle.fips.specs.Permutation.{keccakF}
+use Rattle.fips.specs.Parameters.{rate, domain, final}
+use Rattle.fips.specs.Bytes.{byteAt}
+use Rattle.shake256.specs.Bytes.{xorAt}
+use Rattle.fips.specs.Shake256.{zeros}
 use Rattle.shake256.specs.declared.Sponge.{Sponge}
 
 unfoldable pub start : Sponge

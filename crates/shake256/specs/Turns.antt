@@ -7,8 +7,9 @@ use mathlib.Core.Path.{_≡_}
 use mathlib.Core.List.{List}
 use lib.ListN.{length, take, drop}
 use lib.Seq.{sets}
-use Rattle.shake256.specs.Parameters.{rate}
-use Rattle.shake256.specs.Bytes.{bytesAt, xorBytes}
+use Rattle.fips.specs.Parameters.{rate}
+use Rattle.fips.specs.Bytes.{bytesAt}
+use Rattle.shake256.specs.Bytes.{xorBytes}
 
 pub record Taken (n i r : ℕ) (s S T : List ℕ) : Type 0 where
   pub some : 0 < r

@@ -3,6 +3,7 @@ ghost use mathlib.Core.Path.{_≡_};
 ghost use Prim.Native.Nat.{_+_, _*_, _^_, _≤_, _<_};
 ghost use lib.ListN.{length, getD, take, drop};
 ghost use lib.Seq.{sets};
+ghost use Rattle.fips.specs.Bytes as fips;
 ghost use Rattle.shake256.specs.Bytes as spec;
 
 fn wide(x: u8) -> u64
@@ -22,7 +23,7 @@ fn placed(s: &[u8], i: usize, j: usize) -> u64
 // The lane that the eight bytes of s from i on make.
 pub fn word(s: &[u8], i: usize) -> u64
     requires { ⌜ i + 8 ≤ length (now s) ⌝ }
-    ensures { λ r. ⌜ r ≡ spec.word (take 8 (drop i (now (s .entry)))) ⌝ }
+    ensures { λ r. ⌜ r ≡ fips.word (take 8 (drop i (now (s .entry)))) ⌝ }
 {
     placed(s, i, 0)
         | placed(s, i + 1, 1)
@@ -37,7 +38,7 @@ pub fn word(s: &[u8], i: usize) -> u64
 // Byte j of the lane w.
 pub fn byte_of(w: u64, j: usize) -> u8
     requires { ⌜ j < 8 ⌝ }
-    ensures { λ r. ⌜ r ≡ spec.byteOf w j ⌝ }
+    ensures { λ r. ⌜ r ≡ fips.byteOf w j ⌝ }
 {
     ((w >> (8 * j)) % 256) as u8
 }

@@ -9,7 +9,7 @@ use keccak::permute;
 ghost use mathlib.Core.Path.{_≡_};
 ghost use Prim.Native.Nat.{_<_};
 ghost use lib.ListN.{length};
-ghost use Rattle.shake256.specs.Parameters.{rate};
+ghost use Rattle.fips.specs.Parameters.{rate};
 ghost use Rattle.shake256.specs.Fips.{SHAKE256};
 ghost use Rattle.shake256.specs.Stream as spec;
 ghost use Rattle.shake256.specs.Turns.{Taken, Given};

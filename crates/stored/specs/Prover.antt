@@ -6,28 +6,16 @@
 -- proverBytes s         phase, m, k, w, d, t, x (255), salt (32), root (16), message 2 (64)
 -- proverFrom b          the session that the bytes b are
 use Prim.Native.Nat.{ℕ}
-use mathlib.Core.Bool.{cond}
 use mathlib.Core.List.{List, _∷_, _++_}
-use lib.Dec.{eqb}
 use lib.ListN.{getD}
 use Rattle.lists.specs.Part.{part}
-use Rattle.prover.specs.declared.Phase.{Phase}
-use Rattle.prover.specs.declared.Phase.the-variants.{Fresh, Begun, Answered, Closed}
+pub use Rattle.prover_phase.specs.Phases.{proverPhaseByte, proverPhaseFrom}
 use Rattle.prover.specs.declared.Prover.{Prover}
 use Rattle.stored.specs.Parameters.{parameterBytes, parametersFrom}
 pub mod Laws
 
 abbrev pub proverSize : ℕ
 proverSize = 373
-
-abbrev pub proverPhaseByte : Phase → ℕ
-proverPhaseByte Fresh = 0
-proverPhaseByte Begun = 1
-proverPhaseByte Answered = 2
-proverPhaseByte Closed = 3
-
-abbrev pub proverPhaseFrom : ℕ → Phase
-proverPhaseFrom b = cond (eqb b 1) Begun (cond (eqb b 2) Answered (cond (eqb b 3) Closed Fresh))
 
 unfoldable pub proverBytes : Prover → List ℕ
 proverBytes s = proverPhaseByte (s .phase) ∷ (parameterBytes (s .parameters) ++ (s .x ++ (s .salt ++ (s .root ++ s .message2))))

@@ -6,6 +6,8 @@ use layout::arrays::array16;
 use layout::arrays::array32;
 use layout::arrays::array64;
 use prover::Prover;
+use prover_phase::bytes::phase_byte;
+use prover_phase::bytes::phase_from;
 use verifier::Verifier;
 ghost use mathlib.Core.Path.{_≡_};
 ghost use lib.ListN.{length};
@@ -24,7 +26,7 @@ pub fn read_prover(b: &[u8]) -> Prover
     requires { ⌜ length (now b) ≡ proverSize ⌝ }
     ensures { λ r. ⌜ r ≡ proverFrom (now (b .entry)) ⌝ }
 {
-    let phase = phases::prover_phase(b[0]);
+    let phase = phase_from(b[0]);
     let parameters = parts::read_parameters(b);
     let x = parts::array255(&b[6..261]);
     let salt = array32(&b[261..293]);
@@ -47,7 +49,7 @@ pub fn write_prover(s: Prover, out: &mut [u8])
 {
     let phase = s.phase;
     let p = s.parameters;
-    let start = parts::head(phases::prover_phase_byte(phase), p);
+    let start = parts::head(phase_byte(phase), p);
     let x = s.x;
     let salt = s.salt;
     let root = s.root;

@@ -1,35 +1,6 @@
-// The phases of both sessions as bytes.
+// The verifier's phases as bytes.
 ghost use mathlib.Core.Path.{_≡_};
-ghost use Rattle.stored.specs.Prover.{proverPhaseByte, proverPhaseFrom};
 ghost use Rattle.stored.specs.Verifier.{verifierPhaseByte, verifierPhaseFrom};
-
-// The prover's phase that a byte stands for.
-pub fn prover_phase(b: u8) -> prover::Phase
-    ensures { λ r. ⌜ r ≡ proverPhaseFrom b ⌝ }
-{
-    if b == 1 {
-        return prover::Phase::Begun;
-    }
-    if b == 2 {
-        return prover::Phase::Answered;
-    }
-    if b == 3 {
-        return prover::Phase::Closed;
-    }
-    prover::Phase::Fresh
-}
-
-// The byte of a prover's phase.
-pub fn prover_phase_byte(f: prover::Phase) -> u8
-    ensures { λ r. ⌜ r ≡ proverPhaseByte f ⌝ }
-{
-    match f {
-        prover::Phase::Fresh => 0,
-        prover::Phase::Begun => 1,
-        prover::Phase::Answered => 2,
-        prover::Phase::Closed => 3,
-    }
-}
 
 // The verifier's phase that a byte stands for.
 pub fn verifier_phase(b: u8) -> verifier::Phase

@@ -16,7 +16,7 @@ use Rattle.exchange.specs.Layout.{levels, coordinate, message2Length, message5L
 use Rattle.exchange.specs.Tree.{siblings}
 use Rattle.exchange.specs.Opening.{Exchange}
 use Rattle.exchange.specs.Extractor.{compared, axis}
-use Rattle.trial.specs.Definitions.{definitions}
+use Rattle.standin.specs.Definitions.{definitions}
 
 abbrev shipped : Parameters
 shipped = record { m = 230; k = 126; w = 79; d = 8; t = 3 }

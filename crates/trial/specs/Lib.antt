@@ -1,11 +1,4 @@
-pub mod StandIn
-pub mod Definitions
 pub mod Layouts
 pub mod OneAxis
-pub mod TwoAxes
 pub mod TwoPositions
 pub mod OneAxisFindings
-pub mod TwoAxesFindings
-pub mod ProverCalls
-pub mod VerifierCalls
-pub mod ExtractorCalls

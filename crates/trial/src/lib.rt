@@ -1,1 +1,1 @@
-// Theory only: the computed trials of the definitions are in specs/.
+// Theory only: the computed trials of the exchange on one axis are in specs/.

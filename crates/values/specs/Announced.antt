@@ -7,7 +7,7 @@
 use mathlib.Core.Bool.{Bool, false, cond}
 use mathlib.Core.List.{List, _++_}
 use Prim.Native.Nat.{ℕ, _+_}
-use Rattle.points.specs.Field.{Point}
+use Rattle.tower.specs.Field.{Point}
 use Rattle.parameters.specs.declared.Parameters.{Parameters}
 use Rattle.exchange.specs.Reading.{encode, value, _⊞_, _⊠_, 𝟎}
 use Rattle.exchange.specs.Values.{Key, POf, F, aOf, bOf, cOf, pointOf, multiplierOf, alpha, beta}

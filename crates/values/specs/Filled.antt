@@ -14,7 +14,7 @@ use lib.ListN.{length, take, drop}
 use lib.Seq.{drop-drop, take-nil}
 use Rattle.lists.specs.Part.{part, putAt}
 use Rattle.lists.specs.Part.Laws.{part-putAt-same, part-putAt-before, part-putAt-behind}
-use Rattle.points.specs.Field.{Point, bytesOf}
+use Rattle.tower.specs.Field.{Point, bytesOf}
 use Rattle.exchange.specs.Sequences.{joined}
 use Rattle.exchange.specs.Reading.{encode}
 

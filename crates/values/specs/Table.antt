@@ -7,7 +7,7 @@
 use mathlib.Core.List.{List}
 use Prim.Native.Nat.{ℕ, _+_, _-_, _*_, _≤_}
 use lib.ListN.{length}
-use Rattle.points.specs.Field.{Point, point}
+use Rattle.tower.specs.Field.{Point, point}
 use Rattle.parameters.specs.declared.Parameters.{Parameters}
 use Rattle.exchange.specs.Layout.{atB, atX, atQ, atP, atC}
 use Rattle.exchange.specs.Reading.{points, bytesAt, pointAt, _⊞_}

@@ -6,7 +6,7 @@ ghost use mathlib.Core.Bool.{cond};
 ghost use Prim.Native.Nat.{_*_, _<_, _≤_};
 ghost use lib.ListN.{length};
 ghost use Rattle.bytefield.specs.Tables.{logs, powers};
-ghost use Rattle.points.specs.Field.{point, bytesOf};
+ghost use Rattle.tower.specs.Field.{point, bytesOf};
 ghost use Rattle.exchange.specs.Reading.{_⊠_, 𝟎};
 ghost use Rattle.coefficients.specs.Coefficients.{keyOf};
 ghost use Rattle.values.specs.Announced.{vOf};

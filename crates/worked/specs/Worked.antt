@@ -12,7 +12,7 @@ use Prim.Native.Nat.{ℕ}
 use Rattle.lists.specs.Xor.{_⊕_}
 use Rattle.bytefield.specs.Product.{reduction, xtime, timesBits, _⊗_}
 use Rattle.bytefield.specs.Inverse.{squares, inverse}
-use Rattle.points.specs.Point.{fourTimes}
+use Rattle.tower.specs.Point.{fourTimes}
 use Rattle.algebra.specs.Marks.{pick}
 use Rattle.algebra.specs.Polynomial.{plus, scale, times, expand, product, slopes, interpolate}
 use Rattle.lists.specs.Sum.{xorList}
@@ -21,8 +21,8 @@ use Rattle.parameters.specs.declared.Parameters.{Parameters}
 use Rattle.parameters.specs.Limits.{limits, withinLimits}
 use Rattle.polynomial.specs.Division.{remainder, over}
 use Rattle.polynomial.specs.Interpolant.{ascending, interpolantOf, vanishingOf}
-use Rattle.key.specs.Key.{dot, rows, vectorOf, weightOf, filled, positions, locatorOf, quotientOf}
-use Rattle.key.specs.Admission.{keyLengths, keyChecks, keyAnswer}
+use Rattle.relation.specs.Key.{dot, rows, vectorOf, weightOf, filled, positions, locatorOf, quotientOf}
+use Rattle.relation.specs.Admission.{keyLengths, keyChecks, keyAnswer}
 use Rattle.exchange.specs.Layout.{bits, levels, digit, coordinate}
 use Rattle.exchange.specs.Tree.{siblings}
 

@@ -12,8 +12,8 @@ use native.Mathlib.Omega.{arith}
 use lib.ListN.{length, take, drop, length-append, length-take, length-drop}
 use lib.Seq.{take-at, take-all, take-append-add, take-append-le, length-take-le}
 use Rattle.lists.specs.Part.{putAt}
-use Rattle.points.specs.Point.{fourTimes}
-use Rattle.points.specs.Field.{bytesOf}
+use Rattle.tower.specs.Point.{fourTimes}
+use Rattle.tower.specs.Field.{bytesOf}
 use Rattle.parameters.specs.declared.Parameters.{Parameters}
 use Rattle.exchange.specs.Reading.{pointAt}
 use Rattle.exchange.specs.Values.{aOf, bOf}

@@ -4,7 +4,6 @@
 -- own-announced      the prover's parties, none of which holds a hidden leaf: what they announce is what exchange/specs/Messages.antt says
 -- with-ext           what is announced depends on the parties of the side and the positions below t alone
 -- party-from         the sums of both parties of an axis, from the first party's and the sum of all disclosed leaves
--- hidden-inside, hidden-outside   the party that holds the hidden leaf, and where none is hidden
 use mathlib.Core.Path.{_≡_, refl, sym, ap, ap₂, _∙_}
 use mathlib.Core.Bool.{Bool, false, cond}
 use mathlib.Core.List.{List, _++_}
@@ -16,7 +15,7 @@ use Rattle.cube.specs.Group.{additive}
 use Rattle.cube.specs.Sum.Laws.{sum-ext}
 use Rattle.lists.specs.Part.{part}
 use Rattle.lists.specs.Sum.{xorList}
-use Rattle.points.specs.Field.{Point}
+use Rattle.tower.specs.Field.{Point}
 use Rattle.parameters.specs.declared.Parameters.{Parameters}
 use Rattle.exchange.specs.Layout.{bits, side, leaves, digit, shareLength}
 use Rattle.exchange.specs.Reading.{points, _⊞_, 𝟎}
@@ -25,7 +24,7 @@ use Rattle.exchange.specs.Values.{Key, alpha, beta, partV}
 use Rattle.exchange.specs.Parties.{Announced, sums, announcedBytes}
 use Rattle.exchange.specs.Messages.{ownParty, ownAlpha, ownBeta, ownAnnounced}
 use Rattle.exchange.specs.Opening.{Exchange, alphaOf, betaOf, disclosed, partyAlpha, partyBeta, formulaV, partyV, announced}
-use Rattle.axes.specs.Announcing.{alphaWith, betaWith, formulaWith, vWith, announcedWith, partyFrom, hiddenParty}
+use Rattle.axes.specs.Announcing.{alphaWith, betaWith, formulaWith, vWith, announcedWith, partyFrom}
 
 pub announced-with : (hash : List ℕ → ℕ → List ℕ) (p : Parameters) (e : Exchange) (key : Key) (j : ℕ)
     → announced hash p e key j
@@ -122,7 +121,7 @@ module _ (p : Parameters) (key : Key) (m2 : List ℕ) (s s′ : ℕ → List ℕ
       same-bytes p (announcedWith p key m2 s α⋆ β⋆ h) (announcedWith p key m2 s′ α⋆′ β⋆′ h) c (λ l b. alpha-ext c l k b) (λ l b. beta-ext c l k b)
       (λ l b. v-ext c l k b)
 
--- ---- sums and the hidden leaf
+-- ---- sums
 
 pub party-from : (p : Parameters) (parts : List ℕ) (j : ℕ) (s : ℕ → List ℕ) → part parts (j * shareLength p) (shareLength p) ≡ s 0
     → xorList (part parts (p .d * shareLength p) (shareLength p)) (part parts (j * shareLength p) (shareLength p)) ≡ s 1
@@ -131,12 +130,3 @@ unfolding partyFrom bits
 party-from p parts j s first second zero h = first
 party-from p parts j s first second (suc zero) h = second
 party-from p parts j s first second (suc (suc c)) h = absurd (omega arith)
-
-module _ (p : Parameters) (leaf j : ℕ) where
-  pub hidden-inside : leaf < leaves p → hiddenParty p leaf j ≡ digit p j leaf
-  unfolding hiddenParty
-  hidden-inside h = ap (λ (b : Bool). cond b (digit p j leaf) (side p)) (lt-ltb leaf (leaves p) h)
-
-  pub hidden-outside : leaves p ≤ leaf → hiddenParty p leaf j ≡ side p
-  unfolding hiddenParty
-  hidden-outside h = ap (λ (b : Bool). cond b (digit p j leaf) (side p)) (le-ltb leaf (leaves p) h)

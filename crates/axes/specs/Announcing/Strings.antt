@@ -1,7 +1,5 @@
 -- The rows of all axes one after another, and the strings of layers 6 and 7 made of them.
 --
--- rowString p pre rows j           layer 6's string of axis j, from the rows
--- rowsString hash p pre rows       layer 7's string, from the rows
 -- length-row, length-rows, row-at  a row has 24t bytes, and row j is found at its place
 -- axis-string                      behind a row's number stands what layer 6 hashes
 -- rows-string                      rows that are those of the announcements of the axes give layer 7's string
@@ -14,7 +12,7 @@ use native.Mathlib.Omega.{arith}
 use lib.ListN.{length, getD}
 use Rattle.lists.specs.Part.{part}
 use Rattle.lists.specs.Part.Laws.{getD-part}
-use Rattle.points.specs.Field.{Point}
+use Rattle.tower.specs.Field.{Point}
 use Rattle.parameters.specs.declared.Parameters.{Parameters}
 use Rattle.exchange.specs.Layout.{side, levels, leaves, digit}
 use Rattle.exchange.specs.Layout.Laws.{side-is}
@@ -28,14 +26,11 @@ use Rattle.exchange.specs.Parties.{Announced, announcedBytes, axisString}
 use Rattle.exchange.specs.Parties.Laws.{length-announcedBytes}
 use Rattle.exchange.specs.Messages.{ownParty, ownAnnounced, message3}
 use Rattle.exchange.specs.Opening.{Exchange, alphaOf, betaOf, disclosed, announced, responseString}
-use Rattle.axes.specs.Announcing.{announcedWith, partyFrom, hiddenParty, rowOf}
-use Rattle.axes.specs.Announcing.Laws.{announced-with, own-announced, with-ext, hidden-inside, hidden-outside}
-
-abbrev pub rowString : Parameters → List ℕ → List ℕ → ℕ → List ℕ
-rowString p prefix rows j = string 6 prefix ((j + 1) ∷ part rows (j * (24 * p .t)) (24 * p .t))
-
-abbrev pub rowsString : (List ℕ → ℕ → List ℕ) → Parameters → List ℕ → List ℕ → List ℕ
-rowsString hash p prefix rows = string7 prefix (λ j. hash (rowString p prefix rows j) 32) (p .d)
+use Rattle.axisdigests.specs.Rows.{rowsString}
+use Rattle.partyrows.specs.Row.{hiddenParty}
+use Rattle.partyrows.specs.Row.Laws.{hidden-inside, hidden-outside}
+use Rattle.axes.specs.Announcing.{announcedWith, partyFrom, rowOf}
+use Rattle.axes.specs.Announcing.Laws.{announced-with, own-announced, with-ext}
 
 -- ---- rows
 

@@ -13,7 +13,8 @@ use Rattle.parameters.specs.declared.Parameters.{Parameters}
 use Rattle.parameters.specs.Limits.{Within}
 use Rattle.exchange.specs.Layout.{shareLength}
 use Rattle.values.specs.Shares.Laws.{within-blocks, length-block}
-use Rattle.axes.specs.Asked.{RowAsked, AxesAsked}
+use Rattle.partyrows.specs.Asked.{RowAsked}
+use Rattle.axes.specs.Asked.{AxesAsked}
 
 pub blocks-fit : (p : Parameters) → Within p → (p .d + 1) * (12 * p .t) ≤ 864
 blocks-fit p w =

@@ -4,7 +4,7 @@
 use mathlib.Core.Path.{_≡_, ap, _∙_}
 use mathlib.Core.List.{List}
 use Prim.Native.Nat.{ℕ}
-use Rattle.extractor.specs.declared.Extraction.{Extraction}
+use Rattle.findings.specs.declared.Extraction.{Extraction}
 use Rattle.extractor.specs.Call as extractor
 use Rattle.capi.specs.Extract.{extractNumber, given, found, extractAfter}
 

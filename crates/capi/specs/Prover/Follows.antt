@@ -22,8 +22,8 @@ use Rattle.answers.specs.Checks.Laws.{check-true, check-rest}
 use Rattle.parameters.specs.declared.Parameters.{Parameters}
 use Rattle.parameters.specs.Limits.{withinLimits}
 use Rattle.parameters.specs.Limits.Laws.{test-within}
-use Rattle.key.specs.Key.{vectorOf}
-use Rattle.key.specs.Key.Vector.{length-vector}
+use Rattle.relation.specs.Key.{vectorOf}
+use Rattle.relation.specs.Key.Vector.{length-vector}
 use Rattle.shake256.specs.Fips.{SHAKE256}
 use Rattle.exchange.specs.Layout.{message2Length}
 use Rattle.exchange.specs.Values.{Key}
@@ -32,7 +32,7 @@ use Rattle.prover.specs.Session.{Outcome as Called, fresh, settle, isBegun, clo
 use Rattle.stored.specs.Prover.{proverSize, proverFrom}
 use Rattle.stored.specs.Prover.Laws.{ProverLengths, length-proverBytes, prover-back}
 use Rattle.capi.specs.Session.{proverNew}
-use Rattle.capi.specs.Session.Laws.{fits-so}
+use Rattle.buffer.specs.Buffer.Laws.{fits-so}
 use Rattle.capi.specs.Prover.{Outcome, proverAfter, proverCall, proverBegin, proverPoints, proverLeaf}
 use Rattle.capi.specs.Prover.Laws.{holds-within}
 

@@ -19,14 +19,14 @@ use Rattle.answers.specs.Checks.Laws.{Done≢Refused, check-true, check-rest}
 use Rattle.parameters.specs.declared.Parameters.{Parameters}
 use Rattle.parameters.specs.Limits.{withinLimits, Within}
 use Rattle.parameters.specs.Limits.Laws.{test-within}
-use Rattle.key.specs.Key.{weightOf}
+use Rattle.relation.specs.Key.{weightOf}
 use Rattle.exchange.specs.Values.{Key}
 use Rattle.prover.specs.declared.Prover.{Prover}
 use Rattle.prover.specs.Session.{Outcome as Called, settle, isFresh, isBegun, isAnswered, heldX, holds, closed, pointsDue, leafDue, begin, beginChecks, begun, points, pointsChecks, answered, leaf, leafChecks, opened}
 use Rattle.stored.specs.Parameters.{Small, within-small}
 use Rattle.stored.specs.Prover.{proverSize, proverBytes, proverFrom}
 use Rattle.capi.specs.Session.{Kept, kept, after}
-use Rattle.capi.specs.Session.Laws.{fits-not, fits-so}
+use Rattle.buffer.specs.Buffer.Laws.{fits-not, fits-so}
 use Rattle.capi.specs.Prover.{given, proverAfter, proverCall}
 
 -- ---- the parameters after a call that was carried out

@@ -32,7 +32,7 @@ use Rattle.verifier.specs.Session.{Outcome as Called, Judged as Opened, fresh, 
 use Rattle.stored.specs.Verifier.{verifierSize, verifierFrom}
 use Rattle.stored.specs.Verifier.Laws.{VerifierLengths, length-verifierBytes, verifier-back}
 use Rattle.capi.specs.Session.{Kept, verifierNew}
-use Rattle.capi.specs.Session.Laws.{fits-so}
+use Rattle.buffer.specs.Buffer.Laws.{fits-so}
 use Rattle.capi.specs.Verifier.{verifierAfter, verifierCall, verifierBegin, verifierPoints, verifierResponse, verifierLeaf, Judged, judges, openingAfter, verifierOpening}
 use Rattle.capi.specs.Verifier.Laws.{is-due, due-within, rest-done, openingLengths}
 

@@ -33,7 +33,7 @@ use Rattle.verifier.specs.Session.{Outcome as Called, Judged as Opened, settle,
 use Rattle.stored.specs.Parameters.{Small, within-small}
 use Rattle.stored.specs.Verifier.{verifierSize, verifierBytes, verifierFrom}
 use Rattle.capi.specs.Session.{Kept, kept, after, misfit}
-use Rattle.capi.specs.Session.Laws.{fits-not, fits-so}
+use Rattle.buffer.specs.Buffer.Laws.{fits-not, fits-so}
 use Rattle.capi.specs.Verifier.{verifierAfter, verifierCall, Judged, judged, judges, openingAfter, verifierOpening}
 
 -- ---- the parameters after a call that was carried out

@@ -8,7 +8,7 @@ use lib.ListN.{length}
 use Rattle.lists.specs.Zeroed.{zeroed}
 use Rattle.answers.specs.declared.Answer.the-variants.{Done}
 use Rattle.parameters.specs.declared.Parameters.{Parameters}
-use Rattle.key.specs.Key.{vectorOf}
+use Rattle.relation.specs.Key.{vectorOf}
 use Rattle.exchange.specs.Layout.{leaves, message2Length, workLength}
 use Rattle.exchange.specs.Values.{Key}
 use Rattle.exchange.specs.Messages.{message1, message3, message5}

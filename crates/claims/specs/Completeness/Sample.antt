@@ -17,7 +17,7 @@ use Rattle.bytefield.specs.Product.{reduction, xtime, timesBits, _⊗_}
 use Rattle.parameters.specs.declared.Parameters.{Parameters}
 use Rattle.parameters.specs.Limits.{Within, limits, withinLimits}
 use Rattle.parameters.specs.Limits.Laws.{test-within}
-use Rattle.key.specs.Key.{dot, rows, vectorOf, weightOf}
+use Rattle.relation.specs.Key.{dot, rows, vectorOf, weightOf}
 use Rattle.exchange.specs.Layout.{message5Length, workLength}
 use Rattle.exchange.specs.Values.{Key}
 use Rattle.prover.specs.Session.{fresh, holds, repeated}

@@ -28,16 +28,16 @@ use Rattle.answers.specs.Checks.{checks}
 use Rattle.parameters.specs.declared.Parameters.{Parameters}
 use Rattle.parameters.specs.Limits.{Within}
 use Rattle.parameters.specs.Limits.Laws.{within-test}
-use Rattle.key.specs.Key.{weightOf, vectorOf}
-use Rattle.key.specs.Key.Vector.{length-vector, bytes-vector}
+use Rattle.relation.specs.Key.{weightOf, vectorOf}
+use Rattle.relation.specs.Key.Vector.{length-vector, bytes-vector}
 use Rattle.exchange.specs.Layout.{leaves, message2Length, message5Length, workLength}
 use Rattle.exchange.specs.Layout.Laws.{leaves-pos}
 use Rattle.exchange.specs.Values.{Key}
 use Rattle.exchange.specs.Messages.{message1, message3, message5}
 use Rattle.exchange.specs.Messages.Laws.{Secret}
 use Rattle.exchange.specs.Opening.{exchange, verdict}
-use Rattle.prover.specs.declared.Phase.{Phase}
-use Rattle.prover.specs.declared.Phase.the-variants.{Begun, Answered, Closed}
+use Rattle.prover_phase.specs.declared.Phase.{Phase}
+use Rattle.prover_phase.specs.declared.Phase.the-variants.{Begun, Answered, Closed}
 use Rattle.prover.specs.declared.Prover.{Prover}
 use Rattle.prover.specs.Session as prover
 use Rattle.verifier.specs.declared.Phase.{Phase as VerifierPhase}

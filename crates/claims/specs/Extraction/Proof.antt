@@ -25,8 +25,8 @@ use Rattle.exchange.specs.Values.{Key}
 use Rattle.exchange.specs.Opening.{Exchange, exchange, auxOf, openedState, leafString, leafCommitment}
 use Rattle.exchange.specs.Opening.Laws.{accepted-when, commitment-disclosed}
 use Rattle.exchange.specs.Extractor.{axis, output, unequalAt, finding, extract}
-use Rattle.extractor.specs.declared.Extraction.{Extraction}
-use Rattle.extractor.specs.declared.Extraction.the-variants.{Refused, Unequal, Extracted}
+use Rattle.findings.specs.declared.Extraction.{Extraction}
+use Rattle.findings.specs.declared.Extraction.the-variants.{Refused, Unequal, Extracted}
 use Rattle.extractor.specs.Call.{Transcript, exchangeOf, Outcome, extractLengths, sameStatement, earlyChecks, found, second, first, early, extraction}
 use Rattle.claims.specs.Words.{Comparable, States, leafState, auxState}
 use Rattle.claims.specs.Extraction.{Extracts}

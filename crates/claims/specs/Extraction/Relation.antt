@@ -16,7 +16,7 @@ use Rattle.cube.specs.Sum.Laws.{sum-pairs, cond-ne}
 use Rattle.cube.specs.Party.{replaced}
 use Rattle.cube.specs.Opening as cube
 use Rattle.cube.specs.Opening.Laws.{totals-all, extraction}
-use Rattle.points.specs.Field.{Point}
+use Rattle.tower.specs.Field.{Point}
 use Rattle.parameters.specs.declared.Parameters.{Parameters}
 use Rattle.polynomial.specs.Interpolant.{interpolantOf}
 use Rattle.exchange.specs.Layout.{side, leaves, digit}

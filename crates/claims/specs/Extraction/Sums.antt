@@ -19,7 +19,7 @@ use Rattle.cube.specs.Sum.Laws.{sum-ext}
 use Rattle.lists.specs.Sum.{xorList}
 use Rattle.lists.specs.Sum.Laws.{length-xorList, xorList-comm, xorList-assoc, xorList-self, xorList-zeros}
 use Rattle.polynomial.specs.Bytes.{Bytes, byte-at, bytes-append, bytes-xorList}
-use Rattle.key.specs.Key.Vector.{bytes-rows}
+use Rattle.relation.specs.Key.Vector.{bytes-rows}
 use Rattle.parameters.specs.declared.Parameters.{Parameters}
 use Rattle.exchange.specs.Layout.{leaves, shareLength, atX, atQ}
 use Rattle.exchange.specs.Reading.{bytesAt}

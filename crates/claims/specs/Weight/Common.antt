@@ -25,7 +25,7 @@ use Rattle.exchange.specs.Values.{Key}
 use Rattle.exchange.specs.Opening.{Exchange, exchange, auxOf, openedState, leafString, commitmentString}
 use Rattle.exchange.specs.Opening.Laws.{commitment-disclosed}
 use Rattle.exchange.specs.Extractor.{axis, stringAt}
-use Rattle.extractor.specs.declared.Extraction.the-variants.{Extracted}
+use Rattle.findings.specs.declared.Extraction.the-variants.{Extracted}
 use Rattle.extractor.specs.Call.{exchangeOf, extraction}
 use Rattle.claims.specs.Words.{States, leafState, auxState, leafShare}
 use Rattle.claims.specs.Extraction.Strings.{SameAux, share-ext, leaf-same, commitments-same}

@@ -21,12 +21,12 @@ use Rattle.algebra.specs.Polynomial.Maps.{map-eval, map-product}
 use Rattle.algebra.specs.Weight.{support, keepNonzero, weight-bound}
 use Rattle.bytefield.specs.Product.{byteOps}
 use Rattle.bytefield.specs.Byte.{Byte, byte, byteRing, byte-path}
-use Rattle.points.specs.Point.{lone}
-use Rattle.points.specs.Field.{Point, point, point-lone, loneOf, loneField}
+use Rattle.tower.specs.Point.{lone}
+use Rattle.tower.specs.Field.{Point, point, point-lone, loneOf, loneField}
 use Rattle.polynomial.specs.Bytes.{Bytes, inField}
 use Rattle.polynomial.specs.Interpolant.{interpolationPoints, interpolantOf, vanishingOf}
 use Rattle.polynomial.specs.Interpolant.Laws.{length-ascending, points-distinct, length-interpolant, interpolant-values}
-use Rattle.key.specs.Key.{weightOf}
+use Rattle.relation.specs.Key.{weightOf}
 use Rattle.exchange.specs.Reading.{points, value, _⊞_, _⊠_, 𝟎}
 use Rattle.exchange.specs.Reading.Laws.{lone-homomorphism}
 use Rattle.claims.specs.Weight.{lowBytes}

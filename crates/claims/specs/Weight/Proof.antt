@@ -10,12 +10,12 @@ use native.Mathlib.Decide.{ℕ-discrete}
 use native.Mathlib.Omega.{arith}
 use lib.ListN.{length}
 use Rattle.algebra.specs.Each.{Each, each-map, Distinct}
-use Rattle.points.specs.Field.{Point}
+use Rattle.tower.specs.Field.{Point}
 use Rattle.parameters.specs.declared.Parameters.{Parameters}
 use Rattle.parameters.specs.Limits.{Within}
 use Rattle.polynomial.specs.Bytes.{Bytes}
 use Rattle.polynomial.specs.Interpolant.{interpolantOf}
-use Rattle.key.specs.Key.{weightOf}
+use Rattle.relation.specs.Key.{weightOf}
 use Rattle.exchange.specs.Layout.{levels, leaves, atQ, workLength, outputLength}
 use Rattle.exchange.specs.Sequences.Laws.{bytes-drop}
 use Rattle.exchange.specs.Reading.{bytesAt, value, _⊞_, _⊠_}

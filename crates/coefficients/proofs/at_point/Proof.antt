@@ -1,6 +1,6 @@
 -- The products give Lagrange's coefficients, and these the points of x_A and the constant (`folded-from`, `weighed-from`).
 use borrow.Author.Needs.{needs}
-use Rattle.points.specs.Field.{point}
+use Rattle.tower.specs.Field.{point}
 use Rattle.lagrange.specs.AtPoint.{lagrangeAt}
 use Rattle.lagrange.specs.Written.{table-encode}
 use Rattle.coefficients.specs.Loops.{folded-from, weighed-from}

@@ -4,7 +4,7 @@ use native.Mathlib.Omega.{arith}
 use mathlib.Core.Path.{refl, sym, ap, _∙_}
 use Prim.Native.Nat.{_*_}
 use lib.ListN.{length, length-take}
-use Rattle.points.specs.Field.{point}
+use Rattle.tower.specs.Field.{point}
 use Rattle.exchange.specs.Reading.{_⊠_}
 use Rattle.exchange.specs.Reading.Laws.{length-encode, length-bytesOf}
 use Rattle.lagrange.specs.AtPoint.{_^_}

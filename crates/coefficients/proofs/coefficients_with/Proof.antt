@@ -5,7 +5,7 @@ use mathlib.Core.Path.{_≡_, refl, sym, ap, _∙_}
 use mathlib.Core.List.{List, _++_}
 use Prim.Native.Nat.{ℕ, _+_, _-_, _*_, _≤_}
 use lib.ListN.{length, take, drop, length-take, length-drop}
-use Rattle.points.specs.Field.{Point}
+use Rattle.tower.specs.Field.{Point}
 use Rattle.exchange.specs.Reading.Laws.{length-encode, length-bytesOf}
 use Rattle.lagrange.specs.AtPoint.{lagrangeAt}
 use Rattle.coefficients.specs.Folded.{folded}

@@ -5,7 +5,7 @@ use mathlib.Core.Path.{_≡_, refl, _∙_}
 use Prim.Native.Nat.{_-_, _≤_}
 use lib.ListN.{length}
 use Rattle.lists.specs.Part.{putAt}
-use Rattle.points.specs.Field.{point}
+use Rattle.tower.specs.Field.{point}
 use Rattle.exchange.specs.Reading.{encode}
 use Rattle.lagrange.specs.Written.{tableAt, write-none, write-turn, write-end}
 use Rattle.coefficients.specs.Loops.{withRow, row-turn}

@@ -7,8 +7,8 @@ use mathlib.Core.List.{List, _++_, append-assoc}
 use Prim.Native.Nat.{ℕ, _+_, _-_, _*_}
 use native.Mathlib.Omega.{arith}
 use lib.ListN.{length, length-append}
-use Rattle.points.specs.Point.{fourTimes}
-use Rattle.points.specs.Field.{Point, point, bytesOf, point-bytesOf}
+use Rattle.tower.specs.Point.{fourTimes}
+use Rattle.tower.specs.Field.{Point, point, bytesOf, point-bytesOf}
 use Rattle.parameters.specs.declared.Parameters.{Parameters}
 use Rattle.parameters.specs.Limits.{Within}
 use Rattle.exchange.specs.Reading.{pointAt, encode, _⊠_}

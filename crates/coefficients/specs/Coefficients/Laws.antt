@@ -12,7 +12,7 @@ use native.Mathlib.Omega.{arith}
 use lib.ListN.{length, replicate, length-append, length-replicate}
 use Rattle.algebra.specs.Ring.{Ring2, ring}
 use Rattle.cube.specs.Sum.{sum}
-use Rattle.points.specs.Field.{Point}
+use Rattle.tower.specs.Field.{Point}
 use Rattle.parameters.specs.declared.Parameters.{Parameters}
 use Rattle.exchange.specs.Layout.{atQ}
 use Rattle.exchange.specs.Reading.{points, bytesAt, value, _⊞_, _⊠_, 𝟎}

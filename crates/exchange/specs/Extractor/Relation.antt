@@ -20,7 +20,7 @@ use Rattle.cube.specs.Sum.Laws.{cond-ne, sum-pairs}
 use Rattle.cube.specs.Party.{replaced}
 use Rattle.cube.specs.Opening as cube
 use Rattle.cube.specs.Opening.Laws.{totals-all, extraction}
-use Rattle.points.specs.Field.{Point}
+use Rattle.tower.specs.Field.{Point}
 use Rattle.parameters.specs.declared.Parameters.{Parameters}
 use Rattle.exchange.specs.Layout.{side, leaves, digit, isLast, shareLength}
 use Rattle.exchange.specs.Layout.Laws.{isLast-false}

@@ -18,10 +18,10 @@ use Rattle.cube.specs.Sum.Laws.{cond-eq, cond-ne, sum-ext, sum-pairs}
 use Rattle.cube.specs.Party.{replaced}
 use Rattle.cube.specs.Opening as cube
 use Rattle.cube.specs.Opening.Laws.{totals-all, announced-ext, verified-ext, completeness}
-use Rattle.points.specs.Field.{Point}
+use Rattle.tower.specs.Field.{Point}
 use Rattle.answers.specs.declared.Answer.the-variants.{Done}
 use Rattle.parameters.specs.declared.Parameters.{Parameters}
-use Rattle.key.specs.Key.{vectorOf}
+use Rattle.relation.specs.Key.{vectorOf}
 use Rattle.exchange.specs.Layout.{side, leaves}
 use Rattle.exchange.specs.Sequences.Laws.{joined-ext}
 use Rattle.exchange.specs.Strings.{string, string6, string7}

@@ -17,8 +17,8 @@ use Rattle.lists.specs.Sum.Laws.{length-xorList}
 use Rattle.parameters.specs.declared.Parameters.{Parameters}
 use Rattle.parameters.specs.Limits.{Within}
 use Rattle.polynomial.specs.Bytes.{Bytes, bytes-take, bytes-append, bytes-xorList}
-use Rattle.key.specs.Key.{weightOf, locatorOf, quotientOf}
-use Rattle.key.specs.Key.Polynomials.{length-locator, length-quotient, bytes-locator, bytes-quotient}
+use Rattle.relation.specs.Key.{weightOf, locatorOf, quotientOf}
+use Rattle.relation.specs.Key.Polynomials.{length-locator, length-quotient, bytes-locator, bytes-quotient}
 use Rattle.exchange.specs.Layout.{levels, leaves, isLast, auxLength, shareLength, message5Length}
 use Rattle.exchange.specs.Sequences.Laws.{bytes-drop}
 use Rattle.exchange.specs.Tree.{siblingSeeds}
@@ -75,8 +75,7 @@ module _ (hash : List ℕ → ℕ → List ℕ) (hash-length : (s : List ℕ) (n
   pub length-wanted : length (wanted hash p x salt root) ≡ auxLength p
   unfolding wanted
   length-wanted =
-      length-four (take (p .k) x) (take (p .w) (locatorOf (p .w) x)) (quotientOf (p .w) x)
-      (encode (λ l. aOf p (drawn hash p x salt root) l ⊠ bOf p (drawn hash p x salt root) l) (p .t))
+      length-four (take (p .k) x) (take (p .w) (locatorOf (p .w) x)) (quotientOf (p .w) x) _
       (length-xA p x secret) (length-Q p x secret) (length-P p x secret) (length-encode _ (p .t))
 
   pub length-aux : length (ownAux hash p x salt root) ≡ auxLength p

@@ -16,11 +16,11 @@ use lib.Seq.{getD-take, take-at, drop-at, take-all}
 use Rattle.lists.specs.Sum.{xorList}
 use Rattle.lists.specs.Sum.Laws.{take-xorList, drop-xorList, xorList-nil, xorList-comm, xorList-assoc, xorList-self, xorList-zeros}
 use Rattle.algebra.specs.Ring.{Ring2, ring, combine}
-use Rattle.points.specs.Field.{Point}
+use Rattle.tower.specs.Field.{Point}
 use Rattle.parameters.specs.declared.Parameters.{Parameters}
 use Rattle.polynomial.specs.Interpolant.{interpolantOf, vanishingOf}
-use Rattle.key.specs.Key.{rows, vectorOf, locatorOf, quotientOf}
-use Rattle.key.specs.Key.Polynomials.{locator-monic, key-relation}
+use Rattle.relation.specs.Key.{rows, vectorOf, locatorOf, quotientOf}
+use Rattle.relation.specs.Key.Polynomials.{locator-monic, key-relation}
 use Rattle.exchange.specs.Layout.{leaves, atB, atQ, atP, atC}
 use Rattle.exchange.specs.Layout.Laws.{leaves-pos}
 use Rattle.exchange.specs.Strings.{string3}

@@ -20,7 +20,7 @@ use Rattle.cube.specs.Party.{party, memberSum, disclosedSum, replaced, balanced
 use Rattle.cube.specs.Party.Laws.{party-pairs, disclosed-replaced, disclosed-all, balanced-ext, balanced-zero}
 use Rattle.cube.specs.Opening as cube
 use Rattle.cube.specs.Opening.Laws.{totals-all}
-use Rattle.points.specs.Field.{Point}
+use Rattle.tower.specs.Field.{Point}
 use Rattle.parameters.specs.declared.Parameters.{Parameters}
 use Rattle.exchange.specs.Layout.{side, leaves, digit}
 use Rattle.exchange.specs.Layout.Laws.{digit-lt}

@@ -20,7 +20,7 @@ use lib.ListN.{length, length-take, length-drop}
 use Rattle.lists.specs.Equal.{eqList}
 use Rattle.lists.specs.Equal.Laws.{eqList-true, eqList-of}
 use Rattle.lists.specs.Checks.{and-left, and-right}
-use Rattle.points.specs.Field.{Point}
+use Rattle.tower.specs.Field.{Point}
 use Rattle.answers.specs.declared.Refusal.the-variants.{Commitment, Sums, Response}
 use Rattle.answers.specs.declared.Answer.the-variants.{Done, Refused}
 use Rattle.answers.specs.Checks.{checks}

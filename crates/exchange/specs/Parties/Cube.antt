@@ -20,7 +20,7 @@ use Rattle.cube.specs.Sum.{sum}
 use Rattle.cube.specs.Party.{Partition, party, memberSum}
 use Rattle.cube.specs.Party.Laws.{party-pairs}
 use Rattle.cube.specs.Opening.{announced, formula, totals}
-use Rattle.points.specs.Field.{Point}
+use Rattle.tower.specs.Field.{Point}
 use Rattle.parameters.specs.declared.Parameters.{Parameters}
 use Rattle.exchange.specs.Layout.{side, leaves, digit, shareLength}
 use Rattle.exchange.specs.Layout.Laws.{side-pos, digit-lt}

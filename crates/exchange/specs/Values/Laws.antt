@@ -21,11 +21,11 @@ use Rattle.lists.specs.Xor.{zero-⊕, _⊕_}
 use Rattle.lists.specs.Sum.{xorList}
 use Rattle.lists.specs.Sum.Laws.{xorList-nil, xorList-comm, xorList-assoc, xorList-self, xorList-append, xorList-zeros, length-xorList}
 use Rattle.algebra.specs.Ring.{Ring2, ring}
-use Rattle.points.specs.Field.{Point}
+use Rattle.tower.specs.Field.{Point}
 use Rattle.parameters.specs.declared.Parameters.{Parameters}
 use Rattle.polynomial.specs.Interpolant.{interpolantOf}
 use Rattle.polynomial.specs.Interpolant.Laws.{length-interpolant, interpolant-xor}
-use Rattle.key.specs.Key.Vector.{length-rows, rows-xor}
+use Rattle.relation.specs.Key.Vector.{length-rows, rows-xor}
 use Rattle.exchange.specs.Layout.{atB, atX, atQ, atP, atC}
 use Rattle.exchange.specs.Reading.{points, bytesAt, value, _⊞_, _⊠_}
 use Rattle.exchange.specs.Reading.Laws.{length-bytesAt, bytesAt-xor, pointAt-xor, value-xor}

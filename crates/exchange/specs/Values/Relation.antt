@@ -8,7 +8,7 @@ use mathlib.Core.Bool.{true}
 use mathlib.Core.List.{List}
 use Prim.Native.Nat.{ℕ}
 use Rattle.algebra.specs.Ring.{Ring2, ring, combine}
-use Rattle.points.specs.Field.{Point}
+use Rattle.tower.specs.Field.{Point}
 use Rattle.parameters.specs.declared.Parameters.{Parameters}
 use Rattle.exchange.specs.Reading.{points, value, _⊞_, _⊠_, 𝟎}
 use Rattle.exchange.specs.Values.{Key, QOf, POf, F, aOf, bOf, cOf, pointOf, multiplierOf, SOf, alpha, beta, partV}

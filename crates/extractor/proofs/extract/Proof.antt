@@ -11,7 +11,7 @@ use Rattle.coefficients.specs.Coefficients.{keyOf}
 use Rattle.extractor.specs.Call.{Transcript, transcript}
 use Rattle.extractor.specs.Call.Laws.{Early, early-passed}
 use Rattle.extractor.specs.Call.Outcomes.{zeroed-twice, refused-early, refused-first, refused-second, both-accepted}
-use Rattle.extractor.specs.Found.{Found}
+use Rattle.findings.specs.Found.{Found}
 use Rattle.extractor.specs.Judged.Pair.{states-most, rows-most, openings, compared-is}
 use Rattle.extractor.proofs.extract.Statement.{statement}
 use Rattle.extractor.proofs.extract.Tie as tie

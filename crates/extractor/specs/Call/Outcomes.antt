@@ -1,10 +1,11 @@
 -- What the call gives, from what its steps answered.
 --
 -- zeroed-twice      the named length zeroed twice
+-- found-is          the call's outcome at a finding
 -- refused-early     a check before 5 failed
 -- refused-first, refused-second   an opening was refused
 -- both-accepted     the comparison's answer
-use mathlib.Core.Path.{_≡_, ap}
+use mathlib.Core.Path.{_≡_, refl, ap}
 use mathlib.Core.List.{List, _++_}
 use Prim.Native.Nat.{ℕ}
 use lib.ListN.{drop, replicate, length-replicate}
@@ -18,15 +19,21 @@ use Rattle.parameters.specs.declared.Parameters.{Parameters}
 use Rattle.exchange.specs.Layout.{workLength}
 use Rattle.exchange.specs.Values.{Key}
 use Rattle.exchange.specs.Opening.{verdict}
-use Rattle.exchange.specs.Extractor.{extract}
-use Rattle.extractor.specs.declared.Extraction.{Extraction}
-use Rattle.extractor.specs.declared.Extraction.the-variants.{Refused}
-use Rattle.extractor.specs.Call.{Transcript, exchangeOf, earlyChecks, second, first, early, extraction}
-use Rattle.extractor.specs.Found.{Found, found-is}
+use Rattle.exchange.specs.Extractor.{Finding, unequal, states, extract}
+use Rattle.findings.specs.declared.Extraction.{Extraction}
+use Rattle.findings.specs.declared.Extraction.the-variants.{Refused}
+use Rattle.extractor.specs.Call.{Transcript, exchangeOf, earlyChecks, found, second, first, early, extraction}
+use Rattle.findings.specs.Found.{answered, left, Found}
 
 pub zeroed-twice : (n : ℕ) (d : List ℕ) → zeroed n (zeroed n d) ≡ zeroed n d
 unfolding zeroed
 zeroed-twice n d = ap (_++_ (replicate n 0)) (drop-at (replicate n 0) (drop n d) n (length-replicate n 0))
+
+module _ (hash : List ℕ → ℕ → List ℕ) (p : Parameters) (t t′ : Transcript) (key : Key) (work out : List ℕ) where
+  found-is : (f : Finding) → record { answer = answered f; out = left f out; work = zeroed (workLength p) work } ≡ found hash p t t′ key work out f
+  unfolding found
+  found-is (unequal layer number) = refl
+  found-is (states axis s) = refl
 
 module _ (hash : List ℕ → ℕ → List ℕ) (p : Parameters) (t t′ : Transcript) (key : Key) (work out : List ℕ) (a : Answer)
     (ea : a ≡ earlyChecks hash p t t′ key work out) where

@@ -22,7 +22,7 @@ use Rattle.extractor.specs.Call.{Transcript, exchangeOf}
 use Rattle.extractor.specs.Call.Laws.{Early}
 use Rattle.comparison.specs.Comparison.{comparison}
 use Rattle.comparison.specs.Comparison.Laws.{Shows, comparison-is}
-use Rattle.extractor.specs.Judged.{viewOf, Judged, shows, long, viewed, Openings}
+use Rattle.extractor.specs.Judged.{viewOf, Judged, shows, viewed, Openings}
 
 pub states-most : (p : Parameters) → Within p → 32 * leaves p ≤ 8192
 states-most p h = omega (arith, leaves-most p h)
@@ -39,8 +39,8 @@ module _ (p : Parameters) (t t′ : Transcript) (key : Key) (work out : List ℕ
         let b = rows-most p (early .within) in
         record {
           salt = omega (arith, early .first .size1);
-          long5 = long p t (early .first);
-          long5′ = long p t′ (early .second);
+          size5 = early .first .size5;
+          size5′ = early .second .size5;
           views = record {
             within = early .within;
             first = viewed p t (early .first) states rows (early .below) (omega arith) (omega arith);

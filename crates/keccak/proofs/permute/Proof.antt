@@ -4,8 +4,8 @@ use Prim.Native.Nat.{ℕ, _≤_, _-_}
 use native.Mathlib.Numerals.{add-one}
 use native.Mathlib.Omega.{arith}
 use lib.ListN.{getD}
-use Rattle.keccak.specs.Tables.{roundConstants}
-use Rattle.keccak.specs.Permutation.{round, rounds, keccakF}
+use Rattle.fips.specs.Tables.{roundConstants}
+use Rattle.fips.specs.Permutation.{round, rounds, keccakF}
 use Rattle.keccak.proofs.permute.Statement.{statement}
 use Rattle.keccak.proofs.permute.Tie as tie
 

@@ -1,5 +1,5 @@
 -- The four calls compose as `round` does.
-use Rattle.keccak.specs.Permutation.{round}
+use Rattle.fips.specs.Permutation.{round}
 use borrow.Author.Needs.{needs}
 use Rattle.keccak.proofs.round.Statement.{statement}
 use Rattle.keccak.proofs.round.Tie as tie

@@ -4,7 +4,7 @@ use Prim.Native.Nat.{_-_, _≤_}
 use native.Mathlib.Omega.{arith}
 use borrow.Author.Needs.{needs}
 use lib.ListN.{length}
-use Rattle.key.specs.Key.{positions}
+use Rattle.relation.specs.Key.{positions}
 use Rattle.key.specs.Loops.Gather.{selected, Gathered, gathered-start, gathered-room, gathered-turn, gathered-end}
 use Rattle.key.proofs.gather.Statement.{statement}
 use Rattle.key.proofs.gather.Tie as tie

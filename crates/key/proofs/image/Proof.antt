@@ -9,8 +9,8 @@ use native.Mathlib.Numerals.{add-one}
 use Rattle.lists.specs.Part.Laws.{part-fits}
 use Rattle.lists.specs.Blend.{blend}
 use Rattle.lists.specs.Blend.Laws.{blend-none, blend-all}
-use Rattle.key.specs.Key.{dot, rows}
-use Rattle.key.specs.Key.Vector.{length-rows}
+use Rattle.relation.specs.Key.{dot, rows}
+use Rattle.relation.specs.Key.Vector.{length-rows}
 use Rattle.key.specs.Loops.Image.{rows-turn}
 use Rattle.key.proofs.image.Statement.{statement}
 use Rattle.key.proofs.image.Tie as tie

@@ -4,7 +4,7 @@ use Prim.Native.Nat.{_-_, _≤_, _<_}
 use native.Mathlib.Omega.{arith}
 use borrow.Author.Needs.{needs}
 use lib.ListN.{length, length-set}
-use Rattle.key.specs.Key.{locatorOf}
+use Rattle.relation.specs.Key.{locatorOf}
 use Rattle.key.specs.Loops.Locator.{Located, located-start, located-turn, located-positive, located-end, atIf-le}
 use Rattle.key.proofs.locator.Statement.{statement}
 use Rattle.key.proofs.locator.Tie as tie

@@ -5,7 +5,7 @@ use native.Mathlib.Omega.{arith}
 use borrow.Author.Needs.{needs}
 use lib.ListN.{length, drop}
 use Rattle.lists.specs.Xor.{_⊕_}
-use Rattle.key.specs.Key.{dot}
+use Rattle.relation.specs.Key.{dot}
 use Rattle.key.specs.Loops.Image.{dot-start, dot-turn, dot-end}
 use Rattle.key.proofs.row.Statement.{statement}
 use Rattle.key.proofs.row.Tie as tie

@@ -4,8 +4,8 @@ use mathlib.Core.Logic.{⊎-elim}
 use Prim.Native.Nat.{_+_, _-_, _≤_}
 use native.Mathlib.Omega.{arith}
 use lib.ListN.{length, drop}
-use Rattle.key.specs.Key.{weightOf}
-use Rattle.key.specs.Key.Positions.{weight-le}
+use Rattle.relation.specs.Key.{weightOf}
+use Rattle.relation.specs.Key.Positions.{weight-le}
 use Rattle.key.specs.Loops.Weight.{weight-zero, weight-other, weight-end}
 use Rattle.key.proofs.weight.Statement.{statement}
 use Rattle.key.proofs.weight.Tie as tie

@@ -16,7 +16,7 @@ use native.Mathlib.Omega.{arith}
 use lib.ListN.{length, take, drop, getD, set, length-append, drop-of-length-le}
 use lib.Seq.{drop-cons, take-all, take-suc-set, length-take-le, append-snoc}
 use Rattle.algebra.specs.Marks.{pick, leave}
-use Rattle.key.specs.Key.{weightOf, positions}
+use Rattle.relation.specs.Key.{weightOf, positions}
 use Rattle.key.specs.Loops.Positions.{chosen, spared, marksFrom, marks-start, marks-step, marks-end}
 
 unfoldable pub wanted : Bool → Bool → Bool

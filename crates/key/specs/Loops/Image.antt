@@ -15,8 +15,8 @@ use Rattle.lists.specs.Xor.{_⊕_, ⊕-assoc, ⊕-zero, zero-⊕}
 use Rattle.lists.specs.Blend.{blend}
 use Rattle.lists.specs.Blend.Laws.{blend-up}
 use Rattle.bytefield.specs.Product.{_⊗_}
-use Rattle.key.specs.Key.{dot, rows}
-use Rattle.key.specs.Key.Vector.{length-rows}
+use Rattle.relation.specs.Key.{dot, rows}
+use Rattle.relation.specs.Key.Vector.{length-rows}
 
 dot-nil : (hs xs : List ℕ) → length xs ≤ 0 → dot hs xs ≡ 0
 unfolding dot

@@ -16,8 +16,8 @@ use Rattle.algebra.specs.Polynomial.{expand, product}
 use Rattle.bytefield.specs.Product.{byteOps}
 use Rattle.polynomial.specs.Interpolant.{ascending}
 use Rattle.polynomial.specs.Loops.Roots.{roots-start, roots-turn}
-use Rattle.key.specs.Key.{weightOf, filled, positions, locatorOf}
-use Rattle.key.specs.Key.Positions.{marked-positions}
+use Rattle.relation.specs.Key.{weightOf, filled, positions, locatorOf}
+use Rattle.relation.specs.Key.Positions.{marked-positions}
 use Rattle.key.specs.Loops.Positions.{chosen, spared, marksFrom, pointsFrom, marks-start, marks-step, points-step, marks-end}
 
 -- ---- one factor

@@ -20,7 +20,7 @@ use lib.Seq.{drop-cons}
 use lib.Dec.{ltb}
 use borrow.Author.Tests.{lt-ltb}
 use Rattle.polynomial.specs.Interpolant.{ascending}
-use Rattle.key.specs.Key.{weightOf, filled, positions}
+use Rattle.relation.specs.Key.{weightOf, filled, positions}
 
 unfoldable pub chosen : ℕ → ℕ → Bool
 chosen (suc a) k = true

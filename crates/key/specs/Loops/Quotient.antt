@@ -29,9 +29,9 @@ use Rattle.bytefield.specs.Product.Laws.{⊗-assoc, ⊗-lt, one-⊗, ⊗-one, z
 use Rattle.bytefield.specs.Powers.{power, power-lt, power-add, power-mod}
 use Rattle.bytefield.specs.Inverse.{inverse}
 use Rattle.polynomial.specs.Bytes.{Bytes}
-use Rattle.key.specs.Key.{weightOf, positions, quotientOf}
-use Rattle.key.specs.Key.Positions.{length-positions, marked-positions}
-use Rattle.key.specs.Key.Polynomials.{inside, outside, apart, length-inside, quotient-ratios}
+use Rattle.relation.specs.Key.{weightOf, positions, quotientOf}
+use Rattle.relation.specs.Key.Positions.{length-positions, marked-positions}
+use Rattle.relation.specs.Key.Polynomials.{inside, outside, apart, length-inside, quotient-ratios}
 use Rattle.key.specs.Loops.Gather.{selected}
 
 -- ---- the distances of a point

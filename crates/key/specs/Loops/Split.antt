@@ -14,8 +14,8 @@ use Rattle.lists.specs.Part.Laws.{tail-part, tail-back}
 use Rattle.algebra.specs.Marks.{pick, leave}
 use Rattle.polynomial.specs.Interpolant.{interpolationPoints}
 use Rattle.polynomial.specs.Loops.Points.{points-front, length-front}
-use Rattle.key.specs.Key.{weightOf, positions}
-use Rattle.key.specs.Key.Polynomials.{inside, outside, length-inside, length-outside}
+use Rattle.relation.specs.Key.{weightOf, positions}
+use Rattle.relation.specs.Key.Polynomials.{inside, outside, length-inside, length-outside}
 use Rattle.key.specs.Loops.Gather.{selected}
 
 module _ (w : ℕ) (x l : List ℕ) (light : weightOf x ≤ w) (fits : w ≤ length x) (short : length x < 256) (e : l ≡ interpolationPoints 255) where

@@ -11,7 +11,7 @@ use lib.Seq.{take-append-seam, drop-append-seam}
 use Rattle.lists.specs.Part.{putAt}
 use Rattle.lists.specs.Part.Laws.{tail-part, tail-back}
 use Rattle.lists.specs.Sum.{xorList}
-use Rattle.key.specs.Key.{rows, vectorOf}
+use Rattle.relation.specs.Key.{rows, vectorOf}
 
 pub vector-fits : (p xa y : List ℕ) (n : ℕ) → length p ≡ length xa + length y → length y * length xa ≤ n
     → length (take (length p - length xa) (drop (length xa) p)) * length xa ≤ n

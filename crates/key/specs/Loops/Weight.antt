@@ -9,7 +9,7 @@ use native.Mathlib.Numerals.{add-one}
 use native.Mathlib.Omega.{arith}
 use lib.ListN.{length, drop, getD, drop-of-length-le}
 use lib.Seq.{drop-cons}
-use Rattle.key.specs.Key.{weightOf}
+use Rattle.relation.specs.Key.{weightOf}
 
 weight-cons-zero : (a : ℕ) (x : List ℕ) → a ≡ 0 → weightOf (a ∷ x) ≡ weightOf x
 unfolding weightOf

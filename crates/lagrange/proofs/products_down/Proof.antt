@@ -4,7 +4,7 @@ use mathlib.Core.Path.{_≡_, refl, ap, _∙_}
 use mathlib.Core.List.{List}
 use Prim.Native.Nat.{ℕ, _*_, _-_, _≤_}
 use lib.ListN.{length, getD}
-use Rattle.points.specs.Field.{point, bytesOf}
+use Rattle.tower.specs.Field.{point, bytesOf}
 use Rattle.exchange.specs.Reading.{encode}
 use Rattle.exchange.specs.Reading.Laws.{length-encode}
 use Rattle.lagrange.specs.AtPoint.{upTo, downFrom}

@@ -4,7 +4,7 @@ use mathlib.Core.Path.{_≡_, refl, ap, _∙_}
 use Prim.Native.Nat.{ℕ, _-_, _≤_}
 use lib.ListN.{length}
 use Rattle.lists.specs.Part.{putAt}
-use Rattle.points.specs.Field.{point, bytesOf}
+use Rattle.tower.specs.Field.{point, bytesOf}
 use Rattle.exchange.specs.Reading.{encode}
 use Rattle.lagrange.specs.AtPoint.{upTo}
 use Rattle.lagrange.specs.Written.{write-none, write-turn, write-end}

@@ -2,9 +2,9 @@
 use borrow.Author.Needs.{needs}
 use native.Mathlib.Omega.{arith}
 use mathlib.Core.Path.{_≡_, ap, _∙_}
-use Rattle.points.specs.Field.{Point, point, bytesOf, point-bytesOf}
+use Rattle.tower.specs.Field.{Point, point, bytesOf, point-bytesOf}
 use Prim.Native.Nat.{ℕ, _+_}
-use Rattle.points.specs.Point.{lone}
+use Rattle.tower.specs.Point.{lone}
 use Rattle.exchange.specs.Reading.{_⊞_, _⊠_}
 use Rattle.lagrange.specs.AtPoint.{scalar}
 use Rattle.lagrange.specs.Written.{sum-bytes, lone-bytes, times-point}

@@ -4,7 +4,7 @@ use native.Mathlib.Omega.{arith}
 use mathlib.Core.Path.{_≡_, ap, _∙_}
 use Prim.Native.Nat.{ℕ, _-_, _≤_}
 use lib.ListN.{length}
-use Rattle.points.specs.Field.{bytesOf}
+use Rattle.tower.specs.Field.{bytesOf}
 use Rattle.lagrange.specs.AtPoint.{weighed}
 use Rattle.lagrange.specs.Written.{tableAt}
 use Rattle.lagrange.specs.Loops.{weighed-none, weighed-turn}

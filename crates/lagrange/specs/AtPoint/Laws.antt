@@ -23,7 +23,7 @@ use Rattle.bytefield.specs.Product.Laws.{bytefield, one-⊗}
 use Rattle.bytefield.specs.Inverse.{squares, inverse}
 use Rattle.bytefield.specs.Inverse.Laws.{⊗-inverse, inverse-lt}
 use Rattle.bytefield.specs.Byte.{byte, byteInverse, byte-inverse}
-use Rattle.points.specs.Field.{Point, point, point-lone, loneOf}
+use Rattle.tower.specs.Field.{Point, point, point-lone, loneOf}
 use Rattle.polynomial.specs.Interpolant.{ascending, interpolantOf, vanishingOf}
 use Rattle.exchange.specs.Reading.{points, value, _⊞_, _⊠_}
 use Rattle.exchange.specs.Reading.Laws.{lone-homomorphism}

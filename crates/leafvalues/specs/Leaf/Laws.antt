@@ -15,12 +15,12 @@ use lib.ListN.{length, take, drop, length-append, length-take, length-drop}
 use lib.Seq.{take-at}
 use Rattle.lists.specs.Part.{part, putAt}
 use Rattle.lists.specs.Part.Laws.{tail-back}
-use Rattle.points.specs.Point.{fourSum, fourTimes}
-use Rattle.points.specs.Value.{valueAt}
-use Rattle.points.specs.Field.{Point, point, bytesOf, point-bytesOf, point-value}
+use Rattle.tower.specs.Point.{fourSum, fourTimes}
+use Rattle.tower.specs.Value.{valueAt}
+use Rattle.tower.specs.Field.{Point, point, bytesOf, point-bytesOf, point-value}
 use Rattle.parameters.specs.declared.Parameters.{Parameters}
 use Rattle.polynomial.specs.Interpolant.{interpolantOf}
-use Rattle.key.specs.Key.{rows}
+use Rattle.relation.specs.Key.{rows}
 use Rattle.exchange.specs.Layout.{atQ}
 use Rattle.exchange.specs.Reading.{points, bytesAt, pointAt, encode, value, _⊞_, _⊠_}
 use Rattle.exchange.specs.Reading.Laws.{bytesAt-part, length-bytesAt, length-encode, encode-ext}

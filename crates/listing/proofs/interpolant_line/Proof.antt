@@ -1,7 +1,7 @@
 -- The line of what was made in the lent slice.
 use native.Mathlib.Omega.{arith}
 use borrow.Author.Needs.{needs}
-use Rattle.listing.specs.Listing.{sWord}
+use Rattle.keylisting.specs.Listing.{sWord}
 use Rattle.listing.proofs.interpolant_line.Statement.{statement}
 use Rattle.listing.proofs.interpolant_line.Tie as tie
 

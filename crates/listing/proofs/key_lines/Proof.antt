@@ -4,8 +4,8 @@ use Prim.Native.Nat.{_-_}
 use lib.ListN.{length}
 use native.Mathlib.Omega.{arith}
 use borrow.Author.Needs.{needs}
-use Rattle.listing.specs.Listing.{vectorWord}
-use Rattle.listing.specs.Listing.Laws.{key-written}
+use Rattle.keylisting.specs.Listing.{vectorWord}
+use Rattle.keylisting.specs.Listing.Laws.{key-written}
 use Rattle.listing.proofs.key_lines.Statement.{statement}
 use Rattle.listing.proofs.key_lines.Tie as tie
 

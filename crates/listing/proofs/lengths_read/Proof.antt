@@ -3,8 +3,8 @@ use mathlib.Core.Path.{sym, _∙_}
 use native.Mathlib.Omega.{arith}
 use borrow.Author.Needs.{needs}
 use borrow.Author.Tests.{not-true, not-false}
-use Rattle.listing.specs.Finish.{lengthsRead}
-use Rattle.listing.specs.Finish.Laws.{size-most}
+use Rattle.keylisting.specs.Finish.{lengthsRead}
+use Rattle.keylisting.specs.Finish.Laws.{size-most}
 use Rattle.listing.proofs.lengths_read.Statement.{statement}
 use Rattle.listing.proofs.lengths_read.Tie as tie
 

@@ -7,7 +7,7 @@ use Rattle.lists.specs.Part.{putAt}
 use Rattle.text.specs.Fold.{fold}
 use Rattle.keytext.specs.declared.KeyScan.{KeyScan}
 use Rattle.keytext.specs.Scan.{held, step}
-use Rattle.listing.specs.Finish.Laws.{finished, finish-listing, room}
+use Rattle.keylisting.specs.Finish.Laws.{finished, finish-listing, room}
 use Rattle.listing.proofs.listing.Statement.{statement}
 use Rattle.listing.proofs.listing.Tie as tie
 

@@ -1,7 +1,7 @@
 -- The parts of the line, one behind the other (`refused-written`).
 use native.Mathlib.Omega.{arith}
 use borrow.Author.Needs.{needs}
-use Rattle.listing.specs.Listing.Laws.{refused-written, refused-end}
+use Rattle.keylisting.specs.Listing.Laws.{refused-written, refused-end}
 use Rattle.listing.proofs.refused.Statement.{statement}
 use Rattle.listing.proofs.refused.Tie as tie
 

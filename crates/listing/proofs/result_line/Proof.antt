@@ -1,6 +1,6 @@
 -- The parts of the line, one behind the other (`line-written`).
 use borrow.Author.Needs.{needs}
-use Rattle.listing.specs.Listing.Laws.{line-written}
+use Rattle.keylisting.specs.Listing.Laws.{line-written}
 use Rattle.listing.proofs.result_line.Statement.{statement}
 use Rattle.listing.proofs.result_line.Tie as tie
 

@@ -1,7 +1,7 @@
 -- The line of what was made in the lent slice.
 use native.Mathlib.Omega.{arith}
 use borrow.Author.Needs.{needs}
-use Rattle.listing.specs.Listing.{fWord}
+use Rattle.keylisting.specs.Listing.{fWord}
 use Rattle.listing.proofs.vanishing_line.Statement.{statement}
 use Rattle.listing.proofs.vanishing_line.Tie as tie
 

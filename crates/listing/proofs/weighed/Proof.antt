@@ -3,7 +3,7 @@ use mathlib.Core.Path.{sym, _∙_}
 use native.Mathlib.Omega.{arith}
 use borrow.Author.Needs.{needs}
 use borrow.Author.Tests.{leb-true, not-true, not-false}
-use Rattle.listing.specs.Finish.Laws.{weighed-light, weighed-heavy}
+use Rattle.keylisting.specs.Finish.Laws.{weighed-light, weighed-heavy}
 use Rattle.listing.proofs.weighed.Statement.{statement}
 use Rattle.listing.proofs.weighed.Tie as tie
 

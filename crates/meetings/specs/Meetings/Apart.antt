@@ -19,9 +19,10 @@ use Rattle.lists.specs.Equal.Laws.{eqList-true, eqList-false}
 use Rattle.exchange.specs.Layout.{leaves}
 use Rattle.exchange.specs.Opening.{Exchange}
 use Rattle.exchange.specs.Extractor.{stringAt}
+use Rattle.extractor.specs.Call.{exchangeOf}
 use Rattle.claims.specs.Weight.{In, here, later, openings, Hashed, at7, at6, at5, at4, Free}
-use Rattle.trial.specs.StandIn.{standIn}
-use Rattle.trial.specs.Definitions.{definitions}
+use Rattle.standin.specs.StandIn.{standIn}
+use Rattle.standin.specs.Definitions.{definitions}
 use Rattle.meetings.specs.Meetings.{p, key, transcript, pair, pairs}
 
 every : {A : Type 0} → (A → Bool) → List A → Bool
@@ -58,7 +59,7 @@ separated : List (List (List ℕ × List ℕ)) → Bool
 separated rows = every (λ s. every (apart s) rows) rows
 
 free-test : separated (rowsOf (openings pairs)) ≡ true
-unfolding every apart separated rowsOf row string openings pairs pair transcript definitions
+unfolding every apart separated rowsOf row string openings pairs pair transcript exchangeOf definitions
 free-test = refl
 
 in-rows : {e : Exchange} {es : List Exchange} → In e es → In (row e) (rowsOf es)

@@ -11,15 +11,15 @@ use lib.Dec.{lit<}
 use lib.ListN.{length}
 use Rattle.algebra.specs.Each.{Distinct}
 use Rattle.bytefield.specs.Byte.{byte}
-use Rattle.points.specs.Point.{lone}
-use Rattle.points.specs.Field.{Point, point}
+use Rattle.tower.specs.Point.{lone}
+use Rattle.tower.specs.Field.{Point, point}
 use Rattle.exchange.specs.Layout.{workLength, outputLength}
 use Rattle.exchange.specs.Reading.{bytesAt, pointAt}
 use Rattle.exchange.specs.Values.{pointOf, multiplierOf}
 use Rattle.exchange.specs.Messages.Laws.{bytes-message5}
 use Rattle.claims.specs.Weight.{InBytes, In, here, later, Meets, MeetsTwice, Meeting, OneLightX}
 use Rattle.claims.specs.Weight.Proof.{weight-claim}
-use Rattle.trial.specs.StandIn.{standIn}
+use Rattle.standin.specs.StandIn.{standIn}
 use Rattle.meetings.specs.StandIn.{length-standIn, bytes-standIn}
 use Rattle.meetings.specs.Meetings.{p, key, x, salt, root, m1, message2, transcript, pair, pairs, within, secret}
 use Rattle.meetings.specs.Meetings.Accepted.{all-under}

@@ -29,7 +29,7 @@ use Rattle.lagrange.specs.Written.{front-kept, middle-kept}
 use Rattle.coefficients.specs.Coefficients.{keyOf}
 use Rattle.leafvalues.specs.Leaf.{leafValues}
 use Rattle.leafvalues.specs.Leaf.Laws.{leafValues-any}
-use Rattle.leaves.specs.States.Seeds.{levels-is}
+use Rattle.leafstates.specs.States.Seeds.{levels-is}
 use Rattle.messages.specs.Opening.{leafBytes, openingOf}
 
 pub opening-any : (p : Parameters) (x salt root : List ℕ) (key : Key) (m2 : List ℕ) (leaf : ℕ) (state aux : List ℕ)

@@ -1,16 +1,125 @@
--- What is recomputed and compared is the check of the opening (`checked-made`).
+-- The parts of message 5 are read into the fronts of local arrays, aux is lent on, and what is recomputed from them and compared is the check of the opening (`checked-made`).
+use mathlib.Core.Path.{_≡_, refl, sym, ap, _∙_}
+use mathlib.Core.List.{List}
+use Prim.Native.Nat.{ℕ, _-_, _*_, _≤_}
+use native.Mathlib.Omega.{arith}
 use borrow.Author.Needs.{needs}
+use lib.ListN.{length, take, drop}
+use Rattle.lists.specs.Part.{putAt}
+use Rattle.lists.specs.Part.Laws.{tail-part}
+use Rattle.exchange.specs.Layout.{levels, auxLength}
+use Rattle.reader.specs.Message5.{auxPlace, siblingsIn, valuesIn, auxIn}
+use Rattle.reader.specs.Message5.Laws.{siblings-end, aux-inside, length-siblingsIn, length-valuesIn, aux-short}
+use Rattle.reader.specs.Opening.Laws.{room-asked, siblings-front, values-front, rest-inside, rest-is}
 use Rattle.openings.specs.Checked.Laws.{checked-made}
 use Rattle.openings.proofs.check_opening.Statement.{statement}
 use Rattle.openings.proofs.check_opening.Tie as tie
 
+module _ (start : tie.Start) where
+  seeds-length : (w : List ℕ) {w′ : List ℕ} → w′ ≡ putAt w 0 (siblingsIn (start .args .p) (start .args .m5 .now)) → length (take (16 * start .args .p .d) w′) ≡ 16 * levels (start .args .p)
+  seeds-length w e =
+      ap length (siblings-front (start .args .p) (start .args .leaf) (start .args .m5 .now) (start .pre .message5) w e)
+      ∙ length-siblingsIn (start .args .p) (start .args .leaf) (start .args .m5 .now) (start .pre .message5)
+
+  points-length : (w : List ℕ) {w′ : List ℕ} → w′ ≡ putAt w 0 (valuesIn (start .args .p) (start .args .m5 .now)) → length (take (8 * start .args .p .t) w′) ≡ 8 * start .args .p .t
+  points-length w e =
+      ap length (values-front (start .args .p) (start .args .leaf) (start .args .m5 .now) (start .pre .message5) w e)
+      ∙ length-valuesIn (start .args .p) (start .args .leaf) (start .args .m5 .now) (start .pre .message5)
+
+  short : length (auxIn (start .args .p) (start .args .m5 .now)) ≤ auxLength (start .args .p)
+  short = aux-short (start .args .p) (start .args .leaf) (start .args .m5 .now) (start .pre .message5)
+
+  inside : auxPlace (start .args .p) ≤ length (start .args .m5 .now)
+  inside = aux-inside (start .args .p) (start .args .leaf) (start .args .m5 .now) (start .pre .message5)
+
+  -- aux is lent on
+  aux-lent : {n : ℕ} → n ≡ length (auxIn (start .args .p) (start .args .m5 .now))
+      → take (length (start .args .m5 .now) - (length (start .args .m5 .now) - n)) (drop (length (start .args .m5 .now) - n) (start .args .m5 .now)) ≡ auxIn (start .args .p) (start .args .m5 .now)
+  aux-lent {n} e = tail-part (start .args .m5 .now) (length (start .args .m5 .now) - n) ∙ rest-is (start .args .p) (start .args .m5 .now) inside e
+
+read-opening-requires : tie.Need-read-opening-requires
+read-opening-requires c κs =
+    let start = c .before .before .before .before .before .before .before .before .before .before .before .before in
+    room-asked (start .args .p) (start .pre .within) (start .args .m5 .now) _ _ _ (inside start) refl refl refl
+
+sub-aux : tie.Need-sub-aux
+sub-aux c =
+    let read = c .before .before .before .before .before in
+    let start = read .before .before .before .before .before .before .before .before .before .before .before .before .before in
+    rest-inside (start .args .p) (start .args .m5 .now) (inside start) (read .read-opening .ensures .0)
+
+slice-aggregate-check-parts : tie.Need-slice-aggregate-check-parts
+slice-aggregate-check-parts c =
+    let read = c .before .before .before .before .before .before in
+    let start = read .before .before .before .before .before .before .before .before .before .before .before .before .before in
+    sym (seeds-length start _ (read .read-opening .ensures .1 .0) ∙ siblings-end (start .args .p))
+
+slice-aggregate-check-parts-3 : tie.Need-slice-aggregate-check-parts-3
+slice-aggregate-check-parts-3 c =
+    let read = c .before .before .before .before .before .before .before .before in
+    sym (points-length (read .before .before .before .before .before .before .before .before .before .before .before .before .before) _ (read .read-opening .ensures .1 .1 .1))
+
+check-parts-requires : tie.Need-check-parts-requires
+check-parts-requires c κs =
+    let read = c .before .before .before .before .before .before .before .before .before .before .before .before in
+    let start = read .before .before .before .before .before .before .before .before .before .before .before .before .before in
+    let pre = start .pre in
+    let said = read .read-opening .ensures in
+    record {
+      sized-m1 = pre .message1;
+      below = pre .below;
+      sized-siblings = seeds-length start _ (said .1 .0);
+      axes = record {
+        announce = record {
+          within = pre .within;
+          sized-m2 = pre .message2;
+          sized-values = points-length start _ (said .1 .1 .1);
+          sized-matrix = pre .matrix-is;
+          sized-y = pre .y-is;
+          sized-area = pre .area-is;
+          sized-rows = pre .rows-are;
+        };
+        sized-aux = omega (arith, ap length (aux-lent start (said .0)), short start);
+        sized-states = pre .states-are;
+      };
+    }
+
 returns : tie.Need-returns
 returns c =
-    let made = c .before .before .before .before .before .before .before .before .before in
-    let pre = made .before .before .before .before .before .before .before .before .before .before .before .before .before .pre in
-    checked-made (pre .within) (pre .below) (pre .message5) (made .recompute .ensures) (c .judge .ensures)
+    let checked = c .before .before .before .before .before .before in
+    let read = checked .before .before .before .before .before .before .before .before .before .before .before .before .before in
+    let start = read .before .before .before .before .before .before .before .before .before .before .before .before .before in
+    let args = start .args in
+    let pre = start .pre in
+    let said = read .read-opening .ensures in
+    checked-made (pre .within) (pre .below) (pre .message5)
+    (siblings-front (args .p) (args .leaf) (args .m5 .now) (pre .message5) _ (said .1 .0))
+    (said .1 .1 .0)
+    (values-front (args .p) (args .leaf) (args .m5 .now) (pre .message5) _ (said .1 .1 .1))
+    (aux-lent start (said .0))
+    (checked .check-parts .ensures)
 
 pub check-opening-spec : {M : Type 1} → statement M
 check-opening-spec =
     tie.close
-    (tie.spec (λ c κs. search needs) (λ c κs. search needs) (λ c. search needs) (λ c. search needs) (λ c. search needs) returns)
+    (tie.spec
+    (λ c. search needs)
+    (λ c. search needs)
+    (λ c. search needs)
+    read-opening-requires
+    (λ c. search needs)
+    (λ c. search needs)
+    sub-aux
+    (λ c. search needs)
+    slice-aggregate-check-parts
+    (λ c. search needs)
+    (λ c. search needs)
+    slice-aggregate-check-parts-3
+    (λ c. search needs)
+    (λ c. search needs)
+    (λ c. search needs)
+    check-parts-requires
+    (λ c. search needs)
+    (λ c. search needs)
+    (λ c. search needs)
+    returns)

@@ -10,7 +10,7 @@ use Rattle.openings.proofs.judge.Tie as tie
 
 slice-aggregate-response-agrees : tie.Need-slice-aggregate-response-agrees
 slice-aggregate-response-agrees c =
-    let start = c .before .before .before .before .before .before .before .before in
+    let start = c .before .before .before .before .before .before .before .before .before in
     sym (length-take-le 32 (start .args .m1 .now) (omega (arith, start .pre .commitment .sized-m1)))
 
 returns : tie.Need-returns

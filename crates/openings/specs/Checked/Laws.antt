@@ -1,6 +1,6 @@
 -- What was recomputed and compared is the check of the opening, and what the lists that it leaves hold.
 --
--- checked-made     the answer on what was recomputed is the verdict
+-- checked-made     the answer on what was recomputed from the parts of message 5 is the verdict
 -- checked-state    the state of a disclosed leaf
 -- checked-row      behind an axis's number, layer 6's string has the axis's row
 use mathlib.Core.Path.{_≡_, sym, ap, ap₂, _∙_}
@@ -17,28 +17,33 @@ use Rattle.exchange.specs.Strings.{string}
 use Rattle.exchange.specs.Values.{Key}
 use Rattle.exchange.specs.Parties.{axisString}
 use Rattle.exchange.specs.Opening.{exchange, openedState, announced}
-use Rattle.openings.specs.From.{rowsFrom, judged}
+use Rattle.reader.specs.Message5.{siblingsIn, commitmentIn, valuesIn, auxIn}
+use Rattle.openings.specs.From.{statesFrom, rowsFrom, judged}
 use Rattle.openings.specs.Opened.{openedStates, openedRows}
 use Rattle.openings.specs.Opened.Laws.{opened-state, row-opened, row-string}
 use Rattle.openings.specs.Opened.Made.{made-states, made-rows, verdict-made}
-use Rattle.openings.specs.Checked.{Recomputed, Checked}
+use Rattle.openings.specs.Checked.{PartsChecked, Checked}
 
-module _ {p : Parameters} {m1 m2 m3 : List ℕ} {leaf : ℕ} {m5 : List ℕ} {key : Key} {r : Answer} {area states rows : List ℕ} where
-  pub checked-made : Within p → leaf < leaves p → length m5 ≡ message5Length p leaf → Recomputed p m1 m2 leaf m5 key area states rows
-      → r ≡ judged p m1 m3 leaf m5 states rows → Checked p m1 m2 m3 leaf m5 key r area states rows
-  checked-made within below long made answer = record {
-    answer = answer ∙ ap₂ (judged p m1 m3 leaf m5) states-are rows-are ∙ verdict-made p m1 m2 m3 leaf m5 within below long key;
-    zeros = made .zeros;
+module _ {p : Parameters} {m1 m2 m3 : List ℕ} {leaf : ℕ} {m5 siblings commitment values aux : List ℕ} {key : Key} {r : Answer} {area states rows : List ℕ} where
+  pub checked-made : Within p → leaf < leaves p → length m5 ≡ message5Length p leaf
+      → siblings ≡ siblingsIn p m5 → commitment ≡ commitmentIn p m5 → values ≡ valuesIn p m5 → aux ≡ auxIn p m5
+      → PartsChecked p m1 m2 m3 leaf siblings commitment values aux key r area states rows → Checked p m1 m2 m3 leaf m5 key r area states rows
+  checked-made within below long of-siblings of-commitment of-values of-aux checked = record {
+    answer =
+        checked .answer ∙ ap₂ (λ (c a : List ℕ). judged p m1 m3 leaf c a states rows) of-commitment of-aux
+        ∙ ap₂ (judged p m1 m3 leaf (commitmentIn p m5) (auxIn p m5)) states-are rows-are ∙ verdict-made p m1 m2 m3 leaf m5 within below long key;
+    zeros = checked .made .zeros;
     states-are = states-are;
     rows-are = rows-are;
   }
     where
       states-are : states ≡ openedStates p (exchange m1 m2 m3 leaf m5)
-      states-are = made .states-are ∙ made-states p m1 m2 m3 leaf m5
+      states-are = checked .made .states-are ∙ ap (statesFrom p (take 32 m1) leaf) of-siblings ∙ made-states p m1 m2 m3 leaf m5
 
       rows-are : rows ≡ openedRows p (exchange m1 m2 m3 leaf m5) key
       rows-are =
-          made .rows-are ∙ ap (λ (st : List ℕ). rowsFrom p key (take 32 m1) m2 st leaf m5) states-are
+          checked .made .rows-are ∙ ap₂ (rowsFrom p key (take 32 m1) m2 states leaf) of-values of-aux
+          ∙ ap (λ (st : List ℕ). rowsFrom p key (take 32 m1) m2 st leaf (valuesIn p m5) (auxIn p m5)) states-are
           ∙ made-rows p m1 m2 m3 leaf m5 within below long key
 
 module _ {p : Parameters} {m1 m2 m3 : List ℕ} {leaf : ℕ} {m5 : List ℕ} {key : Key} {r : Answer} {area states rows : List ℕ}

@@ -33,13 +33,13 @@ use Rattle.exchange.specs.Parties.Laws.{total-ext}
 use Rattle.exchange.specs.Opening.{Exchange, exchange, pathOf, commitmentOf, auxOf, openedState, openedShare, disclosed, commitmentString, responseString, verdict}
 use Rattle.exchange.specs.Opening.Laws.{verdict-is}
 use Rattle.leaves.specs.States.{stateAt}
-use Rattle.leaves.specs.Commitments.Laws.{commitments-string}
+use Rattle.commitments.specs.Commitments.Laws.{commitments-string}
 use Rattle.parties.specs.Totals.{disclosedOf}
 use Rattle.parties.specs.Sums.Front.{Known, filled, part-front, front-first, front-second}
 use Rattle.axes.specs.Announcing.{partyFrom, rowOf}
 use Rattle.axes.specs.Announcing.Strings.{opened-row}
-use Rattle.openings.specs.Message5.{siblingsIn, commitmentIn, valuesIn, auxIn}
-use Rattle.openings.specs.Message5.Laws.{aux-short, no-aux}
+use Rattle.reader.specs.Message5.{siblingsIn, commitmentIn, valuesIn, auxIn}
+use Rattle.reader.specs.Message5.Laws.{aux-short, no-aux}
 use Rattle.openings.specs.From.{statesFrom, digestFrom, announcedFrom, rowsFrom, responseFrom, judged}
 use Rattle.openings.specs.Opened.{openedStates, openedRow, openedRows}
 use Rattle.openings.specs.Opened.Laws.{opened-state, rows-string}
@@ -62,7 +62,7 @@ module _ (p : Parameters) (m1 m2 m3 : List ℕ) (leaf : ℕ) (m5 : List ℕ) whe
     unfolding exchange
     state-is = opened-state p e below long
 
-    pub made-commitment : digestFrom p (take 32 m1) leaf m5 (openedStates p (exchange m1 m2 m3 leaf m5)) 32 ≡ SHAKE256 (commitmentString SHAKE256 p (exchange m1 m2 m3 leaf m5)) 32
+    pub made-commitment : digestFrom p (take 32 m1) leaf (commitmentIn p m5) (auxIn p m5) (openedStates p (exchange m1 m2 m3 leaf m5)) 32 ≡ SHAKE256 (commitmentString SHAKE256 p (exchange m1 m2 m3 leaf m5)) 32
     unfolding digestFrom exchange commitmentIn commitmentOf part auxIn auxOf
     made-commitment = ap (λ (s : List ℕ). SHAKE256 s 32) (commitments-string p e (openedStates p e) (commitmentIn p m5) (auxIn p m5) state-is refl refl)
 
@@ -98,7 +98,7 @@ module _ (p : Parameters) (m1 m2 m3 : List ℕ) (leaf : ℕ) (m5 : List ℕ) whe
     made-parties j (suc (suc c)) hj hc = absurd (omega arith)
 
     module _ (key : Key) where
-      pub made-rows : rowsFrom p key (take 32 m1) m2 (openedStates p (exchange m1 m2 m3 leaf m5)) leaf m5 ≡ openedRows p (exchange m1 m2 m3 leaf m5) key
+      pub made-rows : rowsFrom p key (take 32 m1) m2 (openedStates p (exchange m1 m2 m3 leaf m5)) leaf (valuesIn p m5) (auxIn p m5) ≡ openedRows p (exchange m1 m2 m3 leaf m5) key
       unfolding rowsFrom announcedFrom openedRows openedRow front area exchange
       made-rows =
           joined-ext (rowOf p key m2 front leaf (valuesIn p m5)) (openedRow p e key) (p .d)
@@ -107,7 +107,7 @@ module _ (p : Parameters) (m1 m2 m3 : List ℕ) (leaf : ℕ) (m5 : List ℕ) whe
           values : valuesIn p m5 ≡ part m5 (16 * levels p + 32) (8 * p .t)
           values = unfold valuesIn in refl
 
-      pub verdict-made : judged p m1 m3 leaf m5 (openedStates p (exchange m1 m2 m3 leaf m5)) (openedRows p (exchange m1 m2 m3 leaf m5) key)
+      pub verdict-made : judged p m1 m3 leaf (commitmentIn p m5) (auxIn p m5) (openedStates p (exchange m1 m2 m3 leaf m5)) (openedRows p (exchange m1 m2 m3 leaf m5) key)
           ≡ verdict SHAKE256 p (exchange m1 m2 m3 leaf m5) key
       unfolding judged exchange
       verdict-made =

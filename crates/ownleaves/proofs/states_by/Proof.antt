@@ -4,7 +4,7 @@ use Prim.Native.Nat.{ℕ, _*_}
 use native.Mathlib.Omega.{arith}
 use borrow.Author.Needs.{needs}
 use Rattle.exchange.specs.Layout.Laws.{leaves-is}
-use Rattle.leaves.specs.States.{statesOf}
+use Rattle.leafstates.specs.States.{statesOf}
 use Rattle.leaves.specs.Shapes.Laws.{leaves-most}
 use Rattle.ownleaves.specs.Own.{ownStates}
 use Rattle.ownleaves.proofs.states_by.Statement.{statement}

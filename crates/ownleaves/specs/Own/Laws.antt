@@ -24,7 +24,7 @@ use Rattle.exchange.specs.Messages.{ownState, drawn, ownAux}
 use Rattle.auxiliary.specs.Auxiliary.{auxFor}
 use Rattle.auxiliary.specs.Auxiliary.Laws.{ownAux-is}
 use Rattle.leaves.specs.States.{stateAt}
-use Rattle.leaves.specs.States.Seeds.{own-states}
+use Rattle.leafstates.specs.States.Seeds.{own-states}
 use Rattle.parties.specs.Drawn.{drawnShare}
 use Rattle.parties.specs.Sums.Laws.{second-fits}
 use Rattle.ownleaves.specs.Own.{ownStates, sumOf}

@@ -21,7 +21,8 @@ use Rattle.exchange.specs.Layout.{leaves, isLast, shareLength}
 use Rattle.exchange.specs.Layout.Laws.{leaves-is}
 use Rattle.exchange.specs.Strings.{string3}
 use Rattle.exchange.specs.Leaf.{share}
-use Rattle.parties.specs.Drawn.{stateAt, drawnLength, drawnShare}
+use Rattle.leaves.specs.States.{stateAt}
+use Rattle.parties.specs.Drawn.{drawnLength, drawnShare}
 
 pub leaves-small : (p : Parameters) → Within p → leaves p ≤ 256
 leaves-small p h = rw (leaves-is p) (pow-mono (h .d-most))

@@ -34,7 +34,8 @@ use Rattle.exchange.specs.Parties.{total}
 use Rattle.exchange.specs.Parties.Laws.{length-total}
 use Rattle.parties.specs.Blocks.{xorAt-zeros, xorAt-nil, xorAt-inner, part-added, part-kept}
 use Rattle.parties.specs.Totals.{disclosedOf, both-parties, first-without-aux, total-with-aux, total-without-aux}
-use Rattle.parties.specs.Drawn.{stateAt, drawnShare}
+use Rattle.leaves.specs.States.{stateAt}
+use Rattle.parties.specs.Drawn.{drawnShare}
 use Rattle.parties.specs.Drawn.Laws.{drawnShare-short}
 use Rattle.parties.specs.Sums.{place, partyAt, partySums, withTotal, withAux}
 use Rattle.parties.specs.Sums.Laws.{work-is, first-place, second-place, second-fits, length-parties, part-parties}

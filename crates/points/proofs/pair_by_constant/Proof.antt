@@ -1,5 +1,5 @@
 -- The law of the step, fed with what the calls ensure.
-use Rattle.points.specs.Point.Steps.{pair-by-constant}
+use Rattle.tower.specs.Point.Steps.{pair-by-constant}
 use borrow.Author.Needs.{needs}
 use Rattle.points.proofs.pair_by_constant.Statement.{statement}
 use Rattle.points.proofs.pair_by_constant.Tie as tie

@@ -1,5 +1,5 @@
 -- Karatsuba's law, fed with what the calls ensure.
-use Rattle.points.specs.Point.Steps.{pair-product}
+use Rattle.tower.specs.Point.Steps.{pair-product}
 use borrow.Author.Needs.{needs}
 use Rattle.points.proofs.pair_product.Statement.{statement}
 use Rattle.points.proofs.pair_product.Tie as tie

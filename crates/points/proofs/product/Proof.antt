@@ -1,7 +1,7 @@
 -- Karatsuba's law over pairs, fed with what the calls ensure.
 use mathlib.Core.Path.{ap}
-use Rattle.points.specs.Point.{four, fourTimes}
-use Rattle.points.specs.Point.Steps.{point-product}
+use Rattle.tower.specs.Point.{four, fourTimes}
+use Rattle.tower.specs.Point.Steps.{point-product}
 use borrow.Author.Needs.{needs}
 use Rattle.points.proofs.product.Statement.{statement}
 use Rattle.points.proofs.product.Tie as tie

@@ -1,5 +1,5 @@
 -- A byte multiplies each entry.
-use Rattle.points.specs.Point.Steps.{byte-product}
+use Rattle.tower.specs.Point.Steps.{byte-product}
 use borrow.Author.Needs.{needs}
 use Rattle.points.proofs.product_by_byte.Statement.{statement}
 use Rattle.points.proofs.product_by_byte.Tie as tie

@@ -1,6 +1,6 @@
 -- A point with 00 00 00 at its end is a byte.
 use mathlib.Core.Path.{_∙_}
-use Rattle.points.specs.Point.Steps.{byte-first}
+use Rattle.tower.specs.Point.Steps.{byte-first}
 use borrow.Author.Needs.{needs}
 use Rattle.points.proofs.shorter_product.Statement.{statement}
 use Rattle.points.proofs.shorter_product.Tie as tie

@@ -1,6 +1,6 @@
 -- Each entry is the sum of the entries.
-use Rattle.points.specs.Point.{fourSum}
-use Rattle.points.specs.Point.Written.{four-path}
+use Rattle.tower.specs.Point.{fourSum}
+use Rattle.tower.specs.Point.Written.{four-path}
 use borrow.Author.Needs.{needs}
 use Rattle.points.proofs.sum.Statement.{statement}
 use Rattle.points.proofs.sum.Tie as tie

@@ -5,8 +5,8 @@ use Prim.Native.Nat.{_*_, _-_, _≤_}
 use native.Mathlib.Omega.{arith}
 use borrow.Author.Needs.{needs}
 use lib.ListN.{length, take}
-use Rattle.points.specs.Value.{valueAt, powerAt}
-use Rattle.points.specs.Value.Laws.{value-none, value-next, value-all, power-none, power-next}
+use Rattle.tower.specs.Value.{valueAt, powerAt}
+use Rattle.tower.specs.Value.Laws.{value-none, value-next, value-all, power-none, power-next}
 use Rattle.points.proofs.value_at.Statement.{statement}
 use Rattle.points.proofs.value_at.Tie as tie
 

@@ -1,32 +1,27 @@
 -- The prover's calls carried out.
 --
 -- vector-length, begun-with begin carried out, with x at the front of 255 bytes
--- padded-front, padded-back x at the front of 255 bytes, read, and lent there and back
+-- padded-front              x at the front of 255 bytes, read
 -- starting                  what begin's checks say, of that x
--- front-light               the front of 255 bytes as a vector of which Q and P can be made
--- front-held                what is lent to make a message: fronts of x and of the work area
 -- begun-made, answered-made, opened-made   a call carried out, from what was made for it
 use mathlib.Core.Path.{_≡_, ap, _∙_}
-use mathlib.Core.List.{List, _++_}
-use Prim.Native.Nat.{ℕ, _+_, _≤_}
-use native.Mathlib.Nat.{zero-add}
+use mathlib.Core.List.{List}
+use Prim.Native.Nat.{ℕ, _+_}
 use native.Mathlib.Omega.{arith}
 use lib.ListN.{length, replicate, take, drop}
-use lib.Seq.{take-at, length-take-le}
+use lib.Seq.{take-at}
 use Rattle.lists.specs.Part.{putAt}
 use Rattle.lists.specs.Zeroed.{zeroed}
 use Rattle.shake256.specs.Fips.{SHAKE256}
 use Rattle.answers.specs.declared.Answer.the-variants.{Done}
 use Rattle.parameters.specs.declared.Parameters.{Parameters}
-use Rattle.parameters.specs.Limits.{Within}
-use Rattle.key.specs.Key.{weightOf, vectorOf}
-use Rattle.key.specs.Key.Vector.{length-vector}
-use Rattle.key.specs.Light.{Light}
+use Rattle.relation.specs.Key.{vectorOf}
+use Rattle.relation.specs.Key.Vector.{length-vector}
 use Rattle.exchange.specs.Layout.{workLength}
 use Rattle.exchange.specs.Messages.{message1, message3, message5}
 use Rattle.exchange.specs.Values.{Key}
+use Rattle.prover_phase.specs.declared.Phase.the-variants.{Begun}
 use Rattle.prover.specs.declared.Prover.{Prover}
-use Rattle.ownleaves.specs.Asked.{Held}
 use Rattle.prover.specs.Facts.{outcomeOf, Begins, Starting}
 use Rattle.prover.specs.Next.{nextBegun, nextAnswered, nextClosed, begunWith}
 use Rattle.prover.specs.Session.{padded, heldX, heldMessage2, begun, answered, opened}
@@ -61,46 +56,22 @@ module _ (s : Prover) (p : Parameters) (xA salt root : List ℕ) (key : Key) (wo
         out-is = h .sized .out-is;
       }
 
--- the front of 255 zeros was lent and came back as x
-pub padded-back : (n : ℕ) (x zeros : List ℕ) → length x ≡ n → zeros ≡ replicate 255 0 → x ++ drop n zeros ≡ padded 255 x
-unfolding putAt
-padded-back n x zeros e f = rw (f, ← e, zero-add)
-
--- ---- x
-
-pub front-light : (p : Parameters) (x : List ℕ) → Within p → length x ≡ 255 → weightOf (take (p .m) x) ≤ p .w → Light (p .w) (take (p .m) x)
-front-light p x h e l =
-    let n : length (take (p .m) x) ≡ p .m = length-take-le (p .m) x (omega arith) in
-    record { light = l; fits = omega arith; short = omega arith }
-
 -- ---- a call carried out, from what was made for it
 
-module _ (p : Parameters) (x salt root work : List ℕ) (n : ℕ) where
-  pub front-held : Within p → length x ≡ 255 → weightOf (take (p .m) x) ≤ p .w → length salt ≡ 32 → length root ≡ 16 → workLength p ≤ length work
-      → n ≡ workLength p → Held p (take (p .m) x) salt root (take n work)
-  front-held h e l sa ro wo ne = record {
-    within = h;
-    light = front-light p x h e l;
-    x-is = length-take-le (p .m) x (omega arith);
-    salt-is = sa;
-    root-is = ro;
-    area-is = length-take-le n work (omega arith) ∙ ne;
-  }
+pub begun-made : (p : Parameters) (x salt root work : List ℕ) (next : Prover) (out′ work′ : List ℕ) → next ≡ nextBegun Begun p x salt root
+    → out′ ≡ message1 SHAKE256 p (take (p .m) x) salt root → work′ ≡ zeroed (workLength p) work → outcomeOf Done next out′ work′ ≡ begunWith p x salt root work
+unfolding begunWith
+begun-made p x salt root work next out′ work′ e f g = rw (e, f, g)
 
-  pub begun-made : (next : Prover) (out′ area : List ℕ) → next ≡ nextBegun p x salt root → out′ ≡ message1 SHAKE256 p (take (p .m) x) salt root
-      → area ≡ replicate (workLength p) 0 → n ≡ workLength p → outcomeOf Done next out′ (area ++ drop n work) ≡ begunWith p x salt root work
-  unfolding begunWith zeroed
-  begun-made next out′ area e f g h = rw (e, f, g, h)
+module _ (s : Prover) (key : Key) (work out : List ℕ) where
+  pub answered-made : (m2 : List ℕ) (next : Prover) (out′ work′ : List ℕ) → next ≡ nextAnswered s (padded 64 m2)
+      → out′ ≡ message3 SHAKE256 (s .parameters) (heldX s) (s .salt) (s .root) key m2 → work′ ≡ zeroed (workLength (s .parameters)) work
+      → outcomeOf Done next out′ work′ ≡ answered SHAKE256 s m2 key work out
+  unfolding answered
+  answered-made m2 next out′ work′ e f g = rw (e, f, g)
 
-module _ (s : Prover) (key : Key) (work out : List ℕ) (n : ℕ) where
-  pub answered-made : (m2 : List ℕ) (next : Prover) (out′ area : List ℕ) → next ≡ nextAnswered s (padded 64 m2)
-      → out′ ≡ message3 SHAKE256 (s .parameters) (heldX s) (s .salt) (s .root) key m2 → area ≡ replicate (workLength (s .parameters)) 0
-      → n ≡ workLength (s .parameters) → outcomeOf Done next out′ (area ++ drop n work) ≡ answered SHAKE256 s m2 key work out
-  unfolding answered zeroed
-  answered-made m2 next out′ area e f g h = rw (e, f, g, h)
-
-  pub opened-made : (i : ℕ) (next : Prover) (out′ area : List ℕ) → next ≡ nextClosed s
-      → out′ ≡ message5 SHAKE256 (s .parameters) (heldX s) (s .salt) (s .root) key (heldMessage2 s) i → area ≡ replicate (workLength (s .parameters)) 0
-      → n ≡ workLength (s .parameters) → outcomeOf Done next out′ (area ++ drop n work) ≡ opened SHAKE256 s i key work out
-  unfolding opened zeroed
-  opened-made i next out′ area e f g h = rw (e, f, g, h)
+  pub opened-made : (i : ℕ) (next : Prover) (out′ work′ : List ℕ) → next ≡ nextClosed s
+      → out′ ≡ message5 SHAKE256 (s .parameters) (heldX s) (s .salt) (s .root) key (heldMessage2 s) i → work′ ≡ zeroed (workLength (s .parameters)) work
+      → outcomeOf Done next out′ work′ ≡ opened SHAKE256 s i key work out
+  unfolding opened
+  opened-made i next out′ work′ e f g = rw (e, f, g)

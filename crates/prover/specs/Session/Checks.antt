@@ -1,55 +1,70 @@
 -- The checks of the prover's calls: from the values of the tests to the answer, and from the answer to what the call gives.
 --
--- passed, failed                         what a branch on a negated test says
--- begin-row, points-row, leaf-row        the checks of a call from the values of its tests
+-- first-refused, first-passed            checks in a row, and others behind them
+-- begin-late, begin-row                  the checks of begin: those of its arguments, and 13 behind them
+-- points-row, leaf-row                   the checks of a call from the values of its tests
 -- settle-refused, done-is                what an answer says of the call
 -- begin-refused, points-refused, leaf-refused   a check failed: session, output and work area stay
 -- begin-done, points-done, leaf-done     no check failed: the call is carried out
 -- holds-ready, points-ready, leaf-ready  what a session that holds an exchange says
--- begin-lengths                          what begin's test of the lengths says
 -- begin-facts, points-facts, leaf-facts  what the checks that passed say
 use mathlib.Core.Path.{_≡_, refl, sym, _∙_}
 use mathlib.Core.Bool.{Bool, true, false, _&&_, not, true≢false, false≢true}
-use mathlib.Core.List.{List, _∷_}
+use mathlib.Core.List.{List, [], _∷_, _++_}
 use Prim.Native.Nat.{ℕ}
 use lib.Dec.{eqb, leb, ltb}
 use lib.ListN.{length}
-use borrow.Author.Tests.{eqb-true, leb-true, ltb-true, not-true, not-false}
+use borrow.Author.Tests.{eqb-true, leb-true, ltb-true}
 use Rattle.lists.specs.Checks.{allTrue, all-at, and-left, and-right}
 use Rattle.answers.specs.declared.Answer.{Answer}
 use Rattle.answers.specs.declared.Answer.the-variants.{Done, Refused}
 use Rattle.answers.specs.declared.Refusal.the-variants.{Parameter, Length, Weight, Leaf, NotDue, Closed as ExchangeClosed, Repeated}
-use Rattle.answers.specs.Checks.{check}
-use Rattle.answers.specs.Checks.Laws.{check-true, check-rest}
+use Rattle.answers.specs.declared.Refusal.{Refusal}
+use Rattle.answers.specs.Checks.{check, checks}
+use Rattle.answers.specs.Checks.Laws.{Done≢Refused, check-true, check-rest}
 use Rattle.parameters.specs.declared.Parameters.{Parameters}
 use Rattle.parameters.specs.Limits.{withinLimits}
 use Rattle.parameters.specs.Limits.Laws.{test-within}
-use Rattle.key.specs.Key.{weightOf, vectorOf}
+use Rattle.relation.specs.Key.{weightOf, vectorOf}
 use Rattle.exchange.specs.Layout.{leaves, message2Length, message5Length}
 use Rattle.exchange.specs.Values.{Key}
 use Rattle.layout.specs.Lent.{lent, Lent}
 use Rattle.layout.specs.Lent.Laws.{test-lent}
+use Rattle.arguments.specs.Arguments.{beginTests, argumentChecks}
+use Rattle.arguments.specs.Arguments.Laws.{begin-sized}
 use Rattle.prover.specs.declared.Prover.{Prover}
-use Rattle.prover.specs.Facts.{isDone, outcomeOf, Ready, Sized, Begins, Answering, Opening}
+use Rattle.prover.specs.Facts.{isDone, outcomeOf, Ready, Begins, Answering, Opening}
 use Rattle.prover.specs.Session.{Outcome, settle, isFresh, isBegun, isAnswered, heldX, holds, closed, pointsDue, leafDue, repeated, keyLengths, beginLengths, beginChecks, begun, begin, pointsChecks, answered, points, leafChecks, opened, leaf}
 
--- ---- a test that the code made, negated and branched on
+-- ---- checks behind others
 
-pub passed : {r b : Bool} → r ≡ b → not r ≡ false → b ≡ true
-passed {r} e h = sym e ∙ not-false r h
+first-refused : (cs ds : List (Bool × Refusal)) (r : Refusal) → checks cs ≡ Refused r → checks (cs ++ ds) ≡ Refused r
+first-refused [] ds r e = absurd (Done≢Refused e)
+first-refused ((true, q) ∷ cs) ds r e = first-refused cs ds r e
+first-refused ((false, q) ∷ cs) ds r e = e
 
-pub failed : {r b : Bool} → r ≡ b → not r ≡ true → b ≡ false
-failed {r} e h = sym e ∙ not-true r h
+first-passed : (cs ds : List (Bool × Refusal)) → checks cs ≡ Done → checks (cs ++ ds) ≡ checks ds
+first-passed [] ds e = refl
+first-passed ((true, q) ∷ cs) ds e = first-passed cs ds e
+first-passed ((false, q) ∷ cs) ds e = absurd (Done≢Refused (sym e))
 
 -- ---- the checks as rows
 
 module _ (hash : List ℕ → ℕ → List ℕ) (s : Prover) (work out : List ℕ) where
   module _ (p : Parameters) (xA salt root : List ℕ) (key : Key) where
-    pub begin-row : (limits lengths light again : Bool) → withinLimits p ≡ limits → allTrue (beginLengths hash s p xA salt root key work out) ≡ lengths
-        → leb (weightOf (vectorOf (key .matrix) (key .y) xA)) (p .w) ≡ light → repeated s salt root ≡ again
-        → check limits Parameter (check lengths Length (check light Weight (check (not again) Repeated Done))) ≡ beginChecks hash s p xA salt root key work out
-    unfolding beginChecks
-    begin-row limits lengths light again e f g h = rw (← e, ← f, ← g, ← h)
+    abbrev of-arguments : List (Bool × Refusal)
+    of-arguments = argumentChecks p xA salt root (key .matrix) (key .y) work out
+
+    joined : checks (of-arguments ++ ((not (repeated s salt root), Repeated) ∷ [])) ≡ beginChecks hash s p xA salt root key work out
+    unfolding argumentChecks beginTests beginChecks beginLengths
+    joined = refl
+
+    pub begin-late : (a : Answer) (r : Refusal) → a ≡ checks of-arguments → a ≡ Refused r → a ≡ beginChecks hash s p xA salt root key work out
+    begin-late a r e f = f ∙ sym (first-refused of-arguments ((not (repeated s salt root), Repeated) ∷ []) r (sym e ∙ f)) ∙ joined
+
+    pub begin-row : (a : Answer) (again : Bool) → a ≡ checks of-arguments → a ≡ Done → repeated s salt root ≡ again
+        → check (not again) Repeated Done ≡ beginChecks hash s p xA salt root key work out
+    begin-row a again e f g = rw (← g) (sym (first-passed of-arguments ((not (repeated s salt root), Repeated) ∷ []) (sym e ∙ f)) ∙ joined)
 
   module _ (m2 : List ℕ) (key : Key) where
     pub points-row : (ended due lengths : Bool) → closed s ≡ ended → pointsDue s ≡ due
@@ -131,27 +146,14 @@ lent-facts p key work e = test-lent p (length (key .matrix)) (length (key .y)) (
 
 module _ (hash : List ℕ → ℕ → List ℕ) (s : Prover) (work out : List ℕ) (key : Key) where
   module _ (p : Parameters) (xA salt root : List ℕ) where
-    pub begin-lengths : allTrue (beginLengths hash s p xA salt root key work out) ≡ true → Sized p xA salt root (key .matrix) (key .y) work out
-    unfolding beginLengths
-    begin-lengths e =
-        let test = all-at (beginLengths hash s p xA salt root key work out) e in
-        let rest = and-right (eqb (length root) 16) _ (and-right (eqb (length salt) 32) _ (and-right (eqb (length xA) (p .k)) _ e)) in
-        record {
-          xA-is = eqb-true (length xA) (p .k) (test 0);
-          salt-is = eqb-true (length salt) 32 (test 1);
-          root-is = eqb-true (length root) 16 (test 2);
-          out-is = eqb-true (length out) 64 (test 3);
-          lent = lent-facts p key work (and-right (eqb (length out) 64) _ rest);
-        }
-
     pub begin-facts : (a : Answer) → a ≡ beginChecks hash s p xA salt root key work out → isDone a ≡ true → Begins p xA salt root (key .matrix) (key .y) work out
-    unfolding beginChecks
+    unfolding beginChecks beginLengths beginTests
     begin-facts a f h =
         let e = sym f ∙ done-is a h in
         let late = check-rest (withinLimits p) Parameter _ e in
         record {
           within = test-within p (check-true (withinLimits p) Parameter _ e);
-          sized = begin-lengths (check-true (allTrue (beginLengths hash s p xA salt root key work out)) Length _ late);
+          sized = begin-sized p xA salt root (key .matrix) (key .y) work out (check-true (allTrue (beginLengths hash s p xA salt root key work out)) Length _ late);
           light =
               leb-true _ (p .w)
               (check-true (leb (weightOf (vectorOf (key .matrix) (key .y) xA)) (p .w)) Weight _

@@ -7,7 +7,7 @@ use Rattle.shake256.specs.Fips.{SHAKE256}
 use Rattle.exchange.specs.Sequences.{joined}
 use Rattle.coefficients.specs.Coefficients.{keyOf}
 use Rattle.axes.specs.Announcing.{rowOf}
-use Rattle.axes.specs.Announcing.Strings.{rowsString}
+use Rattle.axisdigests.specs.Rows.{rowsString}
 use Rattle.response.specs.Response.{responseOf}
 use Rattle.response.proofs.respond.Statement.{statement}
 use Rattle.response.proofs.respond.Tie as tie

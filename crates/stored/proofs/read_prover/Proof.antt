@@ -8,7 +8,7 @@ use Rattle.stored.proofs.read_prover.Tie as tie
 returns : tie.Need-returns
 unfolding proverFrom part
 returns c = λ i. record {
-  phase = c .before .before .before .before .before .before .before .before .before .prover-phase .ensures i;
+  phase = c .before .before .before .before .before .before .before .before .before .phase-from .ensures i;
   parameters = c .before .before .before .before .before .before .before .before .read-parameters .ensures i;
   x = c .before .before .before .before .before .before .array255 .ensures i;
   salt = c .before .before .before .before .array32 .ensures i;

@@ -22,7 +22,7 @@ write-parts-requires c κs = omega (arith, lengths (c .before .before .before .b
 
 returns : tie.Need-returns
 unfolding proverBytes
-returns c = rw (c .before .before .write-parts .ensures, c .before .before .before .before .before .before .before .before .before .before .before .before .before .head .ensures, c .before .before .before .before .before .before .before .before .before .before .before .before .before .before .prover-phase-byte .ensures)
+returns c = rw (c .before .before .write-parts .ensures, c .before .before .before .before .before .before .before .before .before .before .before .before .before .head .ensures, c .before .before .before .before .before .before .before .before .before .before .before .before .before .before .phase-byte .ensures)
 
 pub write-prover-spec : {M : Type 1} → statement M
 write-prover-spec =

@@ -11,8 +11,8 @@ use mathlib.Core.List.{_∷_, _++_}
 use lib.ListN.{length, replicate, length-append}
 use Rattle.lists.specs.Part.{part}
 use Rattle.lists.specs.Part.Laws.{part-whole}
-use Rattle.prover.specs.declared.Phase.{Phase}
-use Rattle.prover.specs.declared.Phase.the-variants.{Fresh, Begun, Answered, Closed}
+use Rattle.prover_phase.specs.declared.Phase.{Phase}
+use Rattle.prover_phase.specs.declared.Phase.the-variants.{Fresh, Begun, Answered, Closed}
 use Rattle.prover.specs.declared.Prover.{Prover}
 use Rattle.prover.specs.Session.{fresh}
 use Rattle.stored.specs.Parameters.{parameterBytes}

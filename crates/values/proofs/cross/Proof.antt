@@ -2,7 +2,7 @@
 use borrow.Author.Needs.{needs}
 use mathlib.Core.Path.{sym, ap, _∙_}
 use mathlib.Core.Bool.{Bool, cond}
-use Rattle.points.specs.Field.{point, bytesOf}
+use Rattle.tower.specs.Field.{point, bytesOf}
 use Rattle.exchange.specs.Reading.{_⊠_, 𝟎}
 use Rattle.lagrange.specs.Written.{times-point}
 use Rattle.values.specs.Announced.Laws.{zero-bytes}

@@ -8,8 +8,8 @@ use mathlib.Core.Bool.{Bool, cond}
 use mathlib.Core.List.{List, [], _∷_}
 use Prim.Native.Nat.{ℕ, _+_, _*_}
 use Rattle.bytefield.specs.Byte.{byteRing}
-use Rattle.points.specs.Point.{fourSum, fourTimes}
-use Rattle.points.specs.Field.{Point, point, bytesOf, point-bytesOf}
+use Rattle.tower.specs.Point.{fourSum, fourTimes}
+use Rattle.tower.specs.Field.{Point, point, bytesOf, point-bytesOf}
 use Rattle.parameters.specs.declared.Parameters.{Parameters}
 use Rattle.exchange.specs.Reading.{points, pointAt, _⊠_, 𝟎}
 use Rattle.exchange.specs.Values.{Key, aOf, bOf, partV}

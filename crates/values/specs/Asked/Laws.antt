@@ -13,7 +13,7 @@ use lib.ListN.{length, drop, take-append-drop, length-drop}
 use lib.Seq.{drop-drop, take-all}
 use Rattle.lists.specs.Part.{part, putAt}
 use Rattle.lists.specs.Part.Laws.{length-putAt}
-use Rattle.points.specs.Field.{bytesOf}
+use Rattle.tower.specs.Field.{bytesOf}
 use Rattle.parameters.specs.declared.Parameters.{Parameters}
 use Rattle.parameters.specs.Limits.{Within}
 use Rattle.exchange.specs.Reading.Laws.{length-bytesOf}

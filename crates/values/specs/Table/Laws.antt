@@ -9,8 +9,8 @@ use Prim.Native.Nat.{ℕ, _+_, _-_, _*_, _<_}
 use native.Mathlib.Omega.{arith}
 use lib.ListN.{length, getD, take, drop, length-append, length-take, length-drop}
 use lib.Seq.{getD-take, getD-drop}
-use Rattle.points.specs.Point.{fourSum}
-use Rattle.points.specs.Field.{Point, point, bytesOf, point-bytesOf}
+use Rattle.tower.specs.Point.{fourSum}
+use Rattle.tower.specs.Field.{Point, point, bytesOf, point-bytesOf}
 use Rattle.parameters.specs.declared.Parameters.{Parameters}
 use Rattle.parameters.specs.Limits.{Within}
 use Rattle.exchange.specs.Layout.{atB, atX, atQ, atP, atC}

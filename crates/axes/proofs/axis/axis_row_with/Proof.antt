@@ -2,7 +2,7 @@
 use mathlib.Core.Path.{ap₂, _∙_}
 use mathlib.Core.List.{_++_}
 use borrow.Author.Needs.{needs}
-use Rattle.axes.specs.Row.{firstBy, secondBy, axisBy}
+use Rattle.partyrows.specs.Row.{firstBy, secondBy, axisBy}
 use Rattle.axes.proofs.axis.axis_row_with.Statement.{statement}
 use Rattle.axes.proofs.axis.axis_row_with.Tie as tie
 

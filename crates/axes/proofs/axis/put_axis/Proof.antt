@@ -7,7 +7,7 @@ use borrow.Author.Needs.{needs}
 use lib.ListN.{length}
 use Rattle.exchange.specs.Layout.{shareLength}
 use Rattle.values.specs.Shares.{shareOf, blockOf}
-use Rattle.axes.specs.Row.{axisBy}
+use Rattle.partyrows.specs.Row.{axisBy}
 use Rattle.axes.specs.Asked.Laws.{share-fits, row-asked}
 use Rattle.axes.specs.Slices.{middle-part}
 use Rattle.axes.proofs.axis.put_axis.Statement.{statement}

@@ -3,7 +3,7 @@ use mathlib.Core.Path.{_∙_}
 use native.Mathlib.Omega.{arith}
 use borrow.Author.Needs.{needs}
 use Rattle.coefficients.specs.Coefficients.{keyOf}
-use Rattle.axes.specs.Row.Axes.{rows-made}
+use Rattle.axes.specs.Axes.{rows-made}
 use Rattle.axes.proofs.rows.axis_rows_with.Statement.{statement}
 use Rattle.axes.proofs.rows.axis_rows_with.Tie as tie
 

@@ -9,8 +9,8 @@ use Rattle.parameters.specs.declared.Parameters.{Parameters}
 use Rattle.lagrange.specs.Written.{middle-kept}
 use Rattle.values.specs.Shares.{shareOf, blockOf}
 use Rattle.values.specs.Shares.Laws.{within-blocks, next-block, length-block}
-use Rattle.axes.specs.Announcing.{hiddenParty}
-use Rattle.axes.specs.Row.{axisBy}
+use Rattle.partyrows.specs.Row.{hiddenParty}
+use Rattle.partyrows.specs.Row.{axisBy}
 use Rattle.axes.specs.Slices.{Blocks, blocks-none, blocks-turn, blocks-end}
 use Rattle.axes.proofs.rows.put_rows.Statement.{statement}
 use Rattle.axes.proofs.rows.put_rows.Tie as tie

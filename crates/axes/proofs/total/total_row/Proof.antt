@@ -6,7 +6,7 @@ use native.Mathlib.Omega.{arith}
 use borrow.Author.Needs.{needs}
 use lib.ListN.{length}
 use Rattle.exchange.specs.Layout.{shareLength}
-use Rattle.axes.specs.Row.{rowBy, sumsBy}
+use Rattle.partyrows.specs.Row.{rowBy, sumsBy}
 use Rattle.axes.specs.Asked.Laws.{share-fits, row-asked}
 use Rattle.axes.specs.Slices.{middle-part}
 use Rattle.axes.proofs.total.total_row.Statement.{statement}

@@ -7,7 +7,7 @@ use Rattle.lists.specs.Zeroed.Laws.{zeroed-all}
 use Rattle.stored.specs.Prover.{proverSize}
 use Rattle.stored.specs.Prover.Laws.{prover-fresh}
 use Rattle.capi.specs.Session.{kept}
-use Rattle.capi.specs.Session.Laws.{fits-not, fits-so}
+use Rattle.buffer.specs.Buffer.Laws.{fits-not, fits-so}
 use Rattle.capi.proofs.fresh.unlock_prover_new.Statement.{statement}
 use Rattle.capi.proofs.fresh.unlock_prover_new.Tie as tie
 

@@ -7,7 +7,7 @@ use Rattle.lists.specs.Zeroed.Laws.{zeroed-all}
 use Rattle.stored.specs.Verifier.{verifierSize}
 use Rattle.stored.specs.Verifier.Laws.{verifier-fresh}
 use Rattle.capi.specs.Session.{kept}
-use Rattle.capi.specs.Session.Laws.{fits-not, fits-so}
+use Rattle.buffer.specs.Buffer.Laws.{fits-not, fits-so}
 use Rattle.capi.proofs.fresh.unlock_verifier_new.Statement.{statement}
 use Rattle.capi.proofs.fresh.unlock_verifier_new.Tie as tie
 

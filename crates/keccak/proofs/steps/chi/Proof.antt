@@ -1,7 +1,7 @@
 -- Each entry is the same expression of three lanes on both sides.
 use mathlib.Core.Path.{refl}
 use borrow.Author.Needs.{needs}
-use Rattle.keccak.specs.Steps.{χ}
+use Rattle.fips.specs.Steps.{χ}
 use Rattle.keccak.proofs.steps.chi.Statement.{statement}
 use Rattle.keccak.proofs.steps.chi.Tie as tie
 

@@ -1,7 +1,7 @@
 -- Both sides store the same number in lane 0.
 use mathlib.Core.Path.{refl}
 use borrow.Author.Needs.{needs}
-use Rattle.keccak.specs.Steps.{ι}
+use Rattle.fips.specs.Steps.{ι}
 use Rattle.keccak.proofs.steps.iota.Statement.{statement}
 use Rattle.keccak.proofs.steps.iota.Tie as tie
 

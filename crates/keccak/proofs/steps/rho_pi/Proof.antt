@@ -1,6 +1,6 @@
 -- Each of the 25 entries is what `rotated` promises of its lane and offset.
 use mathlib.Core.List.{[], _∷_}
-use Rattle.keccak.specs.Steps.{ρ, π}
+use Rattle.fips.specs.Steps.{ρ, π}
 use borrow.Author.Needs.{needs}
 use Rattle.keccak.proofs.steps.rho_pi.Statement.{statement}
 use Rattle.keccak.proofs.steps.rho_pi.Tie as tie

@@ -1,7 +1,7 @@
 -- A rotation by 0 is the number itself; any other is the two shifts, whose bits do not meet (`Rotation`).
 use borrow.Author.Needs.{needs}
 use native.Mathlib.Omega.{arith}
-use Rattle.keccak.specs.Steps.{rotl}
+use Rattle.fips.specs.Steps.{rotl}
 use Rattle.keccak.proofs.Rotation.{or-rotl, rotl-zero}
 use Rattle.keccak.proofs.steps.rotated.Statement.{statement}
 use Rattle.keccak.proofs.steps.rotated.Tie as tie

@@ -4,7 +4,7 @@ use mathlib.Core.Path.{ap, _∙_}
 use Prim.Native.Nat.{ℕ, _+_, _/_, _%_}
 use lib.ListN.{getD}
 use borrow.Author.Needs.{needs}
-use Rattle.keccak.specs.Steps.{θ, tab, lane, rotl, _⊕_}
+use Rattle.fips.specs.Steps.{θ, tab, lane, rotl, _⊕_}
 use Rattle.keccak.proofs.steps.theta.Statement.{statement}
 use Rattle.keccak.proofs.steps.theta.Tie as tie
 

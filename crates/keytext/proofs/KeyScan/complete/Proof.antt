@@ -1,16 +1,11 @@
--- Each return follows from the tests that led to it.
-use borrow.Author.Tests.{eq-eqb, ne-eqb}
+-- The two tests are those of `complete`.
 use Rattle.keytext.specs.Scan.{complete}
 use Rattle.keytext.proofs.KeyScan.complete.Statement.{statement}
 use Rattle.keytext.proofs.KeyScan.complete.Tie as tie
 
 returns : tie.Need-returns
 unfolding complete
-returns c = rw (ne-eqb _ _ (c .if1 .taken))
-
-returns-2 : tie.Need-returns-2
-unfolding complete
-returns-2 c = rw (eq-eqb _ _ (c .if1 .left))
+returns c = cc
 
 pub complete-spec : {M : Type 1} → statement M
-complete-spec = tie.close (tie.spec returns returns-2)
+complete-spec = tie.close (tie.spec (λ c κs. tt) (λ c κs. tt) returns)

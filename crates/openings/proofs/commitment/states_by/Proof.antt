@@ -4,8 +4,8 @@ use Prim.Native.Nat.{ℕ, _*_}
 use native.Mathlib.Omega.{arith}
 use borrow.Author.Needs.{needs}
 use Rattle.exchange.specs.Layout.Laws.{leaves-is}
-use Rattle.leaves.specs.States.{statesOf}
-use Rattle.leaves.specs.States.Seeds.{levels-is}
+use Rattle.leafstates.specs.States.{statesOf}
+use Rattle.leafstates.specs.States.Seeds.{levels-is}
 use Rattle.leaves.specs.Shapes.Laws.{leaves-most}
 use Rattle.openings.specs.From.{statesFrom}
 use Rattle.openings.proofs.commitment.states_by.Statement.{statement}

@@ -10,11 +10,11 @@ use Rattle.openings.proofs.response.opened_rows.Tie as tie
 returns : tie.Need-returns
 returns c =
     let made = c .before .before .before .before .before .before .before .before in
-    let start = made .before .before .before .before .before .before .before .before .before .before .before in
-    let area = made .rows-by .last .1 .1 .1 .1 .1 .1 .1 .1 .0 in (
+    let start = made .before .before .before .before .before .before .before .before .before .before .before .before in
+    let area = made .rows-by .last .1 .1 .1 .1 .1 .1 .1 .1 .1 .0 in (
       made .rows-by .ensures,
       c .before .before .zero-front .ensures ∙ zeroed-all area (length area) refl
-          ∙ ap (λ (n : ℕ). replicate n 0) (made .rows-by .kept .1 .1 .1 .1 .1 .1 .1 .1 .0 ∙ start .pre .announce .sized-area),
+          ∙ ap (λ (n : ℕ). replicate n 0) (made .rows-by .kept .1 .1 .1 .1 .1 .1 .1 .1 .1 .0 ∙ start .pre .announce .sized-area),
     )
 
 pub opened-rows-spec : {M : Type 1} → statement M

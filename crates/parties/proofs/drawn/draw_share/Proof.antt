@@ -11,7 +11,8 @@ use Rattle.lists.specs.Part.Laws.{length-part}
 use Rattle.shake256.specs.Fips.{SHAKE256}
 use Rattle.exchange.specs.Strings.{string3}
 use Rattle.leaves.specs.After.Laws.{draw-begun}
-use Rattle.parties.specs.Drawn.{stateAt, drawnLength, drawnShare}
+use Rattle.leaves.specs.States.{stateAt}
+use Rattle.parties.specs.Drawn.{drawnLength, drawnShare}
 use Rattle.parties.specs.Drawn.Laws.{leaves-small, drawnLength-le, drawnShare-is}
 use Rattle.parties.proofs.drawn.draw_share.Statement.{statement}
 use Rattle.parties.proofs.drawn.draw_share.Tie as tie

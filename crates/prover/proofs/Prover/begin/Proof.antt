@@ -9,7 +9,8 @@ use Rattle.coefficients.specs.Coefficients.{keyOf}
 use Rattle.prover.specs.Facts.{isDone, Begins}
 use Rattle.prover.specs.Next.{begunWith}
 use Rattle.prover.specs.Session.Carried.{starting, begun-with}
-use Rattle.prover.specs.Session.Checks.{passed, failed, done-is, begin-refused, begin-done, begin-facts}
+use Rattle.arguments.specs.Arguments.Laws.{passed, failed}
+use Rattle.prover.specs.Session.Checks.{done-is, begin-refused, begin-done, begin-facts}
 use Rattle.prover.proofs.Prover.begin.Statement.{statement}
 use Rattle.prover.proofs.Prover.begin.Tie as tie
 

@@ -9,7 +9,7 @@ use borrow.Author.Needs.{needs}
 use Rattle.parameters.specs.Limits.{withinLimits}
 use Rattle.parameters.specs.Limits.Laws.{test-within}
 use Rattle.prover.specs.Session.{isFresh, holds, heldX}
-use Rattle.prover.specs.Session.Checks.{passed, failed}
+use Rattle.arguments.specs.Arguments.Laws.{passed, failed}
 use Rattle.prover.proofs.Arrays.{x-length}
 use Rattle.prover.proofs.held.holds.Statement.{statement}
 use Rattle.prover.proofs.held.holds.Tie as tie

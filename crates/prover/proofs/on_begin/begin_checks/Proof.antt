@@ -1,74 +1,41 @@
--- Each early return has the value of its test; where all tests pass, x holds the vector.
-use mathlib.Core.Path.{_≡_, refl, sym, _∙_}
+-- The arguments' checks first; past them 13 decides, and x holds the vector.
+use mathlib.Core.Path.{_≡_, sym, _∙_}
 use mathlib.Core.Bool.{true, false}
 use borrow.Author.Needs.{needs}
 use Rattle.shake256.specs.Fips.{SHAKE256}
 use Rattle.answers.specs.Checks.Laws.{Done≢Refused}
-use Rattle.parameters.specs.Limits.{withinLimits}
-use Rattle.parameters.specs.Limits.Laws.{test-within}
 use Rattle.coefficients.specs.Coefficients.{keyOf}
-use Rattle.prover.specs.Session.{beginLengths}
-use Rattle.prover.specs.Session.Checks.{begin-row, begin-lengths, passed, failed}
+use Rattle.prover.specs.Session.Checks.{begin-late, begin-row}
 use Rattle.prover.proofs.on_begin.begin_checks.Statement.{statement}
 use Rattle.prover.proofs.on_begin.begin_checks.Tie as tie
 
-limits : (c : tie.Else1) → withinLimits (c .before .before .before .before .before .before .before .before .before .before .args .p) ≡ true
-limits c = passed (c .before .within-limits .ensures) (c .if1 .left)
-
 returns : tie.Need-returns
 returns c =
-    (begin-row _ _ _ _ _ _ _ _ _ false _ _ _ (failed (c .before .within-limits .ensures) (c .if1 .taken)) refl refl refl, λ e. absurd (Done≢Refused (sym e)))
-
-begin-lengths-requires : tie.Need-begin-lengths-requires
-begin-lengths-requires c κs = test-within _ (limits c)
+    let told = c .enum-told2 .given in
+    let first = c .before .before .before .before in
+    let a = first .before .before .before .before .before .before .before .before .before .before .args in (
+      begin-late SHAKE256 (a .s) (a .work .now) (a .out .now) (a .p) (a .x-a .now) (a .salt .now) (a .root .now) (keyOf (a .matrix .now) (a .y .now)) _ _
+          (first .begin-arguments .ensures .0) (told .1),
+      λ e. absurd (Done≢Refused (sym e ∙ told .1)),
+    )
 
 returns-2 : tie.Need-returns-2
-unfolding beginLengths
-returns-2 c = (
-  begin-row _ _ _ _ _ _ _ _ _ true false _ _ (limits (c .before .before)) (failed (c .before .begin-lengths .ensures) (c .if2 .taken)) refl refl,
-  λ e. absurd (Done≢Refused (sym e)),
-)
-
-weigh-requires : tie.Need-weigh-requires
-unfolding beginLengths
-weigh-requires c κs =
-    let e = c .before in
-    let start = e .before .before .before .before .before .before .before .before .before .before .before .before in
-    let a = start .args in
-    let h =
-    begin-lengths SHAKE256 (a .s) (a .work .now) (a .out .now) (keyOf (a .matrix .now) (a .y .now)) (a .p) (a .x-a .now) (a .salt .now) (a .root .now)
-    (passed (e .before .begin-lengths .ensures) (e .if2 .left))
-    in
-    record { within = test-within _ (limits (e .before .before)); xA-is = h .xA-is; matrix-is = h .lent .matrix-is; y-is = h .lent .y-is; zeros = start .pre }
+returns-2 c =
+    let first = c .before .before .before .before .before .before in
+    let a = first .before .before .before .before .before .before .before .before .before .before .args in (
+      begin-row SHAKE256 (a .s) (a .work .now) (a .out .now) (a .p) (a .x-a .now) (a .salt .now) (a .root .now) (keyOf (a .matrix .now) (a .y .now)) _ true
+          (first .begin-arguments .ensures .0) (c .before .before .enum-told .given .1) (sym (c .before .repeated .ensures) ∙ c .if1 .taken),
+      λ e. absurd (Done≢Refused (sym e)),
+    )
 
 returns-3 : tie.Need-returns-3
-unfolding beginLengths
 returns-3 c =
-    let weighed = c .before .before .before in
-    let e = weighed .before .before in (
-      begin-row _ _ _ _ _ _ _ _ _ true true false _ (limits (e .before .before)) (passed (e .before .begin-lengths .ensures) (e .if2 .left))
-          (failed (weighed .weigh .ensures .1) (c .if3 .taken)) refl,
-      λ e. absurd (Done≢Refused (sym e)),
-    )
-
-returns-4 : tie.Need-returns-4
-unfolding beginLengths
-returns-4 c =
-    let weighed = c .before .before .before .before .before in
-    let e = weighed .before .before in (
-      begin-row _ _ _ _ _ _ _ _ _ true true true true (limits (e .before .before)) (passed (e .before .begin-lengths .ensures) (e .if2 .left))
-          (passed (weighed .weigh .ensures .1) (c .before .before .if3 .left)) (sym (c .before .repeated .ensures) ∙ c .if4 .taken),
-      λ e. absurd (Done≢Refused (sym e)),
-    )
-
-returns-5 : tie.Need-returns-5
-unfolding beginLengths
-returns-5 c =
-    let weighed = c .before .before .before .before .before in
-    let e = weighed .before .before in (
-      begin-row _ _ _ _ _ _ _ _ _ true true true false (limits (e .before .before)) (passed (e .before .begin-lengths .ensures) (e .if2 .left))
-          (passed (weighed .weigh .ensures .1) (c .before .before .if3 .left)) (sym (c .before .repeated .ensures) ∙ c .if4 .left),
-      λ d. weighed .weigh .ensures .0,
+    let done = c .before .before .enum-told .given .1 in
+    let first = c .before .before .before .before .before .before in
+    let a = first .before .before .before .before .before .before .before .before .before .before .args in (
+      begin-row SHAKE256 (a .s) (a .work .now) (a .out .now) (a .p) (a .x-a .now) (a .salt .now) (a .root .now) (keyOf (a .matrix .now) (a .y .now)) _ false
+          (first .begin-arguments .ensures .0) done (sym (c .before .repeated .ensures) ∙ c .if1 .left),
+      λ e. first .begin-arguments .ensures .1 done,
     )
 
 pub begin-checks-spec : {M : Type 1} → statement M
@@ -76,14 +43,12 @@ begin-checks-spec =
     tie.close
     (tie.spec
     (λ c κs. search needs)
-    returns
-    begin-lengths-requires
-    returns-2
-    weigh-requires
     (λ c. search needs)
-    returns-3
+    (λ c. search needs)
+    (λ c. search needs)
+    returns
     (λ c κs. search needs)
     (λ c. search needs)
-    returns-4
+    returns-2
     (λ c. search needs)
-    returns-5)
+    returns-3)

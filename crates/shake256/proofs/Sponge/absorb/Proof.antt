@@ -4,7 +4,7 @@ use Prim.Native.Nat.{_≤_, _<_, _-_}
 use native.Mathlib.Omega.{arith}
 use lib.ListN.{length, take}
 use lib.Seq.{take-all}
-use Rattle.shake256.specs.Parameters.{rate}
+use Rattle.fips.specs.Parameters.{rate}
 use Rattle.shake256.specs.Stream.{ready, absorbed}
 use Rattle.shake256.proofs.Sponges.{made-ready}
 use Rattle.shake256.proofs.Turns.{absorbed-more}

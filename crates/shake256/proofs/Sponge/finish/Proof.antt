@@ -4,7 +4,7 @@ use mathlib.Core.List.{List}
 use Prim.Native.Nat.{ℕ, _-_, _<_}
 use native.Mathlib.Omega.{arith}
 use borrow.Author.Needs.{needs}
-use Rattle.shake256.specs.Parameters.{rate, domain, final}
+use Rattle.fips.specs.Parameters.{rate, domain, final}
 use Rattle.shake256.specs.Bytes.{xorAt}
 use Rattle.shake256.specs.declared.Sponge.{Sponge}
 use Rattle.shake256.specs.Stream.{ready, finished}

@@ -6,7 +6,7 @@ use Prim.Native.Nat.{ℕ, _≤_, _<_, _-_, _+_}
 use native.Mathlib.Omega.{arith}
 use lib.ListN.{length, drop}
 use lib.Seq.{drop-length}
-use Rattle.shake256.specs.Parameters.{rate}
+use Rattle.fips.specs.Parameters.{rate}
 use Rattle.shake256.specs.Stream.{ready, squeezed, after}
 use Rattle.shake256.proofs.Sponges.{made-ready}
 use Rattle.shake256.proofs.Turns.{after-more, written-more}

@@ -1,0 +1,146 @@
+-- What the code makes of all axes is what their parties announce.
+--
+-- Evaluated p key m2 parts blocks constants   the blocks of the D + 1 shares, and the constants
+-- points-of                  bytes are the points that are read from them
+-- hidden-some, hidden-most   a party holds the hidden leaf exactly where one is hidden
+-- axis-made                  an axis
+-- rows-made                  all axes
+use mathlib.Core.Path.{_≡_, refl, sym, ap, ap₂, _∙_}
+use mathlib.Core.Bool.{Bool, true, false, cond}
+use mathlib.Core.List.{List, _++_}
+use Prim.Native.Nat.{ℕ, suc, _+_, _*_, _≤_, _<_}
+use native.Mathlib.Omega.{arith}
+use borrow.Author.Tests.{lt-ltb}
+use lib.Dec.{ltb}
+use lib.ListN.{length, getD, take, drop, take-append-drop, length-drop}
+use lib.Seq.{take-all}
+use Rattle.lists.specs.Part.{part}
+use Rattle.lists.specs.Sum.{xorList}
+use Rattle.lists.specs.Sum.Laws.{xorList-append}
+use Rattle.tower.specs.Field.{Point, bytesOf, bytesOf-point}
+use Rattle.parameters.specs.declared.Parameters.{Parameters}
+use Rattle.exchange.specs.Layout.{bits, leaves, digit}
+use Rattle.exchange.specs.Layout.Laws.{digit-lt}
+use Rattle.exchange.specs.Sequences.{joined}
+use Rattle.exchange.specs.Sequences.Laws.{joined-ext}
+use Rattle.exchange.specs.Reading.{points, bytesAt, pointAt, encode}
+use Rattle.exchange.specs.Reading.Laws.{bytesAt-part, length-encode, encode-ext}
+use Rattle.exchange.specs.Values.{Key, alpha, beta}
+use Rattle.values.specs.Announced.{announcedOf, constantsOf}
+use Rattle.values.specs.Filled.{filled-block}
+use Rattle.values.specs.Shares.{shareOf, blockOf}
+use Rattle.partyrows.specs.Difference.{encode-xor, shareRow}
+use Rattle.partyrows.specs.Row.{withConstants, rowBy, hiddenParty, withHidden, sumsBy, axisBy}
+use Rattle.partyrows.specs.Row.Laws.{withConstants-is, rowBy-is}
+use Rattle.axes.specs.Announcing.{partyFrom, rowOf}
+use Rattle.axes.specs.Parties.{hatAlpha, hatBeta, row-made}
+
+pub record Evaluated (p : Parameters) (key : Key) (m2 parts blocks constants : List ℕ) : Type 0 where
+  pub announcements : (i : ℕ) → i < p .d + 1 → blockOf p blocks i ≡ announcedOf p key m2 (shareOf p parts i)
+  pub party-one : constants ≡ constantsOf p key m2
+
+-- ---- bytes read as points
+
+part-point : (s : List ℕ) (i : ℕ) → ((j : ℕ) → getD s j 0 < 256) → i + 4 ≤ length s → part s i 4 ≡ bytesOf (pointAt s i)
+unfolding pointAt bytesAt
+part-point s i b h =
+    sym (bytesAt-part s i 4 h)
+    ∙ sym (bytesOf-point ((getD s i 0, getD s (suc i) 0), (getD s (suc (suc i)) 0, getD s (suc (suc (suc i))) 0))
+    (b i, b (suc i), b (suc (suc i)), b (suc (suc (suc i)))))
+
+pub points-of : (s : List ℕ) (t : ℕ) → length s ≡ 8 * t → ((j : ℕ) → getD s j 0 < 256)
+    → s ≡ encode (λ l. pointAt s (4 * l)) t ++ encode (λ l. pointAt s (4 * t + 4 * l)) t
+unfolding part
+points-of s t e b =
+    sym (take-append-drop (4 * t) s)
+    ∙ ap₂ _++_
+    (filled-block (λ l. pointAt s (4 * l)) s 0 t
+    (λ l h. let z : 0 + 4 * l ≡ 4 * l = omega arith in ap (λ (i : ℕ). take 4 (drop i s)) z ∙ part-point s (4 * l) b (omega arith)))
+    (sym (take-all (4 * t) (drop (4 * t) s) (let k = length-drop (4 * t) s in omega arith))
+    ∙ filled-block (λ l. pointAt s (4 * t + 4 * l)) s (4 * t) t (λ l h. part-point s (4 * t + 4 * l) b (omega arith)))
+
+-- ---- the party that holds the hidden leaf
+
+module _ (p : Parameters) (leaf j : ℕ) where
+  pub hidden-most : hiddenParty p leaf j ≤ 2
+  unfolding hiddenParty bits
+  hidden-most = go (ltb leaf (leaves p))
+    where
+      go : (b : Bool) → cond b (digit p j leaf) 2 ≤ 2
+      go true = let h = digit-lt p j leaf in omega arith
+      go false = omega arith
+
+  pub hidden-some : ltb (hiddenParty p leaf j) 2 ≡ ltb leaf (leaves p)
+  unfolding hiddenParty bits
+  hidden-some = go (ltb leaf (leaves p))
+    where
+      go : (b : Bool) → ltb (cond b (digit p j leaf) 2) 2 ≡ b
+      go true = lt-ltb (digit p j leaf) 2 (digit-lt p j leaf)
+      go false = refl
+
+-- ---- the axes
+
+module _ (p : Parameters) (key : Key) (m2 parts : List ℕ) (leaf : ℕ) (hidden blocks constants sums total : List ℕ)
+    (given : Evaluated p key m2 parts blocks constants) (sized : length hidden ≡ 8 * p .t) (bytes : (i : ℕ) → getD hidden i 0 < 256)
+    (es : sums ≡ sumsBy p leaf (blockOf p blocks (p .d)) constants hidden)
+    (et : total ≡ rowBy p (shareOf p parts (p .d)) (blockOf p blocks (p .d)) constants sums) where
+  α⋆ : ℕ → Point
+  α⋆ l = pointAt hidden (4 * l)
+
+  β⋆ : ℕ → Point
+  β⋆ l = pointAt hidden (4 * p .t + 4 * l)
+
+  all : List ℕ
+  all = shareOf p parts (p .d)
+
+  α̂ : ℕ → Point
+  α̂ = hatAlpha p key m2 all α⋆ (ltb leaf (leaves p))
+
+  β̂ : ℕ → Point
+  β̂ = hatBeta p key m2 all β⋆ (ltb leaf (leaves p))
+
+  hidden-is : hidden ≡ encode α⋆ (p .t) ++ encode β⋆ (p .t)
+  unfolding α⋆ β⋆
+  hidden-is = points-of hidden (p .t) sized bytes
+
+  all-is : withConstants p (blockOf p blocks (p .d)) constants ≡ encode (alpha p key m2 true all) (p .t) ++ encode (beta p key m2 true all) (p .t)
+  unfolding all
+  all-is = withConstants-is p key m2 (shareOf p parts (p .d)) _ _ (given .announcements (p .d) (omega arith)) (given .party-one)
+
+  sums-is : sums ≡ encode α̂ (p .t) ++ encode β̂ (p .t)
+  unfolding sumsBy withHidden α̂ β̂ hatAlpha hatBeta
+  sums-is = es ∙ go (ltb leaf (leaves p))
+    where
+      go : (b : Bool)
+          → cond b (xorList (withConstants p (blockOf p blocks (p .d)) constants) hidden) (withConstants p (blockOf p blocks (p .d)) constants)
+          ≡ encode (hatAlpha p key m2 all α⋆ b) (p .t) ++ encode (hatBeta p key m2 all β⋆ b) (p .t)
+      go true =
+          ap₂ xorList all-is hidden-is
+          ∙ xorList-append (encode (alpha p key m2 true all) (p .t)) (encode α⋆ (p .t)) (encode (beta p key m2 true all) (p .t)) (encode β⋆ (p .t))
+          (length-encode _ (p .t) ∙ sym (length-encode _ (p .t)))
+          ∙ ap₂ _++_ (encode-xor _ _ (p .t)) (encode-xor _ _ (p .t))
+      go false =
+          all-is
+          ∙ ap₂ _++_ (encode-ext _ _ (p .t) (λ l h. sym (points .base .add-zero _))) (encode-ext _ _ (p .t) (λ l h. sym (points .base .add-zero _)))
+
+  -- the row of share i of the D + 1
+  share-is : (i : ℕ) → i < p .d + 1 → rowBy p (shareOf p parts i) (blockOf p blocks i) constants sums ≡ shareRow p key m2 true (shareOf p parts i) α̂ β̂
+  share-is i h = rowBy-is p key m2 (shareOf p parts i) _ _ _ α̂ β̂ (given .announcements i h) (given .party-one) sums-is
+
+  pub axis-made : (j : ℕ) → j < p .d
+      → axisBy p (shareOf p parts j) (blockOf p blocks j) constants sums total (hiddenParty p leaf j) hidden ≡ rowOf p key m2 parts leaf hidden j
+  unfolding axisBy rowOf partyFrom α̂ β̂ α⋆ β⋆ all
+  axis-made j h =
+      sym (row-made p key m2 (partyFrom p parts j) all refl α⋆ β⋆ hidden hidden-is (hiddenParty p leaf j)
+      (rowBy p (shareOf p parts j) (blockOf p blocks j) constants sums) total (hidden-most p leaf j)
+      (share-is j (omega arith) ∙ hats (shareOf p parts j))
+      (et ∙ share-is (p .d) (omega arith) ∙ hats (shareOf p parts (p .d))))
+    where
+      hats : (s : List ℕ) → shareRow p key m2 true s α̂ β̂
+          ≡ shareRow p key m2 true s (hatAlpha p key m2 all α⋆ (ltb (hiddenParty p leaf j) 2)) (hatBeta p key m2 all β⋆ (ltb (hiddenParty p leaf j) 2))
+      hats s =
+          ap (λ (b : Bool). shareRow p key m2 true s (hatAlpha p key m2 all α⋆ b) (hatBeta p key m2 all β⋆ b)) (sym (hidden-some p leaf j))
+
+  pub rows-made : joined (λ j. axisBy p (shareOf p parts j) (blockOf p blocks j) constants sums total (hiddenParty p leaf j) hidden) (p .d)
+      ≡ joined (rowOf p key m2 parts leaf hidden) (p .d)
+  rows-made = joined-ext _ _ (p .d) axis-made

@@ -1,0 +1,34 @@
+-- The parameters are within their limits.
+use borrow.Author.Needs.{needs}
+use Rattle.demonstration.proofs.exchange.Statement.{statement}
+use Rattle.demonstration.proofs.exchange.Tie as tie
+
+received-requires : tie.Need-received-requires
+received-requires c κs = c .before .before .before .before .before .before .before .before .before .before .before .before .before .before .before .before .before .before .before .before .before .before .before .pre
+
+pub exchange-spec : {M : Type 1} → statement M
+exchange-spec =
+    tie.close
+    (tie.spec
+    (λ c κs. search needs)
+    (λ c κs. search needs)
+    (λ c κs. search needs)
+    (λ c κs. search needs)
+    (λ c. search needs)
+    (λ c. search needs)
+    (λ c. search needs)
+    (λ c. search needs)
+    (λ c κs. search needs)
+    (λ c. search needs)
+    (λ c κs. search needs)
+    (λ c. search needs)
+    (λ c. search needs)
+    (λ c κs. search needs)
+    (λ c. search needs)
+    (λ c. search needs)
+    (λ c κs. search needs)
+    (λ c. search needs)
+    (λ c. search needs)
+    received-requires
+    (λ c κs. search needs)
+    (λ c. search needs))

@@ -1,4 +1,0 @@
-pub mod Tables
-pub mod Steps
-pub mod Permutation
-pub mod Rules

@@ -1,0 +1,1 @@
+// Theory only: the key listing of document 01 is in specs/.

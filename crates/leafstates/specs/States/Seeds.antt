@@ -1,0 +1,58 @@
+-- The states of all leaves from the seeds that the seed tree gives.
+--
+-- levels-is       the seed tree has D levels
+-- own-states      from all leaf seeds: the prover's states
+-- opened-states   from the leaf seeds that an opening's siblings give: the states of the leaves that it discloses
+use mathlib.Core.Path.{_≡_, sym, ap, _∙_}
+use mathlib.Core.List.{List}
+use Prim.Native.Nat.{ℕ, _*_, _≤_, _<_}
+use native.Mathlib.Nat.{one-mul}
+use lib.ListN.{length}
+use lib.Seq.{length-take-le}
+use Rattle.shake256.specs.Fips.{SHAKE256}
+use Rattle.shake256.proofs.Laws.{length-SHAKE256}
+use Rattle.parameters.specs.declared.Parameters.{Parameters}
+use Rattle.exchange.specs.Layout.{bits, levels, leaves}
+use Rattle.exchange.specs.Tree.{leafSeeds, openedSeeds}
+use Rattle.exchange.specs.Leaf.{state}
+use Rattle.exchange.specs.Messages.{ownState}
+use Rattle.exchange.specs.Opening.{Exchange, pathOf, openedState}
+use Rattle.seedtree.specs.Laid.{laid}
+use Rattle.seedtree.specs.Levels.Laws.{leafSeeds-part}
+use Rattle.seedtree.specs.Opened.{openedSeeds-part}
+use Rattle.leaves.specs.States.{stateAt}
+use Rattle.leafstates.specs.States.{statesOf}
+use Rattle.leafstates.specs.States.Laws.{stateAt-statesOf}
+
+pub levels-is : (p : Parameters) → levels p ≡ p .d
+unfolding bits
+levels-is p = one-mul (p .d)
+
+module _ (p : Parameters) (x salt root : List ℕ) (sixteen : length root ≡ 16) where
+  at-levels : (i : ℕ) → i < leaves p → stateAt (statesOf salt (laid (leafSeeds SHAKE256 salt (levels p) 1 root)) (leaves p)) i ≡ ownState SHAKE256 p x salt root i
+  unfolding ownState
+  at-levels i h =
+      stateAt-statesOf salt (laid (leafSeeds SHAKE256 salt (levels p) 1 root)) (leaves p) i h
+      ∙ ap (state SHAKE256 salt i) (leafSeeds-part SHAKE256 salt length-SHAKE256 (levels p) 1 root sixteen i h)
+
+  pub own-states : (i : ℕ) → i < leaves p → stateAt (statesOf salt (laid (leafSeeds SHAKE256 salt (p .d) 1 root)) (leaves p)) i ≡ ownState SHAKE256 p x salt root i
+  own-states i h =
+      ap (λ (l : ℕ). stateAt (statesOf salt (laid (leafSeeds SHAKE256 salt l 1 root)) (leaves p)) i) (sym (levels-is p)) ∙ at-levels i h
+
+module _ (p : Parameters) (e : Exchange) (is-leaf : e .leaf < leaves p) (long : 16 * levels p ≤ length (e .message5)) where
+  path : length (pathOf p e) ≡ 16 * levels p
+  unfolding pathOf
+  path = length-take-le (16 * levels p) (e .message5) long
+
+  opened-at-levels : (i : ℕ) → i < leaves p → (i ≡ e .leaf → ⊥)
+      → stateAt (statesOf (e .prefix) (laid (openedSeeds SHAKE256 (e .prefix) (levels p) 1 (e .leaf) (pathOf p e))) (leaves p)) i ≡ openedState SHAKE256 p e i
+  unfolding openedState
+  opened-at-levels i h other =
+      stateAt-statesOf (e .prefix) (laid (openedSeeds SHAKE256 (e .prefix) (levels p) 1 (e .leaf) (pathOf p e))) (leaves p) i h
+      ∙ ap (state SHAKE256 (e .prefix) i) (openedSeeds-part SHAKE256 (e .prefix) length-SHAKE256 (levels p) 1 (e .leaf) i (pathOf p e) path is-leaf h other)
+
+  pub opened-states : (i : ℕ) → i < leaves p → (i ≡ e .leaf → ⊥)
+      → stateAt (statesOf (e .prefix) (laid (openedSeeds SHAKE256 (e .prefix) (p .d) 1 (e .leaf) (pathOf p e))) (leaves p)) i ≡ openedState SHAKE256 p e i
+  opened-states i h other =
+      ap (λ (l : ℕ). stateAt (statesOf (e .prefix) (laid (openedSeeds SHAKE256 (e .prefix) l 1 (e .leaf) (pathOf p e))) (leaves p)) i) (sym (levels-is p))
+      ∙ opened-at-levels i h other

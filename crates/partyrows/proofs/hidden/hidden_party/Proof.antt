@@ -1,0 +1,26 @@
+-- A leaf below n has a party; no other number has one.
+use mathlib.Core.Path.{sym, _∙_}
+use native.Mathlib.Omega.{arith}
+use borrow.Author.Needs.{needs}
+use Rattle.exchange.specs.Layout.{bits}
+use Rattle.partyrows.specs.Row.Laws.{hidden-inside, hidden-outside}
+use Rattle.partyrows.proofs.hidden.hidden_party.Statement.{statement}
+use Rattle.partyrows.proofs.hidden.hidden_party.Tie as tie
+
+coordinate-requires : tie.Need-coordinate-requires
+coordinate-requires c κs = omega (arith, c .before .before .pre .1, c .before .before .pre .0 .d-most)
+
+returns : tie.Need-returns
+returns c =
+    let a = c .before .before .before .args in
+    c .coordinate .ensures
+    ∙ sym (hidden-inside (a .p) (a .leaf) (a .axis) (omega (arith, c .before .if1 .taken, c .before .before .leaf-count .ensures)))
+
+returns-2 : tie.Need-returns-2
+unfolding bits
+returns-2 c =
+    let a = c .before .before .args in
+    sym (hidden-outside (a .p) (a .leaf) (a .axis) (omega (arith, c .if1 .left, c .before .leaf-count .ensures)))
+
+pub hidden-party-spec : {M : Type 1} → statement M
+hidden-party-spec = tie.close (tie.spec (λ c κs. search needs) coordinate-requires returns returns-2)

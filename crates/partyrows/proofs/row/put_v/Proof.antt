@@ -1,0 +1,75 @@
+-- The loop's invariant: the first l points of out are v at the first l positions (`write-turn`).
+use mathlib.Core.Path.{_≡_, refl, sym, _∙_}
+use Prim.Native.Nat.{_-_, _≤_}
+use native.Mathlib.Omega.{arith}
+use borrow.Author.Needs.{needs}
+use lib.ListN.{length}
+use Rattle.lists.specs.Part.{putAt}
+use Rattle.exchange.specs.Reading.{encode}
+use Rattle.lagrange.specs.Written.{write-none, write-turn, write-end}
+use Rattle.partyrows.specs.Row.{vAt, vBy}
+use Rattle.partyrows.proofs.row.put_v.Statement.{statement}
+use Rattle.partyrows.proofs.row.put_v.Tie as tie
+
+abbrev Inv-loop : tie.InvT-loop
+Inv-loop p s block sums out₀ log pow l₀ out l = (l ≤ p .t) × (out ≡ putAt out₀ 0 (encode (vAt p s block sums) l)) × (length out ≡ length out₀)
+
+abbrev μ-loop : tie.MeasureT-loop
+μ-loop p s block sums out₀ log pow l₀ out l = p .t - l
+
+loop-holds : tie.Need-loop-holds Inv-loop μ-loop
+loop-holds c = (omega arith, write-none _ _, refl)
+
+row-v-requires : tie.Need-row-v-requires Inv-loop μ-loop
+row-v-requires c κs = search needs
+
+mul-put-point : tie.Need-mul-put-point Inv-loop μ-loop
+mul-put-point c = search needs
+
+put-point-requires : tie.Need-put-point-requires Inv-loop μ-loop
+put-point-requires c κs = search needs
+
+add-l : tie.Need-add-l Inv-loop μ-loop
+add-l c = search needs
+
+loop-less : tie.Need-loop-less Inv-loop μ-loop
+loop-less c = search needs
+
+loop-again : tie.Need-loop-again Inv-loop μ-loop
+loop-again c =
+    let q = c .before .before .before .before .before .before .before .loop in
+    let s = c .before .before .before .before .before .before .before .before .before .before .before .before in
+    let h = c .before .before .before .before .before .if1 .taken in (
+      omega (arith, h),
+      c .before .before .put-point .ensures
+          ∙ write-turn (vAt (s .args .p) (s .args .s .now) (s .args .block .now) (s .args .sums .now)) (s .args .out .now) (q .out) _ (q .l)
+          (omega (arith, h, s .pre .4)) (q .inv .1) (c .before .before .before .before .row-v .ensures),
+      c .before .before .put-point .kept .0 ∙ q .inv .2,
+    )
+
+same-length : tie.Need-same-length Inv-loop μ-loop
+same-length c = c .before .before .loop .inv .2
+
+returns : tie.Need-returns Inv-loop μ-loop
+unfolding vBy
+returns c =
+    let q = c .before .before .loop in
+    let s = c .before .before .before .before .before .before .before in
+    write-end (vAt (s .args .p) (s .args .s .now) (s .args .block .now) (s .args .sums .now)) (s .args .out .now) (q .out) (q .l) (s .args .p .t)
+    (omega (arith, c .if1 .left)) (sym (s .pre .4)) (q .inv .1)
+
+pub put-v-spec : {M : Type 1} → statement M
+put-v-spec =
+    tie.close
+    (tie.spec
+    Inv-loop
+    μ-loop
+    loop-holds
+    row-v-requires
+    mul-put-point
+    put-point-requires
+    add-l
+    loop-less
+    loop-again
+    same-length
+    returns)

@@ -1,0 +1,42 @@
+-- α̂ and β̂ are those of s with the constants, and the hidden leaf's.
+use mathlib.Core.Path.{ap, _∙_}
+use native.Mathlib.Omega.{arith}
+use borrow.Author.Needs.{needs}
+use Rattle.partyrows.specs.Row.{withHidden, sumsBy}
+use Rattle.partyrows.proofs.total.total_row_with.Statement.{statement}
+use Rattle.partyrows.proofs.total.total_row_with.Tie as tie
+
+put-row-requires : tie.Need-put-row-requires
+put-row-requires c κs =
+    let s = c .before .before .before .before .before .before .before .before .before .before .before .before .before .before .before .before in
+    let f = s .pre .0 in (
+      record {
+        within = f .within;
+        sized-s = f .sized-s;
+        sized-block = f .sized-block;
+        sized-constants = omega (arith, f .sized-constants, s .pre .1);
+        sized-sums = c .before .before .before .before .add-hidden .kept .1 .1 .1 .0 ∙ c .before .before .before .before .before .before .before .before .with-constants .kept .1 .1 .1 .0 ∙ f .sized-sums;
+      },
+      s .pre .2,
+      s .pre .3,
+      s .pre .4,
+    )
+
+returns : tie.Need-returns
+unfolding sumsBy
+returns c =
+    let a = c .before .before .before .before .before .before .before .before .before .before .before .before .before .before .before .before .before .before .before .args in (
+      c .before .before .before .before .before .before .before .add-hidden .ensures ∙ ap (withHidden (a .p) (a .leaf) (a .hidden .now)) (c .before .before .before .before .before .before .before .before .before .before .before .with-constants .ensures),
+      c .before .before .put-row .ensures,
+    )
+
+pub total-row-with-spec : {M : Type 1} → statement M
+total-row-with-spec =
+    tie.close
+    (tie.spec
+    (λ c κs. search needs)
+    (λ c κs. search needs)
+    put-row-requires
+    (λ c. search needs)
+    (λ c. search needs)
+    returns)

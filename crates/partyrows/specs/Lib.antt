@@ -1,0 +1,4 @@
+pub mod Difference
+pub mod Row
+pub mod Asked
+pub mod Slices

@@ -1,0 +1,180 @@
+-- What the code makes of a share is what the share announces.
+--
+-- v-read                               v from points that are read at their places
+-- withConstants-is, vBy-is, rowBy-is   the row of a share, from its block
+-- two-lengths                          two lists of points take 8t bytes
+-- hidden-inside, hidden-outside        the party that holds the hidden leaf, and where none is hidden
+-- withHidden-yes, withHidden-no        where a leaf is hidden, and where none is
+-- first-held, first-kept, second-held, second-kept   a party that holds the hidden leaf, and one that does not
+-- hide-made                            the row of the party that holds the hidden leaf, in points
+use mathlib.Core.Path.{_≡_, refl, sym, ap, ap₂, _∙_}
+use mathlib.Core.Bool.{Bool, true, false, cond}
+use mathlib.Core.List.{List, [], _++_, append-assoc, append-nil}
+use Prim.Native.Nat.{ℕ, _+_, _*_, _≤_, _<_}
+use native.Mathlib.Omega.{arith}
+use borrow.Author.Tests.{lt-ltb, le-ltb, eq-eqb, ne-eqb}
+use lib.ListN.{length, take, drop, length-append, drop-of-length-le}
+use lib.Seq.{take-at, drop-at}
+use Rattle.lists.specs.Part.{putAt}
+use Rattle.lists.specs.Sum.{xorList}
+use Rattle.lists.specs.Sum.Laws.{xorList-append, xorList-nil}
+use Rattle.tower.specs.Field.{Point, point, bytesOf, point-bytesOf}
+use Rattle.parameters.specs.declared.Parameters.{Parameters}
+use Rattle.exchange.specs.Layout.{side, leaves, digit}
+use Rattle.exchange.specs.Reading.{points, pointAt, encode, _⊞_}
+use Rattle.exchange.specs.Reading.Laws.{length-encode, encode-ext, pointAt-encode}
+use Rattle.exchange.specs.Values.{Key, alpha, beta, partV}
+use Rattle.exchange.specs.Values.Laws.{alphaConstant, betaConstant, alpha-first, beta-first}
+use Rattle.exchange.specs.Parties.{sums}
+use Rattle.values.specs.Announced.{gamma, announcedOf, constantsOf, vOf}
+use Rattle.values.specs.Announced.Laws.{partV-gamma}
+use Rattle.partyrows.specs.Difference.{encode-xor, shareRow}
+use Rattle.partyrows.specs.Row.{withConstants, vAt, vBy, rowBy, hiddenParty, withHidden, hideIn, firstBy, secondBy}
+
+-- ---- points behind others
+
+at-start : (f : ℕ → Point) (t l : ℕ) (after : List ℕ) → l < t → pointAt (encode f t ++ after) (4 * l) ≡ f l
+at-start f t l after h =
+    let z : 4 * l ≡ 0 + 4 * l = omega arith in ap (pointAt (encode f t ++ after)) z ∙ pointAt-encode [] f t after 0 l refl h
+
+at-end : (before : List ℕ) (f : ℕ → Point) (t i l : ℕ) → length before ≡ i → l < t → pointAt (before ++ encode f t) (i + 4 * l) ≡ f l
+at-end before f t i l e h =
+    ap (λ (z : List ℕ). pointAt (before ++ z) (i + 4 * l)) (sym (append-nil (encode f t))) ∙ pointAt-encode before f t [] i l e h
+
+pub two-lengths : (f g : ℕ → Point) (t : ℕ) → length (encode f t ++ encode g t) ≡ 8 * t
+two-lengths f g t =
+    let a = length-encode f t in
+    let b = length-encode g t in
+    length-append (encode f t) (encode g t) ∙ omega arith
+
+-- ---- a share's row
+
+pub v-read : (p : Parameters) (s block sums : List ℕ) (l : ℕ) (γ α̂ β̂ r : List ℕ) → γ ≡ bytesOf (pointAt block (8 * p .t + 4 * l))
+    → α̂ ≡ bytesOf (pointAt sums (4 * l)) → β̂ ≡ bytesOf (pointAt sums (4 * p .t + 4 * l))
+    → r ≡ bytesOf (vOf p s true (point γ) (point α̂) (point β̂) l) → r ≡ bytesOf (vAt p s block sums l)
+unfolding vAt
+v-read p s block sums l γ α̂ β̂ r eγ eα eβ er =
+    er
+    ∙ ap (λ (x : Point). bytesOf (vOf p s true x (point α̂) (point β̂) l)) (ap point eγ ∙ point-bytesOf _)
+    ∙ ap₂ (λ (x y : Point). bytesOf (vOf p s true (pointAt block (8 * p .t + 4 * l)) x y l)) (ap point eα ∙ point-bytesOf _) (ap point eβ ∙ point-bytesOf _)
+
+module _ (p : Parameters) (key : Key) (m2 s : List ℕ) where
+  pub withConstants-is : (block constants : List ℕ) → block ≡ announcedOf p key m2 s → constants ≡ constantsOf p key m2
+      → withConstants p block constants ≡ encode (alpha p key m2 true s) (p .t) ++ encode (beta p key m2 true s) (p .t)
+  unfolding withConstants announcedOf constantsOf
+  withConstants-is block constants eb ec =
+      ap₂ (λ (z k : List ℕ). xorList (take (8 * p .t) z) k) (eb ∙ sym (append-assoc alphas betas (encode (gamma p m2 s) (p .t)))) ec
+      ∙ ap (λ (z : List ℕ). xorList z (encode (alphaConstant p key m2) (p .t) ++ encode (betaConstant p key m2) (p .t)))
+      (take-at (alphas ++ betas) (encode (gamma p m2 s) (p .t)) (8 * p .t) (two-lengths _ _ (p .t)))
+      ∙ xorList-append alphas (encode (alphaConstant p key m2) (p .t)) betas (encode (betaConstant p key m2) (p .t))
+      (length-encode _ (p .t) ∙ sym (length-encode _ (p .t)))
+      ∙ ap₂ _++_
+      (encode-xor _ _ (p .t) ∙ encode-ext _ _ (p .t) (λ l h. points .base .add-comm _ _ ∙ sym (alpha-first p key m2 l s)))
+      (encode-xor _ _ (p .t) ∙ encode-ext _ _ (p .t) (λ l h. points .base .add-comm _ _ ∙ sym (beta-first p key m2 l s)))
+    where
+      alphas : List ℕ
+      alphas = encode (alpha p key m2 false s) (p .t)
+
+      betas : List ℕ
+      betas = encode (beta p key m2 false s) (p .t)
+
+  pub vBy-is : (block sums : List ℕ) (α̂ β̂ : ℕ → Point) → block ≡ announcedOf p key m2 s → sums ≡ encode α̂ (p .t) ++ encode β̂ (p .t)
+      → vBy p s block sums ≡ encode (λ l. partV p key m2 true s (α̂ l) (β̂ l) l) (p .t)
+  unfolding vBy vAt announcedOf
+  vBy-is block sums α̂ β̂ eb es =
+      encode-ext _ _ (p .t)
+      (λ l h.
+      ap (λ (x : Point). vOf p s true x (pointAt sums (4 * l)) (pointAt sums (4 * p .t + 4 * l)) l) (third l h)
+      ∙ ap₂ (λ (x y : Point). vOf p s true (gamma p m2 s l) x y l)
+      (ap (λ (z : List ℕ). pointAt z (4 * l)) es ∙ at-start α̂ (p .t) l (encode β̂ (p .t)) h)
+      (ap (λ (z : List ℕ). pointAt z (4 * p .t + 4 * l)) es ∙ at-end (encode α̂ (p .t)) β̂ (p .t) (4 * p .t) l (length-encode α̂ (p .t)) h)
+      ∙ sym (partV-gamma p key m2 true s (α̂ l) (β̂ l) l))
+    where
+      third : (l : ℕ) → l < p .t → pointAt block (8 * p .t + 4 * l) ≡ gamma p m2 s l
+      third l h =
+          ap (λ (z : List ℕ). pointAt z (8 * p .t + 4 * l))
+          (eb ∙ sym (append-assoc (encode (alpha p key m2 false s) (p .t)) (encode (beta p key m2 false s) (p .t)) (encode (gamma p m2 s) (p .t))))
+          ∙ at-end (encode (alpha p key m2 false s) (p .t) ++ encode (beta p key m2 false s) (p .t)) (gamma p m2 s) (p .t) (8 * p .t) l
+          (two-lengths _ _ (p .t)) h
+
+  pub rowBy-is : (block constants sums : List ℕ) (α̂ β̂ : ℕ → Point) → block ≡ announcedOf p key m2 s → constants ≡ constantsOf p key m2
+      → sums ≡ encode α̂ (p .t) ++ encode β̂ (p .t) → rowBy p s block constants sums ≡ shareRow p key m2 true s α̂ β̂
+  unfolding rowBy shareRow
+  rowBy-is block constants sums α̂ β̂ eb ec es =
+      ap₂ _++_ (withConstants-is block constants eb ec) (vBy-is block sums α̂ β̂ eb es)
+      ∙ append-assoc (encode (alpha p key m2 true s) (p .t)) (encode (beta p key m2 true s) (p .t)) _
+
+-- ---- the party that holds the hidden leaf
+
+module _ (p : Parameters) (leaf j : ℕ) where
+  pub hidden-inside : leaf < leaves p → hiddenParty p leaf j ≡ digit p j leaf
+  unfolding hiddenParty
+  hidden-inside h = ap (λ (b : Bool). cond b (digit p j leaf) (side p)) (lt-ltb leaf (leaves p) h)
+
+  pub hidden-outside : leaves p ≤ leaf → hiddenParty p leaf j ≡ side p
+  unfolding hiddenParty
+  hidden-outside h = ap (λ (b : Bool). cond b (digit p j leaf) (side p)) (le-ltb leaf (leaves p) h)
+
+module _ (p : Parameters) (leaf : ℕ) (hidden sums : List ℕ) where
+  pub withHidden-yes : leaf < leaves p → withHidden p leaf hidden sums ≡ xorList sums hidden
+  unfolding withHidden
+  withHidden-yes h = ap (λ (b : Bool). cond b (xorList sums hidden) sums) (lt-ltb leaf (leaves p) h)
+
+  pub withHidden-no : leaves p ≤ leaf → withHidden p leaf hidden sums ≡ sums
+  unfolding withHidden
+  withHidden-no h = ap (λ (b : Bool). cond b (xorList sums hidden) sums) (le-ltb leaf (leaves p) h)
+
+module _ (p : Parameters) (party : ℕ) (hidden a b : List ℕ) where
+  pub first-held : party ≡ 0 → firstBy p party hidden a b ≡ hideIn p hidden a b
+  unfolding firstBy
+  first-held e = ap (λ (t : Bool). cond t (hideIn p hidden a b) a) (eq-eqb party 0 e)
+
+  pub first-kept : (party ≡ 0 → ⊥) → firstBy p party hidden a b ≡ a
+  unfolding firstBy
+  first-kept e = ap (λ (t : Bool). cond t (hideIn p hidden a b) a) (ne-eqb party 0 e)
+
+  pub second-held : party ≡ 1 → secondBy p party hidden a b ≡ hideIn p hidden b a
+  unfolding secondBy
+  second-held e = ap (λ (t : Bool). cond t (hideIn p hidden b a) b) (eq-eqb party 1 e)
+
+  pub second-kept : (party ≡ 1 → ⊥) → secondBy p party hidden a b ≡ b
+  unfolding secondBy
+  second-kept e = ap (λ (t : Bool). cond t (hideIn p hidden b a) b) (ne-eqb party 1 e)
+
+module _ (p : Parameters) (f g v f′ g′ v′ α⋆ β⋆ : ℕ → Point) (hidden : List ℕ) (eh : hidden ≡ encode α⋆ (p .t) ++ encode β⋆ (p .t)) where
+  summed : xorList (encode f (p .t) ++ (encode g (p .t) ++ encode v (p .t))) hidden
+      ≡ (encode (λ l. f l ⊞ α⋆ l) (p .t) ++ encode (λ l. g l ⊞ β⋆ l) (p .t)) ++ encode v (p .t)
+  summed =
+      ap₂ xorList
+      (sym (append-assoc (encode f (p .t)) (encode g (p .t)) (encode v (p .t))))
+      (eh ∙ sym (append-nil (encode α⋆ (p .t) ++ encode β⋆ (p .t))))
+      ∙ xorList-append (encode f (p .t) ++ encode g (p .t)) (encode α⋆ (p .t) ++ encode β⋆ (p .t)) (encode v (p .t)) []
+      (two-lengths f g (p .t) ∙ sym (two-lengths α⋆ β⋆ (p .t)))
+      ∙ ap₂ _++_
+      (xorList-append (encode f (p .t)) (encode α⋆ (p .t)) (encode g (p .t)) (encode β⋆ (p .t)) (length-encode f (p .t) ∙ sym (length-encode α⋆ (p .t)))
+      ∙ ap₂ _++_ (encode-xor f α⋆ (p .t)) (encode-xor g β⋆ (p .t)))
+      (xorList-nil (encode v (p .t)))
+
+  last : drop (8 * p .t) (encode f′ (p .t) ++ (encode g′ (p .t) ++ encode v′ (p .t))) ≡ encode v′ (p .t)
+  last =
+      ap (drop (8 * p .t)) (sym (append-assoc (encode f′ (p .t)) (encode g′ (p .t)) (encode v′ (p .t))))
+      ∙ drop-at (encode f′ (p .t) ++ encode g′ (p .t)) (encode v′ (p .t)) (8 * p .t) (two-lengths f′ g′ (p .t))
+
+  pub hide-made : hideIn p hidden (encode f (p .t) ++ (encode g (p .t) ++ encode v (p .t))) (encode f′ (p .t) ++ (encode g′ (p .t) ++ encode v′ (p .t)))
+      ≡ encode (λ l. f l ⊞ α⋆ l) (p .t) ++ (encode (λ l. g l ⊞ β⋆ l) (p .t) ++ encode v′ (p .t))
+  unfolding hideIn putAt
+  hide-made =
+      ap₂ (λ (d s : List ℕ). take (8 * p .t) d ++ (s ++ drop (8 * p .t + length s) d)) summed last
+      ∙ ap₂ (λ (a b : List ℕ). a ++ (encode v′ (p .t) ++ b))
+      (take-at (encode (λ l. f l ⊞ α⋆ l) (p .t) ++ encode (λ l. g l ⊞ β⋆ l) (p .t)) (encode v (p .t)) (8 * p .t) (two-lengths _ _ (p .t)))
+      (drop-of-length-le ((encode (λ l. f l ⊞ α⋆ l) (p .t) ++ encode (λ l. g l ⊞ β⋆ l) (p .t)) ++ encode v (p .t)) short)
+      ∙ ap (λ (z : List ℕ). (encode (λ l. f l ⊞ α⋆ l) (p .t) ++ encode (λ l. g l ⊞ β⋆ l) (p .t)) ++ z) (append-nil (encode v′ (p .t)))
+      ∙ append-assoc (encode (λ l. f l ⊞ α⋆ l) (p .t)) (encode (λ l. g l ⊞ β⋆ l) (p .t)) (encode v′ (p .t))
+    where
+      short : length ((encode (λ l. f l ⊞ α⋆ l) (p .t) ++ encode (λ l. g l ⊞ β⋆ l) (p .t)) ++ encode v (p .t)) ≤ 8 * p .t + length (encode v′ (p .t))
+      short =
+          let a = two-lengths (λ l. f l ⊞ α⋆ l) (λ l. g l ⊞ β⋆ l) (p .t) in
+          let b = length-encode v (p .t) in
+          let c = length-encode v′ (p .t) in
+          let e = length-append (encode (λ l. f l ⊞ α⋆ l) (p .t) ++ encode (λ l. g l ⊞ β⋆ l) (p .t)) (encode v (p .t)) in
+          omega arith

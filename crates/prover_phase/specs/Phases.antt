@@ -1,0 +1,43 @@
+-- The phases of a prover's session.
+--
+-- isFresh, isBegun, isAnswered, isClosed   which phase it is
+-- proverPhaseByte f     the phase as a byte
+-- proverPhaseFrom b     and back; any other byte is `Fresh`, so that any bytes are some session
+use Prim.Native.Nat.{ℕ}
+use mathlib.Core.Bool.{Bool, true, false, cond}
+use lib.Dec.{eqb}
+use Rattle.prover_phase.specs.declared.Phase.{Phase}
+use Rattle.prover_phase.specs.declared.Phase.the-variants.{Fresh, Begun, Answered, Closed}
+
+abbrev pub isFresh : Phase → Bool
+isFresh Fresh = true
+isFresh Begun = false
+isFresh Answered = false
+isFresh Closed = false
+
+abbrev pub isBegun : Phase → Bool
+isBegun Fresh = false
+isBegun Begun = true
+isBegun Answered = false
+isBegun Closed = false
+
+abbrev pub isAnswered : Phase → Bool
+isAnswered Fresh = false
+isAnswered Begun = false
+isAnswered Answered = true
+isAnswered Closed = false
+
+abbrev pub isClosed : Phase → Bool
+isClosed Fresh = false
+isClosed Begun = false
+isClosed Answered = false
+isClosed Closed = true
+
+abbrev pub proverPhaseByte : Phase → ℕ
+proverPhaseByte Fresh = 0
+proverPhaseByte Begun = 1
+proverPhaseByte Answered = 2
+proverPhaseByte Closed = 3
+
+abbrev pub proverPhaseFrom : ℕ → Phase
+proverPhaseFrom b = cond (eqb b 1) Begun (cond (eqb b 2) Answered (cond (eqb b 3) Closed Fresh))

@@ -1,0 +1,3 @@
+pub mod Message5
+pub mod Taken
+pub mod Opening

@@ -1,0 +1,57 @@
+// Message 5 read by a reader: D sibling seeds, the hidden leaf's commitment, its α and β, then aux unless leaf n−1 is hidden.
+use crate::left;
+use crate::start;
+use crate::take;
+use parameters::Parameters;
+ghost use mathlib.Core.Path.{_≡_};
+ghost use lib.ListN.{length};
+ghost use Rattle.lists.specs.Part.{putAt};
+ghost use Rattle.reader.specs.Message5.{siblingsIn, commitmentIn, valuesIn, auxIn};
+ghost use Rattle.reader.specs.Opening.{Asked, Parts};
+
+// The sibling seeds at D 8.
+pub const MOST_SIBLINGS: usize = 128;
+
+// α and β at t 8.
+pub const MOST_VALUES: usize = 64;
+
+// Takes the parts of a message one after another, each as far as it reaches; the answer is how much is left behind them.
+fn read_parts(
+    message: &[u8],
+    siblings: &mut [u8],
+    commitment: &mut [u8],
+    values: &mut [u8],
+) -> usize
+    ensures { λ n. ⌜ Parts (now (message .entry)) (now (siblings .entry)) (now (commitment .entry)) (now (values .entry)) n (now (siblings .exit)) (now (commitment .exit)) (now (values .exit)) ⌝ }
+{
+    let reader = start(message);
+    let behind_siblings = take(reader, siblings);
+    let behind_commitment = take(behind_siblings, commitment);
+    let behind_values = take(behind_commitment, values);
+    left(behind_values)
+}
+
+// Reads message 5 into the fronts of siblings and values and into commitment; the answer is how long aux is, which is the rest
+// and stays where it stands.
+pub fn read_opening(
+    p: Parameters,
+    message5: &[u8],
+    siblings: &mut [u8],
+    commitment: &mut [u8],
+    values: &mut [u8],
+) -> usize
+    requires { ⌜ Asked p (now message5) (now siblings) (now commitment) (now values) ⌝ }
+    ensures { λ r. ⌜ r ≡ length (auxIn p (now (message5 .entry))) ⌝ }
+    ensures { λ _. ⌜ now (siblings .exit) ≡ putAt (now (siblings .entry)) 0 (siblingsIn p (now (message5 .entry))) ⌝ }
+    ensures { λ _. ⌜ now (commitment .exit) ≡ commitmentIn p (now (message5 .entry)) ⌝ }
+    ensures { λ _. ⌜ now (values .exit) ≡ putAt (now (values .entry)) 0 (valuesIn p (now (message5 .entry))) ⌝ }
+{
+    let seeds = 16 * p.d;
+    let points = 8 * p.t;
+    read_parts(
+        message5,
+        &mut siblings[..seeds],
+        commitment,
+        &mut values[..points],
+    )
+}

@@ -1,0 +1,4 @@
+pub mod Key
+pub mod Light
+pub mod Admission
+pub mod Cases

@@ -1,0 +1,1 @@
+// Theory only: the definitions and laws are in specs/.

@@ -1,0 +1,40 @@
+-- Below 1,000 it is a decimal of three digits at most; else that of a tenth of it, and its last digit behind.
+use Prim.Native.Nat.{_/_}
+use native.Mathlib.Omega.{arith}
+use borrow.Author.Needs.{needs}
+use Rattle.keylisting.specs.Listing.Laws.{length-decimalText}
+use Rattle.report.specs.Lines.Laws.{number-three, number-four}
+use Rattle.report.proofs.put_number.Statement.{statement}
+use Rattle.report.proofs.put_number.Tie as tie
+
+returns : tie.Need-returns
+returns c =
+    let d = c .before .before in
+    let s = d .before .before .before .before in
+    number-three (s .args .out .now) (s .args .at) (s .args .n) (d .before .before .if1 .taken) (d .put-decimal .ensures .0) (d .put-decimal .ensures .1)
+
+put-requires : tie.Need-put-requires
+put-requires c κs =
+    let d = c .before .before .before .before in
+    omega (arith, length-decimalText (d .before .before .before .before .args .n / 10), d .put-decimal2 .ensures .0, d .put-decimal2 .kept .0)
+
+returns-2 : tie.Need-returns-2
+returns-2 c =
+    let d = c .before .before .before .before .before .before .before in
+    let s = d .before .before .before .before in
+    number-four (s .args .out .now) (s .args .at) (s .args .n) (omega arith) (s .pre .1) (d .put-decimal2 .ensures .0) (d .put-decimal2 .ensures .1) (c .before .before .put .ensures)
+
+pub put-number-spec : {M : Type 1} → statement M
+put-number-spec =
+    tie.close
+    (tie.spec
+    (λ c κs. search needs)
+    (λ c. search needs)
+    returns
+    (λ c κs. search needs)
+    (λ c. search needs)
+    (λ c. search needs)
+    (λ c. search needs)
+    put-requires
+    (λ c. search needs)
+    returns-2)

@@ -1,0 +1,79 @@
+-- The lines written part by part.
+--
+-- written-as               what was written, under another name
+-- number-three, number-four    a decimal of at most three digits, and one of four
+-- set-written, message-written, refused-written      the lines
+-- written-fits             a line written to the front lies within what it was written to
+use mathlib.Core.Path.{_≡_, ap, _∙_}
+use mathlib.Core.List.{List, [], _∷_, _++_, append-assoc}
+use Prim.Native.Nat.{ℕ, _+_, _/_, _%_, _≤_, _<_}
+use native.Mathlib.Omega.{arith}
+use borrow.Author.Tests.{lt-ltb, le-ltb}
+use lib.ListN.{length}
+use Rattle.lists.specs.Part.{putAt}
+use Rattle.answers.specs.declared.Answer.the-variants.{Refused}
+use Rattle.answers.specs.declared.Refusal.{Refusal}
+use Rattle.answers.specs.Number.{refusalNumber}
+use Rattle.parameters.specs.declared.Parameters.{Parameters}
+use Rattle.shake256.specs.Fips.{SHAKE256}
+use Rattle.text.specs.Decimal.{decimalText}
+use Rattle.keyform.specs.Form.{setWord}
+use Rattle.keylisting.specs.Listing.{refusedWord, resultLine}
+use Rattle.keylisting.specs.Listing.Laws.{Written, lines-written, length-decimalText, written-whole}
+use Rattle.keylisting.specs.Finish.Laws.{fits-room}
+use Rattle.report.specs.Lines.{verdictWord, numberText, numberField, setLine, messageLine, verdictLine}
+
+pub written-as : {d d′ s t : List ℕ} {at r : ℕ} → s ≡ t → Written d at s r d′ → Written d at t r d′
+written-as {d} {at = at} q v = record { next = v .next ∙ ap (λ (t : List ℕ). at + length t) q; list = v .list ∙ ap (putAt d at) q }
+
+pub written-fits : {d d′ t : List ℕ} {r : ℕ} → Written d 0 t r d′ → r ≤ length d′
+written-fits {d} {t = t} v = let w = written-whole d t v in fits-room d t (w .0) (w .1)
+
+module _ (d : List ℕ) (at n : ℕ) where
+  pub number-three : {d′ : List ℕ} {r : ℕ} → n < 1_000 → r ≡ at + length (decimalText n) → d′ ≡ putAt d at (decimalText n)
+      → Written d at (numberText n) r d′ × (r ≤ at + 4)
+  unfolding numberText
+  number-three h e f = (rw (lt-ltb n 1_000 h) (record { next = e; list = f }), omega (arith, length-decimalText n))
+
+  pub number-four : {d₁ d₂ : List ℕ} {a r : ℕ} → 1_000 ≤ n → at + 4 ≤ length d → a ≡ at + length (decimalText (n / 10))
+      → d₁ ≡ putAt d at (decimalText (n / 10)) → Written d₁ a ((48 + n % 10) ∷ []) r d₂ → Written d at (numberText n) r d₂ × (r ≤ at + 4)
+  unfolding numberText
+  number-four {a = a} {r = r} h room e f v =
+      let l = length-decimalText (n / 10) in
+      let k : r ≤ at + 4 = omega (arith, v .next) in
+      (rw (le-ltb n 1_000 h) (lines-written (omega arith) (record { next = e; list = f }) v), k)
+
+regrouped : (a b c d e f g : List ℕ) → (((((a ++ b) ++ c) ++ d) ++ e) ++ f) ++ g ≡ a ++ (b ++ (c ++ (d ++ (e ++ (f ++ g)))))
+regrouped a b c d e f g = simp append-assoc
+
+pub set-written : (d : List ℕ) (p : Parameters) {d₁ d₂ d₃ d₄ d₅ d₆ d₇ : List ℕ} {a b c e f g r : ℕ} → r ≤ length d → Written d 0 setWord a d₁
+    → Written d₁ a (numberField (p .m)) b d₂ → Written d₂ b (numberField (p .k)) c d₃ → Written d₃ c (numberField (p .w)) e d₄
+    → Written d₄ e (numberField (p .d)) f d₅ → Written d₅ f (numberField (p .t)) g d₆ → Written d₆ g (10 ∷ []) r d₇ → Written d 0 (setLine p) r d₇
+unfolding setLine
+set-written d p {a = a} {b = b} {c = c} {e = e} {f = f} {g = g} {r = r} h v₁ v₂ v₃ v₄ v₅ v₆ v₇ =
+    let n₂ = v₂ .next in
+    let n₃ = v₃ .next in
+    let n₄ = v₄ .next in
+    let n₅ = v₅ .next in
+    let n₆ = v₆ .next in
+    let n₇ = v₇ .next in
+    let v = lines-written (omega arith) (lines-written (omega arith) (lines-written (omega arith) v₁ v₂) v₃) v₄ in
+    let all = lines-written h (lines-written (omega arith) (lines-written (omega arith) v v₅) v₆) v₇ in
+    written-as (regrouped setWord (numberField (p .m)) (numberField (p .k)) (numberField (p .w)) (numberField (p .d)) (numberField (p .t)) (10 ∷ [])) all
+
+pub message-written : (d name s : List ℕ) {d₁ d₂ d₃ : List ℕ} {a b r : ℕ} → r ≤ length d → Written d 0 name a d₁
+    → Written d₁ a (numberField (length s)) b d₂ → Written d₂ b (resultLine [] (SHAKE256 s 32)) r d₃ → Written d 0 (messageLine name s) r d₃
+unfolding messageLine resultLine
+message-written d name s {a = a} {b = b} {r = r} h v₁ v₂ v₃ =
+    let n₃ = v₃ .next in
+    written-as (simp append-assoc) (lines-written h (lines-written (omega arith) v₁ v₂) v₃)
+
+abbrev verdictRefused : List ℕ
+verdictRefused = 118 ∷ 101 ∷ 114 ∷ 100 ∷ 105 ∷ 99 ∷ 116 ∷ 9 ∷ 114 ∷ 101 ∷ 102 ∷ 117 ∷ 115 ∷ 101 ∷ 100 ∷ []
+
+pub refused-written : (d : List ℕ) (q : Refusal) {d₁ d₂ d₃ : List ℕ} {a b n r : ℕ} → r ≤ length d → Written d 0 verdictRefused a d₁
+    → n ≡ refusalNumber q → Written d₁ a (numberField n) b d₂ → Written d₂ b (10 ∷ []) r d₃ → Written d 0 (verdictLine (Refused q)) r d₃
+unfolding verdictLine verdictWord refusedWord
+refused-written d q {a = a} {b = b} {n = n} {r = r} h v₁ e v₂ v₃ =
+    let n₃ = v₃ .next in
+    written-as (append-assoc verdictRefused (numberField n) (10 ∷ []) ∙ ap (λ (m : ℕ). verdictRefused ++ (numberField m ++ (10 ∷ []))) e) (lines-written h (lines-written (omega arith) v₁ v₂) v₃)

@@ -1,0 +1,2 @@
+pub mod StandIn
+pub mod Definitions

@@ -1,0 +1,3 @@
+pub mod Point
+pub mod Value
+pub mod Field

@@ -1,0 +1,2 @@
+pub mod TwoAxes
+pub mod TwoAxesFindings

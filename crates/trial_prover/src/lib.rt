@@ -1,0 +1,1 @@
+// Theory only: the computed trials of the prover's calls are in specs/.
