@@ -1,6 +1,6 @@
 /* One exchange and one extraction at a parameter set, by the C interface. With a call's name as the last argument only that
    call is made between two marks, so that callgrind counts it alone; with 'stack' each call runs on a painted stack of its
-   own and its use is printed. */
+   own and its use is printed; with 'sizes' what a caller lends. */
 #include <stdint.h>
 #include <stdio.h>
 #include <stdlib.h>
@@ -78,7 +78,7 @@ static void extract(void) {
         matrix, (m - k) * k, y, m - k, work, work_size, states, unlock_extract_size(m, k, w, d, t));
 }
 
-/* callgrind starts and stops its count here */
+/* callgrind counts from here on, to its end */
 __attribute__((noinline)) void counted(void (*call)(void)) {
     call();
 }
@@ -99,7 +99,7 @@ static void use_of_stack(const char *name, void (*call)(void)) {
     swapcontext(&home, &away);
     size_t untouched = 0;
     while (untouched < ROOM && room[untouched] == 0xc7) untouched++;
-    printf("stack %s: %zu bytes\n", name, (size_t)ROOM - untouched);
+    printf("stack\t%zu %zu %zu %zu %zu\t%s\t%zu\n", m, k, w, d, t, name, (size_t)ROOM - untouched);
     free(room);
 }
 
@@ -110,9 +110,22 @@ static void check(const char *name, uint32_t expected) {
     }
 }
 
+static void size(const char *name, size_t bytes) {
+    printf("size\t%zu %zu %zu %zu %zu\t%s\t%zu\n", m, k, w, d, t, name, bytes);
+}
+
+static void sizes(void) {
+    size("prover's session", prover_size);
+    size("verifier's session", verifier_size);
+    size("work area", work_size);
+    size("matrix", (m - k) * k);
+    size("message 5", opening_size(0));
+    size("extractor's output", unlock_extract_size(m, k, w, d, t));
+}
+
 int main(int words, char **word) {
     if (words != 7) {
-        fprintf(stderr, "usage: calls M K W D T begin|points|leaf|opening|extract|stack\n");
+        fprintf(stderr, "usage: calls M K W D T begin|points|leaf|opening|extract|stack|sizes\n");
         return 2;
     }
     m = strtoul(word[1], 0, 10), k = strtoul(word[2], 0, 10), w = strtoul(word[3], 0, 10);
@@ -122,6 +135,7 @@ int main(int words, char **word) {
     void (*calls[])(void) = { begin, points, leaf_call, judge, extract };
     prover_size = unlock_prover_size(), verifier_size = unlock_verifier_size();
     work_size = unlock_work_size(m, k, w, d, t);
+    if (!strcmp(word[6], "sizes")) return sizes(), 0;
     matrix = malloc((m - k) * k), y = malloc(m - k), work = malloc(work_size), states = malloc(unlock_extract_size(m, k, w, d, t));
     opening[0] = malloc(opening_size(0)), opening[1] = malloc(opening_size(1));
     make_key();
