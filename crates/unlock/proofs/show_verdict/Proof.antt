@@ -3,8 +3,8 @@ use mathlib.Core.Path.{sym}
 use borrow.Author.Needs.{needs}
 use lib.Seq.{length-take-le}
 use Rattle.report.specs.Lines.Laws.{written-fits}
-use Rattle.demonstration.proofs.show_verdict.Statement.{statement}
-use Rattle.demonstration.proofs.show_verdict.Tie as tie
+use Rattle.unlock.proofs.show_verdict.Statement.{statement}
+use Rattle.unlock.proofs.show_verdict.Tie as tie
 
 array-share-prefix-line : tie.Need-array-share-prefix-line
 array-share-prefix-line c = written-fits (c .verdict-line .ensures)

@@ -3,17 +3,17 @@ use mathlib.Core.Path.{sym}
 use borrow.Author.Needs.{needs}
 use lib.Seq.{length-take-le}
 use Rattle.report.specs.Lines.Laws.{written-fits}
-use Rattle.demonstration.proofs.show.Statement.{statement}
-use Rattle.demonstration.proofs.show.Tie as tie
+use Rattle.unlock.proofs.show_set.Statement.{statement}
+use Rattle.unlock.proofs.show_set.Tie as tie
 
 array-share-prefix-line : tie.Need-array-share-prefix-line
-array-share-prefix-line c = written-fits (c .message-line .ensures)
+array-share-prefix-line c = written-fits (c .set-line .ensures)
 
 slice-aggregate-write-all : tie.Need-slice-aggregate-write-all
-slice-aggregate-write-all c = sym (length-take-le _ _ (written-fits (c .before .message-line .ensures)))
+slice-aggregate-write-all c = sym (length-take-le _ _ (written-fits (c .before .set-line .ensures)))
 
-pub show-spec : {M : Type 1} → statement M
-show-spec =
+pub show-set-spec : {M : Type 1} → statement M
+show-set-spec =
     tie.close
     (tie.spec
     (λ c κs. search needs)

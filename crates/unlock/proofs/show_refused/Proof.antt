@@ -3,19 +3,20 @@ use mathlib.Core.Path.{sym}
 use borrow.Author.Needs.{needs}
 use lib.Seq.{length-take-le}
 use Rattle.report.specs.Lines.Laws.{written-fits}
-use Rattle.demonstration.proofs.show_set.Statement.{statement}
-use Rattle.demonstration.proofs.show_set.Tie as tie
+use Rattle.unlock.proofs.show_refused.Statement.{statement}
+use Rattle.unlock.proofs.show_refused.Tie as tie
 
 array-share-prefix-line : tie.Need-array-share-prefix-line
-array-share-prefix-line c = written-fits (c .set-line .ensures)
+array-share-prefix-line c = written-fits (c .before .refused .ensures)
 
 slice-aggregate-write-all : tie.Need-slice-aggregate-write-all
-slice-aggregate-write-all c = sym (length-take-le _ _ (written-fits (c .before .set-line .ensures)))
+slice-aggregate-write-all c = sym (length-take-le _ _ (written-fits (c .before .before .refused .ensures)))
 
-pub show-set-spec : {M : Type 1} → statement M
-show-set-spec =
+pub show-refused-spec : {M : Type 1} → statement M
+show-refused-spec =
     tie.close
     (tie.spec
+    (λ c. search needs)
     (λ c κs. search needs)
     array-share-prefix-line
     slice-aggregate-write-all

@@ -5,8 +5,8 @@ use native.Mathlib.Omega.{arith}
 use borrow.Author.Needs.{needs}
 use lib.Seq.{length-take-le}
 use Rattle.keylisting.specs.Finish.Laws.{room}
-use Rattle.demonstration.proofs.received.Statement.{statement}
-use Rattle.demonstration.proofs.received.Tie as tie
+use Rattle.unlock.proofs.received.Statement.{statement}
+use Rattle.unlock.proofs.received.Tie as tie
 
 array-borrow-prefix-message2 : tie.Need-array-borrow-prefix-message2
 array-borrow-prefix-message2 c =

@@ -1,7 +1,7 @@
 -- The parameters are within their limits.
 use borrow.Author.Needs.{needs}
-use Rattle.demonstration.proofs.response.Statement.{statement}
-use Rattle.demonstration.proofs.response.Tie as tie
+use Rattle.unlock.proofs.response.Statement.{statement}
+use Rattle.unlock.proofs.response.Tie as tie
 
 leaf-requires : tie.Need-leaf-requires
 leaf-requires c κs = c .before .before .before .before .before .before .before .before .before .before .before .before .before .before .before .before .before .before .before .before .before .before .pre

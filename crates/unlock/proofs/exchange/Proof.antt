@@ -1,7 +1,7 @@
 -- The parameters are within their limits.
 use borrow.Author.Needs.{needs}
-use Rattle.demonstration.proofs.exchange.Statement.{statement}
-use Rattle.demonstration.proofs.exchange.Tie as tie
+use Rattle.unlock.proofs.exchange.Statement.{statement}
+use Rattle.unlock.proofs.exchange.Tie as tie
 
 received-requires : tie.Need-received-requires
 received-requires c κs = c .before .before .before .before .before .before .before .before .before .before .before .before .before .before .before .before .before .before .before .before .before .before .before .pre

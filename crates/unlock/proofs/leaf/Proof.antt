@@ -9,8 +9,8 @@ use Rattle.parameters.specs.declared.Parameters.{Parameters}
 use Rattle.parameters.specs.Limits.{Within}
 use Rattle.exchange.specs.Layout.{bits, isLast, message5Length}
 use Rattle.keylisting.specs.Finish.Laws.{room}
-use Rattle.demonstration.proofs.leaf.Statement.{statement}
-use Rattle.demonstration.proofs.leaf.Tie as tie
+use Rattle.unlock.proofs.leaf.Statement.{statement}
+use Rattle.unlock.proofs.leaf.Tie as tie
 
 length5 : (p : Parameters) (i : ℕ) → Within p → (last : Bool) → isLast p i ≡ last → message5Length p i ≤ 1_020
 unfolding message5Length bits

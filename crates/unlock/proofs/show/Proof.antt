@@ -3,20 +3,19 @@ use mathlib.Core.Path.{sym}
 use borrow.Author.Needs.{needs}
 use lib.Seq.{length-take-le}
 use Rattle.report.specs.Lines.Laws.{written-fits}
-use Rattle.demonstration.proofs.show_refused.Statement.{statement}
-use Rattle.demonstration.proofs.show_refused.Tie as tie
+use Rattle.unlock.proofs.show.Statement.{statement}
+use Rattle.unlock.proofs.show.Tie as tie
 
 array-share-prefix-line : tie.Need-array-share-prefix-line
-array-share-prefix-line c = written-fits (c .before .refused .ensures)
+array-share-prefix-line c = written-fits (c .message-line .ensures)
 
 slice-aggregate-write-all : tie.Need-slice-aggregate-write-all
-slice-aggregate-write-all c = sym (length-take-le _ _ (written-fits (c .before .before .refused .ensures)))
+slice-aggregate-write-all c = sym (length-take-le _ _ (written-fits (c .before .message-line .ensures)))
 
-pub show-refused-spec : {M : Type 1} → statement M
-show-refused-spec =
+pub show-spec : {M : Type 1} → statement M
+show-spec =
     tie.close
     (tie.spec
-    (λ c. search needs)
     (λ c κs. search needs)
     array-share-prefix-line
     slice-aggregate-write-all
