@@ -12,7 +12,7 @@ use Rattle.parameters.specs.declared.Parameters.{Parameters}
 use Rattle.parameters.specs.Limits.{Within}
 use Rattle.exchange.specs.Layout.{message2Length}
 use Rattle.exchange.specs.Reading.{encode, _⊠_}
-use Rattle.lagrange.specs.AtPoint.{_^_, weighed, upTo, weightsOf, lagrangeAt}
+use Rattle.lagrange.specs.AtPoint.{pointPower, weighed, upTo, weightsOf, lagrangeAt}
 use Rattle.coefficients.specs.Folded.{folded}
 use Rattle.coefficients.specs.Coefficients.{coefficientsLength}
 pub mod Laws
@@ -40,7 +40,7 @@ pub record PowersAsked (w : ℕ) (e f r q : List ℕ) : Type 0 where
   pub room : length q ≡ 8 * w + 4
 
 unfoldable pub powersOf : ℕ → Point → Point → Point → List ℕ
-powersOf w e f r = encode (λ i. e ⊠ r ^ i) w ++ (encode (λ i. f ⊠ r ^ i) w ++ bytesOf (e ⊠ r ^ w))
+powersOf w e f r = encode (λ i. e ⊠ pointPower r i) w ++ (encode (λ i. f ⊠ pointPower r i) w ++ bytesOf (e ⊠ pointPower r w))
 
 pub record PositionAsked (p : Parameters) (l : ℕ) (m2 matrix y weights table : List ℕ) : Type 0 where
   pub within : Within p

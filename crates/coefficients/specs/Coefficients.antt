@@ -14,7 +14,7 @@ use Rattle.parameters.specs.declared.Parameters.{Parameters}
 use Rattle.exchange.specs.Reading.{encode, _⊠_}
 use Rattle.exchange.specs.Values.{Key, pointOf, multiplierOf}
 use Rattle.exchange.specs.Values.Laws.{alphaConstant, betaConstant}
-use Rattle.lagrange.specs.AtPoint.{_^_, upTo, lagrangeAt}
+use Rattle.lagrange.specs.AtPoint.{pointPower, upTo, lagrangeAt}
 use Rattle.coefficients.specs.Folded.{folded}
 pub mod Laws
 
@@ -26,10 +26,10 @@ coefficientsLength p = 4 * p .k + 8 * p .w + 8
 
 module _ (p : Parameters) (m2 : List ℕ) (l : ℕ) where
   unfoldable pub ofQ : ℕ → Point
-  ofQ i = multiplierOf p m2 l ⊠ pointOf p m2 l ^ i
+  ofQ i = multiplierOf p m2 l ⊠ pointPower (pointOf p m2 l) i
 
   unfoldable pub ofP : ℕ → Point
-  ofP i = multiplierOf p m2 l ⊠ upTo (pointOf p m2 l) (p .m) ⊠ pointOf p m2 l ^ i
+  ofP i = multiplierOf p m2 l ⊠ upTo (pointOf p m2 l) (p .m) ⊠ pointPower (pointOf p m2 l) i
 
 module _ (p : Parameters) (key : Key) (m2 : List ℕ) (l : ℕ) where
   unfoldable pub ofX : ℕ → Point

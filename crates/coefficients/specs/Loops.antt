@@ -23,23 +23,23 @@ use Rattle.tower.specs.Field.{Point, point, bytesOf, point-bytesOf}
 use Rattle.exchange.specs.Reading.{points, pointAt, encode, _⊞_, _⊠_}
 use Rattle.exchange.specs.Reading.Laws.{encode-ext}
 use Rattle.exchange.specs.Parties.{sums}
-use Rattle.lagrange.specs.AtPoint.{scalar, _^_, weighed}
+use Rattle.lagrange.specs.AtPoint.{scalar, pointPower, weighed}
 use Rattle.coefficients.specs.Folded.{folded}
 use Rattle.coefficients.specs.Weighed.{weighed-ext}
 use Rattle.lagrange.specs.Written.{tableAt, times-bytes, scalar-bytes, sum-bytes, tableAt-encode, tableAt-behind, tableAt-drop, take-encode}
 
 -- ---- powers
 
-pub power-none : (c r : Point) (a : List ℕ) → a ≡ bytesOf c → a ≡ bytesOf (c ⊠ r ^ 0)
+pub power-none : (c r : Point) (a : List ℕ) → a ≡ bytesOf c → a ≡ bytesOf (c ⊠ pointPower r 0)
 unfolding pow
 power-none c r a e = e ∙ ap bytesOf (sym (points .base .mul-one c))
 
-pub power-turn : (c r : Point) (i : ℕ) (run s q : List ℕ) → run ≡ bytesOf (c ⊠ r ^ i) → r ≡ point s → s ≡ bytesOf (point s) → q ≡ fourTimes run s
-    → q ≡ bytesOf (c ⊠ r ^ (i + 1))
+pub power-turn : (c r : Point) (i : ℕ) (run s q : List ℕ) → run ≡ bytesOf (c ⊠ pointPower r i) → r ≡ point s → s ≡ bytesOf (point s) → q ≡ fourTimes run s
+    → q ≡ bytesOf (c ⊠ pointPower r (i + 1))
 unfolding pow
 power-turn c r i run s q e er es eq =
-    times-bytes run s q (c ⊠ r ^ i) r e (es ∙ ap bytesOf (sym er)) eq ∙ ap bytesOf (points .base .mul-assoc c (r ^ i) r)
-    ∙ ap (λ (k : ℕ). bytesOf (c ⊠ r ^ k)) (sym (add-one i))
+    times-bytes run s q (c ⊠ pointPower r i) r e (es ∙ ap bytesOf (sym er)) eq ∙ ap bytesOf (points .base .mul-assoc c (pointPower r i) r)
+    ∙ ap (λ (k : ℕ). bytesOf (c ⊠ pointPower r k)) (sym (add-one i))
 
 -- ---- rows
 

@@ -7,7 +7,7 @@ ghost use lib.ListN.{length};
 ghost use Rattle.bytefield.specs.Tables.{logs, powers};
 ghost use Rattle.tower.specs.Field.{point, bytesOf};
 ghost use Rattle.exchange.specs.Reading.{encode, _⊠_};
-ghost use Rattle.lagrange.specs.AtPoint.{_^_};
+ghost use Rattle.lagrange.specs.AtPoint.{pointPower};
 ghost use Rattle.coefficients.specs.Folded.{folded};
 ghost use Rattle.lagrange.specs.Written.{tableAt};
 ghost use Rattle.coefficients.specs.Loops.{withRow, FoldMatrix};
@@ -24,7 +24,7 @@ fn geometric(
     pow: &[u8; 256],
 ) -> [u8; 4]
     requires { ⌜ (4 * n ≡ length (now out)) × (c ≡ bytesOf (point c)) × (r ≡ bytesOf (point r)) × (now log ≡ logs) × (now pow ≡ powers) ⌝ }
-    ensures { λ q. ⌜ (now (out .exit) ≡ encode (λ i. point c ⊠ point r ^ i) n) × (q ≡ bytesOf (point c ⊠ point r ^ n)) ⌝ }
+    ensures { λ q. ⌜ (now (out .exit) ≡ encode (λ i. point c ⊠ pointPower (point r) i) n) × (q ≡ bytesOf (point c ⊠ pointPower (point r) n)) ⌝ }
 {
     let mut run = c;
     let mut i = 0;

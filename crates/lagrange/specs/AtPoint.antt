@@ -1,7 +1,7 @@
 -- The values at a point r of polynomials with bytes as coefficients, as sums over bytes; S by Lagrange's form.
 --
 --   scalar b             the byte b as a point: 'A byte b is the point b 00 00 00'
---   _^_ r n              r to the n
+--   pointPower r n       r to the n
 --   weighed s c n        the sum over i below n of byte i of s times the point c i
 --   node i               f_i+1 as a point: 'Interpolation points f_i are the bytes i, 1 to m'
 --   upTo r k             the product of r + f_i over the first k interpolation points
@@ -30,9 +30,8 @@ pub mod Laws
 abbrev pub scalar : ℕ → Point
 scalar b = point (lone b)
 
-infixr 80 _^_
-abbrev pub _^_ : Point → ℕ → Point
-r ^ n = pow (ops (points .base)) r n
+abbrev pub pointPower : Point → ℕ → Point
+pointPower r n = pow (ops (points .base)) r n
 
 unfoldable pub weighed : List ℕ → (ℕ → Point) → ℕ → Point
 weighed s c n = sums (λ i. scalar (getD s i 0) ⊠ c i) n

@@ -7,7 +7,7 @@ use lib.ListN.{length, length-take}
 use Rattle.tower.specs.Field.{point}
 use Rattle.exchange.specs.Reading.{_⊠_}
 use Rattle.exchange.specs.Reading.Laws.{length-encode, length-bytesOf}
-use Rattle.lagrange.specs.AtPoint.{_^_}
+use Rattle.lagrange.specs.AtPoint.{pointPower}
 use Rattle.lagrange.specs.Written.{parts-made}
 use Rattle.coefficients.specs.Asked.{powersOf}
 use Rattle.coefficients.proofs.at_powers.Statement.{statement}
@@ -57,8 +57,8 @@ returns c =
     let a = s .args in
     let one = c .before .before .before .before .before .before .before .before .before .before .geometric .ensures in
     let two = c .before .before .before .before .before .before .geometric2 .ensures in
-    let le = length-encode (λ i. point (a .e) ⊠ point (a .r) ^ i) (a .w) in
-    let lf = length-encode (λ i. point (a .f) ⊠ point (a .r) ^ i) (a .w) in
+    let le = length-encode (λ i. point (a .e) ⊠ pointPower (point (a .r)) i) (a .w) in
+    let lf = length-encode (λ i. point (a .f) ⊠ pointPower (point (a .r)) i) (a .w) in
     parts-made (a .q .now) (c .before .before .before .before .before .before .before .before .before .before .geometric .last .0) _ (c .before .before .before .before .before .before .geometric2 .last .0) _ (c .before .before .before .before .before .before .before .before .before .before .geometric .result) _ _ _ _ (4 * a .w) (8 * a .w)
     (ap length (one .0) ∙ le) (omega arith) (ap length (two .0) ∙ lf ∙ omega arith) (s .pre .0 .room) (ap length (one .1) ∙ length-bytesOf _) refl refl
     (c .before .before .put-point .ensures) (one .0) (two .0) (one .1)

@@ -6,14 +6,14 @@ use lib.ListN.{length}
 use Rattle.lists.specs.Part.{putAt}
 use Rattle.tower.specs.Field.{point, bytesOf}
 use Rattle.exchange.specs.Reading.{encode, _⊠_}
-use Rattle.lagrange.specs.AtPoint.{_^_}
+use Rattle.lagrange.specs.AtPoint.{pointPower}
 use Rattle.lagrange.specs.Written.{write-none, write-turn, write-end}
 use Rattle.coefficients.specs.Loops.{power-none, power-turn}
 use Rattle.coefficients.proofs.geometric.Statement.{statement}
 use Rattle.coefficients.proofs.geometric.Tie as tie
 
 abbrev Inv-loop : tie.InvT-loop
-Inv-loop out₀ n r log pow run₀ i₀ out run i = (i ≤ n) × (out ≡ putAt out₀ 0 (encode (λ j. point run₀ ⊠ point r ^ j) i)) × (run ≡ bytesOf (point run₀ ⊠ point r ^ i)) × (length out ≡ length out₀)
+Inv-loop out₀ n r log pow run₀ i₀ out run i = (i ≤ n) × (out ≡ putAt out₀ 0 (encode (λ j. point run₀ ⊠ pointPower (point r) j) i)) × (run ≡ bytesOf (point run₀ ⊠ pointPower (point r) i)) × (length out ≡ length out₀)
 
 abbrev μ-loop : tie.MeasureT-loop
 μ-loop out₀ n r log pow run₀ i₀ out run i = n - i
@@ -54,7 +54,7 @@ returns c =
     let l = c .before .loop in
     let s = c .before .before .before in
     let e : l .i ≡ s .args .n = omega arith in
-    (write-end _ (s .args .out .now) _ (l .i) _ e (s .pre .0) (l .inv .1), l .inv .2 ∙ ap (λ (k : ℕ). bytesOf (point (s .args .c) ⊠ point (s .args .r) ^ k)) e)
+    (write-end _ (s .args .out .now) _ (l .i) _ e (s .pre .0) (l .inv .1), l .inv .2 ∙ ap (λ (k : ℕ). bytesOf (point (s .args .c) ⊠ pointPower (point (s .args .r)) k)) e)
 
 pub geometric-spec : {M : Type 1} → statement M
 geometric-spec =

@@ -15,7 +15,7 @@ use Rattle.exchange.specs.Reading.{pointAt, encode, _⊠_}
 use Rattle.exchange.specs.Reading.Laws.{bytesAt-all, length-bytesOf, length-encode}
 use Rattle.exchange.specs.Values.{Key, pointOf, multiplierOf}
 use Rattle.exchange.specs.Values.Laws.{betaConstant}
-use Rattle.lagrange.specs.AtPoint.{_^_, weighed, upTo, lagrangeAt}
+use Rattle.lagrange.specs.AtPoint.{pointPower, weighed, upTo, lagrangeAt}
 use Rattle.coefficients.specs.Folded.{folded}
 use Rattle.coefficients.specs.Coefficients.{ofX, ofQ, ofP, coefficientsOf}
 use Rattle.coefficients.specs.Coefficients.Laws.{alphaConstant-is, betaConstant-is}
@@ -25,10 +25,10 @@ use Rattle.coefficients.specs.Asked.{PointGiven, powersOf}
 pub length-powersOf : (w : ℕ) (e f r : Point) → length (powersOf w e f r) ≡ 8 * w + 4
 unfolding powersOf
 length-powersOf w e f r =
-    let a = length-encode (λ i. e ⊠ r ^ i) w in
-    let b = length-encode (λ i. f ⊠ r ^ i) w in
-    let d = length-bytesOf (e ⊠ r ^ w) in
-    length-append (encode (λ i. e ⊠ r ^ i) w) _ ∙ (let k = length-append (encode (λ i. f ⊠ r ^ i) w) (bytesOf (e ⊠ r ^ w)) in omega arith)
+    let a = length-encode (λ i. e ⊠ pointPower r i) w in
+    let b = length-encode (λ i. f ⊠ pointPower r i) w in
+    let d = length-bytesOf (e ⊠ pointPower r w) in
+    length-append (encode (λ i. e ⊠ pointPower r i) w) _ ∙ (let k = length-append (encode (λ i. f ⊠ pointPower r i) w) (bytesOf (e ⊠ pointPower r w)) in omega arith)
 
 module _ (p : Parameters) (key : Key) (m2 : List ℕ) (l : ℕ) (within : Within p) (sized-y : length (key .y) ≡ p .m - p .k)
     (r e v f c u x : List ℕ) (er : r ≡ bytesOf (pointAt m2 (4 * l))) (ee : e ≡ bytesOf (pointAt m2 (4 * p .t + 4 * l)))

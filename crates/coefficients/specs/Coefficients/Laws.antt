@@ -19,7 +19,7 @@ use Rattle.exchange.specs.Reading.{points, bytesAt, value, _⊞_, _⊠_, 𝟎}
 use Rattle.exchange.specs.Reading.Laws.{length-bytesAt, lone-homomorphism}
 use Rattle.exchange.specs.Values.{Key, xAOf, QOf, POf, F, pointOf, multiplierOf, imageOf, xOf, SOf}
 use Rattle.exchange.specs.Values.Laws.{length-xAOf, length-POf, length-xOf, xOf-plain, yPlaced, leadingOne, alphaConstant, betaConstant}
-use Rattle.lagrange.specs.AtPoint.{scalar, _^_, weighed, upTo, lagrangeAt}
+use Rattle.lagrange.specs.AtPoint.{scalar, pointPower, weighed, upTo, lagrangeAt}
 use Rattle.lagrange.specs.AtPoint.Laws.{value-weighed, value-interpolant, value-vanishing}
 use Rattle.coefficients.specs.Weighed.{weighed-scale, weighed-split, weighed-zeros, weighed-folded}
 use Rattle.coefficients.specs.Coefficients.{ofX, ofQ, ofP}
@@ -42,12 +42,12 @@ module _ {K : Type 0} (R : Ring2 K) where
   regroup a b c = simp (ring, R)
 
 -- one more coefficient at the top
-value-snoc : (q : List ℕ) (b w : ℕ) (r : Point) → length q ≡ w → value (q ++ (b ∷ [])) r ≡ weighed q (λ i. r ^ i) w ⊞ (𝟎 ⊞ scalar b ⊠ r ^ (w + 0))
+value-snoc : (q : List ℕ) (b w : ℕ) (r : Point) → length q ≡ w → value (q ++ (b ∷ [])) r ≡ weighed q (λ i. pointPower r i) w ⊞ (𝟎 ⊞ scalar b ⊠ pointPower r (w + 0))
 unfolding weighed sum
 value-snoc q b w r e =
     let n : length (q ++ (b ∷ [])) ≡ w + 1 = length-append q (b ∷ []) ∙ omega (arith, e) in
-    value-weighed (q ++ (b ∷ [])) r ∙ ap (weighed (q ++ (b ∷ [])) (λ i. r ^ i)) n
-    ∙ weighed-split q (b ∷ []) (λ i. r ^ i) w 1 e
+    value-weighed (q ++ (b ∷ [])) r ∙ ap (weighed (q ++ (b ∷ [])) (λ i. pointPower r i)) n
+    ∙ weighed-split q (b ∷ []) (λ i. pointPower r i) w 1 e
 
 module _ (p : Parameters) (m2 : List ℕ) (l : ℕ) where
   r : Point
@@ -56,10 +56,10 @@ module _ (p : Parameters) (m2 : List ℕ) (l : ℕ) where
   pub Q-weighed : (s : List ℕ) → weighed (bytesAt s (atQ p) (p .w)) (ofQ p m2 l) (p .w) ≡ multiplierOf p m2 l ⊠ value (QOf p false s) (pointOf p m2 l)
   unfolding ofQ QOf
   Q-weighed s =
-      weighed-scale q (multiplierOf p m2 l) (λ i. pointOf p m2 l ^ i) (p .w)
+      weighed-scale q (multiplierOf p m2 l) (λ i. pointPower (pointOf p m2 l) i) (p .w)
       ∙ ap (λ (z : Point). multiplierOf p m2 l ⊠ z)
       (sym (value-snoc q 0 (p .w) (pointOf p m2 l) (length-bytesAt s (atQ p) (p .w))
-      ∙ ap (λ (z : Point). weighed q (λ i. pointOf p m2 l ^ i) (p .w) ⊞ (𝟎 ⊞ z ⊠ pointOf p m2 l ^ (p .w + 0))) (lone-homomorphism .zero)
+      ∙ ap (λ (z : Point). weighed q (λ i. pointPower (pointOf p m2 l) i) (p .w) ⊞ (𝟎 ⊞ z ⊠ pointPower (pointOf p m2 l) (p .w + 0))) (lone-homomorphism .zero)
       ∙ nothing-added (points .base) _ _))
     where
       q : List ℕ
@@ -69,20 +69,20 @@ module _ (p : Parameters) (m2 : List ℕ) (l : ℕ) where
       ≡ multiplierOf p m2 l ⊠ (value (F p) (pointOf p m2 l) ⊠ value (POf p s) (pointOf p m2 l))
   unfolding ofP F
   P-weighed s =
-      weighed-scale (POf p s) (multiplierOf p m2 l ⊠ upTo (pointOf p m2 l) (p .m)) (λ i. pointOf p m2 l ^ i) (p .w)
+      weighed-scale (POf p s) (multiplierOf p m2 l ⊠ upTo (pointOf p m2 l) (p .m)) (λ i. pointPower (pointOf p m2 l) i) (p .w)
       ∙ regroup (points .base) (multiplierOf p m2 l) (upTo (pointOf p m2 l) (p .m)) _
       ∙ ap₂ (λ (f v : Point). multiplierOf p m2 l ⊠ (f ⊠ v)) (sym (value-vanishing (pointOf p m2 l) (p .m)))
-      (sym (value-weighed (POf p s) (pointOf p m2 l) ∙ ap (weighed (POf p s) (λ i. pointOf p m2 l ^ i)) (length-POf p s)))
+      (sym (value-weighed (POf p s) (pointOf p m2 l) ∙ ap (weighed (POf p s) (λ i. pointPower (pointOf p m2 l) i)) (length-POf p s)))
 
 module _ (p : Parameters) (key : Key) (m2 : List ℕ) (l : ℕ) where
-  pub alphaConstant-is : alphaConstant p key m2 l ≡ multiplierOf p m2 l ⊠ pointOf p m2 l ^ (p .w)
+  pub alphaConstant-is : alphaConstant p key m2 l ≡ multiplierOf p m2 l ⊠ pointPower (pointOf p m2 l) (p .w)
   unfolding alphaConstant leadingOne
   alphaConstant-is =
       let n : p .w + 0 ≡ p .w = omega arith in
       ap (λ (z : Point). multiplierOf p m2 l ⊠ z)
       (value-snoc (replicate (p .w) 0) 1 (p .w) (pointOf p m2 l) (length-replicate (p .w) 0)
-      ∙ ap₂ (λ (y z : Point). y ⊞ (𝟎 ⊞ z ⊠ pointOf p m2 l ^ (p .w + 0))) (weighed-zeros (p .w) (λ i. pointOf p m2 l ^ i) (p .w)) (lone-homomorphism .one)
-      ∙ one-added (points .base) _ ∙ ap (λ (i : ℕ). pointOf p m2 l ^ i) n)
+      ∙ ap₂ (λ (y z : Point). y ⊞ (𝟎 ⊞ z ⊠ pointPower (pointOf p m2 l) (p .w + 0))) (weighed-zeros (p .w) (λ i. pointPower (pointOf p m2 l) i) (p .w)) (lone-homomorphism .one)
+      ∙ one-added (points .base) _ ∙ ap (λ (i : ℕ). pointPower (pointOf p m2 l) i) n)
 
   module _ (small : p .k < p .m) (fits : p .m < 256) where
     sized : p .k + (p .m - p .k) ≡ p .m

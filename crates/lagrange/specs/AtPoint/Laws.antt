@@ -31,7 +31,7 @@ use Rattle.exchange.specs.Parties.{sums}
 use Rattle.lagrange.specs.Product.{prod, others}
 use Rattle.lagrange.specs.Product.Laws.{map-prod, prod-ext, prod-front, others-times}
 use Rattle.lagrange.specs.Lagrange.{row, row-ext, interpolated, Apart, ratio, lagrange, sum-front, sum-times}
-use Rattle.lagrange.specs.AtPoint.{scalar, _^_, weighed, node, upTo, downFrom, distances, weightsOf, lagrangeAt}
+use Rattle.lagrange.specs.AtPoint.{scalar, pointPower, weighed, node, upTo, downFrom, distances, weightsOf, lagrangeAt}
 
 -- ---- weights
 
@@ -73,22 +73,23 @@ module _ {K : Type 0} (R : Ring2 K) where
   weight-apart : (a b c d : K) → a *K b *K (c *K d) ≡ b *K d *K (a *K c)
   weight-apart a b c d = simp (ring, R)
 
-pub value-weighed : (q : List ℕ) (r : Point) → value q r ≡ weighed q (λ i. r ^ i) (length q)
+pub value-weighed : (q : List ℕ) (r : Point) → value q r ≡ weighed q (λ i. pointPower r i) (length q)
 unfolding value weighed eval sum pow
 value-weighed [] r = refl
 value-weighed (a ∷ q) r =
     ap (λ (x : Point). scalar a ⊞ r ⊠ x) (value-weighed q r)
     ∙ ap (λ (x : Point). scalar a ⊞ x)
-    (sum-times (points .base) r (λ i. scalar (getD q i 0) ⊠ r ^ i) (length q)
-    ∙ sum-ext (additive (points .base)) _ (λ i. scalar (getD q i 0) ⊠ r ^ suc i) (length q) (λ i l. next i))
+    (sum-times (points .base) r (λ i. scalar (getD q i 0) ⊠ pointPower r i) (length q)
+    ∙ sum-ext (additive (points .base)) _ (λ i. scalar (getD q i 0) ⊠ pointPower r (suc i)) (length q) (λ i l. next i))
     ∙ power-first (points .base) (scalar a) _
     ∙ first
   where
-    next : (i : ℕ) → r ⊠ (scalar (getD q i 0) ⊠ r ^ i) ≡ scalar (getD q i 0) ⊠ r ^ suc i
-    next i = power-next (points .base) r (scalar (getD q i 0)) (r ^ i)
+    next : (i : ℕ) → r ⊠ (scalar (getD q i 0) ⊠ pointPower r i) ≡ scalar (getD q i 0) ⊠ pointPower r (suc i)
+    next i = power-next (points .base) r (scalar (getD q i 0)) (pointPower r i)
 
-    first : scalar a ⊠ r ^ 0 ⊞ sums (λ i. scalar (getD q i 0) ⊠ r ^ suc i) (length q) ≡ sums (λ i. scalar (getD (a ∷ q) i 0) ⊠ r ^ i) (suc (length q))
-    first = sym (sum-front (points .base) (λ i. scalar (getD (a ∷ q) i 0) ⊠ r ^ i) (length q))
+    first : scalar a ⊠ pointPower r 0 ⊞ sums (λ i. scalar (getD q i 0) ⊠ pointPower r (suc i)) (length q)
+        ≡ sums (λ i. scalar (getD (a ∷ q) i 0) ⊠ pointPower r i) (suc (length q))
+    first = sym (sum-front (points .base) (λ i. scalar (getD (a ∷ q) i 0) ⊠ pointPower r i) (length q))
 
 -- ---- F
 

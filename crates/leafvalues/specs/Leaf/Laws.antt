@@ -26,7 +26,7 @@ use Rattle.exchange.specs.Reading.{points, bytesAt, pointAt, encode, value, _�
 use Rattle.exchange.specs.Reading.Laws.{bytesAt-part, length-bytesAt, length-encode, encode-ext}
 use Rattle.exchange.specs.Values.{Key, xAOf, QOf, aOf, bOf, pointOf, multiplierOf, imageOf, xOf, SOf, alpha, beta}
 use Rattle.exchange.specs.Values.Laws.{length-xAOf, xOf-plain}
-use Rattle.lagrange.specs.AtPoint.{_^_, weighed, lagrangeAt}
+use Rattle.lagrange.specs.AtPoint.{pointPower, weighed, lagrangeAt}
 use Rattle.lagrange.specs.AtPoint.Laws.{value-weighed, value-interpolant}
 use Rattle.lagrange.specs.Written.{tableAt, times-point, sum-bytes, tableAt-encode}
 use Rattle.coefficients.specs.Weighed.{weighed-ext, weighed-scale}
@@ -63,13 +63,13 @@ vector-made p s matrix x x₁ x₂ a u h n n₁ ea e₁ eu e₂ =
 module _ (p : Parameters) (s m2 : List ℕ) (l : ℕ) (q r e v y u z : List ℕ) (eq : q ≡ bytesAt s (atQ p) (p .w)) (er : r ≡ bytesOf (pointAt m2 (4 * l)))
     (ee : e ≡ bytesOf (pointAt m2 (4 * p .t + 4 * l))) (ev : v ≡ valueAt q r) (ey : y ≡ fourTimes e v) (eu : u ≡ bytesOf (pointAt s (4 * l)))
     (ez : z ≡ fourSum y u) where
-  value-is : point v ≡ weighed (bytesAt s (atQ p) (p .w)) (λ i. pointOf p m2 l ^ i) (p .w)
+  value-is : point v ≡ weighed (bytesAt s (atQ p) (p .w)) (λ i. pointPower (pointOf p m2 l) i) (p .w)
   unfolding value pointOf points
   value-is =
       ap point (ev ∙ ap₂ valueAt eq er) ∙ point-value (bytesAt s (atQ p) (p .w)) (bytesOf (pointAt m2 (4 * l)))
       ∙ ap (value (bytesAt s (atQ p) (p .w))) (point-bytesOf (pointAt m2 (4 * l)))
       ∙ value-weighed (bytesAt s (atQ p) (p .w)) (pointAt m2 (4 * l))
-      ∙ ap (weighed (bytesAt s (atQ p) (p .w)) (λ i. pointAt m2 (4 * l) ^ i)) (length-bytesAt s (atQ p) (p .w))
+      ∙ ap (weighed (bytesAt s (atQ p) (p .w)) (λ i. pointPower (pointAt m2 (4 * l)) i)) (length-bytesAt s (atQ p) (p .w))
 
   product-is : y ≡ bytesOf (multiplierOf p m2 l ⊠ value (QOf p false s) (pointOf p m2 l))
   unfolding ofQ multiplierOf
@@ -77,7 +77,7 @@ module _ (p : Parameters) (s m2 : List ℕ) (l : ℕ) (q r e v y u z : List ℕ)
       ey ∙ times-point e v
       ∙ ap₂ (λ (a b : Point). bytesOf (a ⊠ b)) (ap point ee ∙ point-bytesOf (multiplierOf p m2 l)) value-is
       ∙ ap bytesOf
-      (sym (weighed-scale (bytesAt s (atQ p) (p .w)) (multiplierOf p m2 l) (λ i. pointOf p m2 l ^ i) (p .w)) ∙ Q-weighed p m2 l s)
+      (sym (weighed-scale (bytesAt s (atQ p) (p .w)) (multiplierOf p m2 l) (λ i. pointPower (pointOf p m2 l) i) (p .w)) ∙ Q-weighed p m2 l s)
 
   pub alpha-made : (key : Key) → z ≡ bytesOf (alpha p key m2 false s l)
   unfolding alpha aOf
