@@ -15,14 +15,6 @@
 enum { M = 230, K = 126, W = 79, AXES = 8, T = 3 };
 #define SET M, K, W, AXES, T
 
-/* The lengths of the storage; storage_fits compares them with what the library asks for. */
-enum {
-    PROVER = 373,
-    VERIFIER = 167,
-    WORK = 2 * AXES * (K + 2 * W + 12 * T),
-    OPENING = 16 * AXES + 32 + 8 * T + K + 2 * W + 4 * T
-};
-
 /* Public: the matrix H', row after row, expanded from a label, and y. */
 static uint8_t matrix[(M - K) * K];
 static const uint8_t y[M - K] = {
@@ -43,10 +35,10 @@ static const uint8_t x_a[K] = {
     0x00, 0x6d, 0x00, 0x00, 0x00, 0x00, 0x00, 0x48, 0xd1, 0x00, 0x00, 0x00, 0x00, 0x41, 0x00, 0x00, 0x00, 0x00, 0x00, 0x00, 0xe1,
 };
 
-static uint8_t prover[PROVER], verifier[VERIFIER]; /* the sessions */
-static uint8_t work[WORK];                         /* one is enough for both: no call keeps anything in it */
+static uint8_t prover[UNLOCK_PROVER_SIZE], verifier[UNLOCK_VERIFIER_SIZE]; /* the sessions */
+static uint8_t work[UNLOCK_WORK_SIZE(K, W, AXES, T)];                      /* one is enough for both: no call keeps anything in it */
 static uint8_t salt[32], root[16];
-static uint8_t message1[64], message2[8 * T], message3[32], leaf, message5[OPENING];
+static uint8_t message1[64], message2[8 * T], message3[32], leaf, message5[UNLOCK_OPENING_MAX(K, W, AXES, T)];
 
 /* Leaves the function with the answer of a call that was refused. */
 #define TRY(call)                                    \
@@ -73,6 +65,7 @@ static void report(const char *name, const uint8_t *message, size_t length)
     printf("\n");
 }
 
+/* Is the library linked the one that the header's sizes are of? */
 static int storage_fits(void)
 {
     return unlock_prover_size() == sizeof prover && unlock_verifier_size() == sizeof verifier

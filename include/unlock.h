@@ -5,17 +5,25 @@
  * slice of the call. No address is null, not even that of an empty slice. No function allocates, and none keeps an address after it
  * returns.
  *
- * Sessions. A session lives in a buffer that the caller lends, of unlock_prover_size() or unlock_verifier_size() bytes; a buffer of
- * another length gives UNLOCK_LENGTH. A prover's session holds the secret x. A refused call leaves the buffer as it was; of the
- * verifier's opening, UNLOCK_COMMITMENT, UNLOCK_SUMS and UNLOCK_RESPONSE close the exchange. Any bytes are some session; one with a
- * phase that is none, parameters outside their limits, an x that is too heavy or a leaf not below n counts as never begun.
+ * Sessions. A session lives in a buffer that the caller lends, of UNLOCK_PROVER_SIZE or UNLOCK_VERIFIER_SIZE bytes; a buffer of
+ * another length gives UNLOCK_LENGTH. A refused call leaves the buffer as it was; of the
+ * verifier's opening, UNLOCK_COMMITMENT, UNLOCK_SUMS and UNLOCK_RESPONSE close the exchange. Any bytes are some session, and a
+ * damaged one is closed: it answers UNLOCK_CLOSED to every call but begin where its phase is none, or where it was begun and its
+ * parameters are outside their limits, its x is too heavy or its leaf not below n. Its salt and root still give UNLOCK_REPEATED.
+ *
+ * Wiping. A prover's session holds the secret x and root: overwrite the buffer when the exchange is over. Bytes that are all 00 or
+ * all ff read as a closed session; unlock_prover_new makes it fresh again. Salt and root, which UNLOCK_REPEATED goes by, go with it.
+ *
+ * Reentrancy. The functions keep no state of their own. Calls may run side by side, in interrupts, threads or on several cores, as
+ * long as no slice that one of them writes to is used by another.
  *
  * Parameters. Length m (2 to 255), dimension k (1 to m - 1), weight w (1 to m), axes D (1 to 8), positions t (1 to 8); n = 2^D
  * leaves, numbered from 0. The shipped set is m 230, k 126, w 79, D 8, t 3.
  *
  * Lengths. x_a k, salt 32, root 16, matrix (m - k) k, row after row, y m - k; message 1 64, message 2 8t (t points, then t
  * multipliers, four bytes each), message 3 32, message 5 unlock_opening_size(). The work area has unlock_work_size() bytes or more;
- * past all checks that length of it ends as zeros. A refused call writes no output.
+ * past all checks that length of it ends as zeros. A refused call writes no output. The macros give the same lengths as constants,
+ * for static arrays; their parameters have to be within their limits.
  */
 #ifndef UNLOCK_H
 #define UNLOCK_H
@@ -27,7 +35,10 @@
 extern "C" {
 #endif
 
-/* What a call answers. A call that several refusals would fit gives the first of 12, 11, 1, 2, 3, 4, 13, 8, 9, 5, 6, 7. */
+/*
+ * What a call answers. A call that several refusals would fit gives the first of 12, 11, 1, 2, 3, 4, 13, 8, 9, 5, 6, 7. Without a
+ * session 12 and 11 cannot be told: a session buffer of wrong length gives 2 before them, but at begin 1 before 2.
+ */
 enum {
     UNLOCK_DONE = 0,        /* carried out; of an opening: accepted */
     UNLOCK_PARAMETER = 1,   /* a parameter outside its limits */
@@ -47,16 +58,22 @@ enum {
 /* ---- lengths */
 
 /* The bytes of a session. */
+#define UNLOCK_PROVER_SIZE 373
+#define UNLOCK_VERIFIER_SIZE 167
 size_t unlock_prover_size(void);
 size_t unlock_verifier_size(void);
 
 /* The length of the work area; a longer one is taken too. 0 where a parameter is outside its limits. */
+#define UNLOCK_WORK_SIZE(k, w, D, t) (2 * (D) * ((k) + 2 * (w) + 12 * (t)))
 size_t unlock_work_size(size_t m, size_t k, size_t w, size_t D, size_t t);
 
-/* The length of message 5 where the leaf is hidden. 0 where a parameter is outside its limits. */
+/* The length of message 5 where the leaf is hidden: UNLOCK_OPENING_MAX, or less for leaf n - 1. 0 where a parameter is outside its
+   limits. */
+#define UNLOCK_OPENING_MAX(k, w, D, t) (16 * (D) + 32 + 8 * (t) + (k) + 2 * (w) + 4 * (t))
 size_t unlock_opening_size(size_t m, size_t k, size_t w, size_t D, size_t t, uint8_t leaf);
 
 /* The length of the extractor's output. 0 where a parameter is outside its limits. */
+#define UNLOCK_EXTRACT_SIZE(k, w, D, t) ((32 << (D)) + (k) + 2 * (w) + 4 * (t))
 size_t unlock_extract_size(size_t m, size_t k, size_t w, size_t D, size_t t);
 
 /* ---- prover */

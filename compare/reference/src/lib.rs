@@ -37,6 +37,7 @@ pub mod extractor;
 pub mod keylist;
 pub mod lent;
 pub mod prover;
+pub mod stored;
 pub mod verifier;
 
 pub mod sampling;

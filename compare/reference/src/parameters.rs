@@ -38,6 +38,17 @@ impl Parameters {
         require(within, PARAMETER_OUTSIDE_LIMITS)
     }
 
+    /// The parameters as a session stores them, a byte each, once `check` has passed.
+    pub fn to_bytes(&self) -> [u8; 5] {
+        [self.m, self.k, self.w, self.axes, self.t].map(|parameter| parameter as u8)
+    }
+
+    /// Parameters as stored.
+    pub fn from_bytes(bytes: [u8; 5]) -> Parameters {
+        let [m, k, w, axes, t] = bytes.map(usize::from);
+        Parameters { m, k, w, axes, t }
+    }
+
     /// The number n = 2^D of leaves.
     pub fn leaves(&self) -> usize {
         1 << self.axes

@@ -1,4 +1,7 @@
 //! The prover's session: begin gives message 1, points gives message 3, leaf gives message 5 and closes.
+//!
+//! A session may be damaged where it is stored. It fails closed: one that is not fresh counts as closed if its parameters
+//! are outside their limits or its x is too heavy, and its salt and root still count as those of the exchange held.
 
 use crate::commitment::{Committed, Witness};
 use crate::key::check_weight;
@@ -6,37 +9,50 @@ use crate::lent::Lent;
 use crate::messages::message_1;
 use crate::numbers::{number_of, require, Number, CLOSED, LEAF_NOT_BELOW_N, NOT_DUE, SALT_AND_ROOT_HELD, WRONG_LENGTH};
 use crate::parameters::Parameters;
+use crate::stored::{byte_of, padded, phase_of, Reader};
 use crate::strings::{front, Salt, Seed, SALT_BYTES, SEED_BYTES};
 
-/// The call that is due besides begin, or none.
+/// The bytes that a session has for x: x past m entries is zeros.
+const X_BYTES: usize = 255;
+/// The bytes that a session has for message 2: past 8t they are zeros.
+const MESSAGE_2_BYTES: usize = 64;
+
+/// Which call is due besides begin.
 #[derive(Clone, Copy, Debug, PartialEq, Eq)]
 enum Phase {
+    Fresh,
     Points,
     Leaf,
     Closed,
 }
 
-/// What a session holds of its exchange.
-#[derive(Clone, Debug, PartialEq, Eq)]
-struct Exchange {
-    parameters: Parameters,
-    x: Vec<u8>,
-    salt: Salt,
-    root: Seed,
-    message_2: Vec<u8>,
-    phase: Phase,
+impl Phase {
+    /// Each phase as a byte; any two differ in at least four bits.
+    const BYTES: [(Phase, u8); 4] =
+        [(Phase::Fresh, 0x0f), (Phase::Points, 0x33), (Phase::Leaf, 0x55), (Phase::Closed, 0x66)];
 }
 
 /// A prover's session; `default` is one before its first begin.
-#[derive(Clone, Debug, Default, PartialEq, Eq)]
+#[derive(Clone, Debug, PartialEq, Eq)]
 pub struct Prover {
-    held: Option<Exchange>,
+    phase: Phase,
+    parameters: Parameters,
+    x: [u8; X_BYTES],
+    salt: Salt,
+    root: Seed,
+    message_2: [u8; MESSAGE_2_BYTES],
 }
 
-impl Exchange {
-    fn committed(&self) -> Committed {
-        let witness = Witness::of_vector(&self.parameters, &self.x);
-        Committed::new(&self.parameters, &self.salt, &self.root, &witness)
+impl Default for Prover {
+    fn default() -> Prover {
+        Prover {
+            phase: Phase::Fresh,
+            parameters: Parameters::new(0, 0, 0, 0, 0),
+            x: [0; X_BYTES],
+            salt: Salt::default(),
+            root: Seed::default(),
+            message_2: [0; MESSAGE_2_BYTES],
+        }
     }
 }
 
@@ -82,48 +98,88 @@ impl Prover {
         let x = lent.key().vector(x_a);
         check_weight(&parameters, &x)?;
         require(!self.holds(salt, root), SALT_AND_ROOT_HELD)?;
-        let (salt, root) = (front(salt), front(root));
-        let exchange = Exchange { parameters, x, salt, root, message_2: Vec::new(), phase: Phase::Points };
-        output.copy_from_slice(&message_1(&exchange.salt, &exchange.committed().h()));
+        let begun = Prover {
+            phase: Phase::Points,
+            parameters,
+            x: padded(&x),
+            salt: front(salt),
+            root: front(root),
+            message_2: [0; MESSAGE_2_BYTES],
+        };
+        output.copy_from_slice(&message_1(&begun.salt, &begun.committed().h()));
         lent.clear_work(&parameters);
-        self.held = Some(exchange);
+        *self = begun;
         Ok(())
     }
 
     fn try_points(&mut self, message_2: &[u8], mut lent: Lent, output: &mut [u8]) -> Result<(), Number> {
-        let exchange = self.due(Phase::Points)?;
-        require(message_2.len() == exchange.parameters.message_2_bytes(), WRONG_LENGTH)?;
-        lent.check(&exchange.parameters)?;
+        self.require_due(Phase::Points)?;
+        require(message_2.len() == self.parameters.message_2_bytes(), WRONG_LENGTH)?;
+        lent.check(&self.parameters)?;
         require(output.len() == Parameters::MESSAGE_3_BYTES, WRONG_LENGTH)?;
-        output.copy_from_slice(&exchange.committed().response(message_2, lent.key()));
-        lent.clear_work(&exchange.parameters);
-        exchange.message_2 = message_2.to_vec();
-        exchange.phase = Phase::Leaf;
+        output.copy_from_slice(&self.committed().response(message_2, lent.key()));
+        lent.clear_work(&self.parameters);
+        self.message_2 = padded(message_2);
+        self.phase = Phase::Leaf;
         Ok(())
     }
 
     fn try_leaf(&mut self, leaf: usize, mut lent: Lent, output: &mut [u8]) -> Result<(), Number> {
-        let exchange = self.due(Phase::Leaf)?;
-        lent.check(&exchange.parameters)?;
-        require(output.len() == exchange.parameters.message_5_bytes(leaf), WRONG_LENGTH)?;
-        require(leaf < exchange.parameters.leaves(), LEAF_NOT_BELOW_N)?;
-        let opening = exchange.committed().opening(&exchange.message_2, leaf, lent.key());
+        self.require_due(Phase::Leaf)?;
+        lent.check(&self.parameters)?;
+        require(output.len() == self.parameters.message_5_bytes(leaf), WRONG_LENGTH)?;
+        require(leaf < self.parameters.leaves(), LEAF_NOT_BELOW_N)?;
+        let message_2 = &self.message_2[..self.parameters.message_2_bytes()];
+        let opening = self.committed().opening(message_2, leaf, lent.key());
         output.copy_from_slice(&opening.to_bytes());
-        lent.clear_work(&exchange.parameters);
-        exchange.phase = Phase::Closed;
+        lent.clear_work(&self.parameters);
+        self.phase = Phase::Closed;
         Ok(())
     }
 
-    /// The exchange held if this call is due in it: else 12 if it is closed, and 11 otherwise.
-    fn due(&mut self, phase: Phase) -> Result<&mut Exchange, Number> {
-        let exchange = self.held.as_mut().ok_or(NOT_DUE)?;
-        require(exchange.phase != Phase::Closed, CLOSED)?;
-        require(exchange.phase == phase, NOT_DUE)?;
-        Ok(exchange)
+    /// x as held: m entries.
+    fn vector(&self) -> &[u8] {
+        &self.x[..self.parameters.m]
     }
 
-    /// Whether the exchange held, open or closed, has this salt and this root.
+    fn committed(&self) -> Committed {
+        let witness = Witness::of_vector(&self.parameters, self.vector());
+        Committed::new(&self.parameters, &self.salt, &self.root, &witness)
+    }
+
+    /// Whether what is held can come from a begin.
+    fn intact(&self) -> bool {
+        self.parameters.check().is_ok() && check_weight(&self.parameters, self.vector()).is_ok()
+    }
+
+    /// Refuses with 12 if the session is closed or damaged, and with 11 if another call is due.
+    fn require_due(&self, phase: Phase) -> Result<(), Number> {
+        require(self.phase != Phase::Closed, CLOSED)?;
+        require(self.phase == Phase::Fresh || self.intact(), CLOSED)?;
+        require(self.phase == phase, NOT_DUE)
+    }
+
+    /// Whether the exchange held, open or closed or damaged, has this salt and this root.
     fn holds(&self, salt: &[u8], root: &[u8]) -> bool {
-        self.held.as_ref().is_some_and(|exchange| exchange.salt == salt && exchange.root == root)
+        self.phase != Phase::Fresh && self.salt == salt && self.root == root
+    }
+
+    /// The session as it is stored: phase, m, k, w, D, t, x, salt, root, message 2.
+    pub fn to_bytes(&self) -> Vec<u8> {
+        let phase = [byte_of(&Phase::BYTES, self.phase)];
+        [&phase[..], &self.parameters.to_bytes(), &self.x, &self.salt, &self.root, &self.message_2].concat()
+    }
+
+    /// The session that stored bytes stand for; a byte that is no phase reads as closed.
+    pub fn from_bytes(bytes: &[u8]) -> Prover {
+        let mut reader = Reader::new(bytes);
+        Prover {
+            phase: phase_of(&Phase::BYTES, reader.byte(), Phase::Closed),
+            parameters: Parameters::from_bytes(reader.array()),
+            x: reader.array(),
+            salt: reader.array(),
+            root: reader.array(),
+            message_2: reader.array(),
+        }
     }
 }

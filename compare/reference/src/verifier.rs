@@ -1,14 +1,22 @@
 //! The verifier's session: begin, points, response, leaf, and the opening that closes it.
+//!
+//! A session may be damaged where it is stored. It fails closed: one that is not fresh counts as closed if its parameters
+//! are outside their limits or its leaf is not below n.
 
 use crate::check::check;
 use crate::lent::Lent;
 use crate::messages::Messages;
 use crate::numbers::{number_of, require, Number, CLOSED, LEAF_NOT_BELOW_N, NOT_DUE, WRONG_LENGTH};
 use crate::parameters::Parameters;
+use crate::stored::{byte_of, padded, phase_of, Reader};
 
-/// The call that is due besides begin, or none.
+/// The bytes that a session has for message 2: past 8t they are zeros.
+const MESSAGE_2_BYTES: usize = 64;
+
+/// Which call is due besides begin.
 #[derive(Clone, Copy, Debug, PartialEq, Eq)]
 enum Phase {
+    Fresh,
     Points,
     Response,
     Leaf,
@@ -16,21 +24,40 @@ enum Phase {
     Closed,
 }
 
-/// What a session holds of its exchange; messages not yet given are empty.
-#[derive(Clone, Debug, PartialEq, Eq)]
-struct Exchange {
-    parameters: Parameters,
-    message_1: Vec<u8>,
-    message_2: Vec<u8>,
-    message_3: Vec<u8>,
-    leaf: u8,
-    phase: Phase,
+impl Phase {
+    /// Each phase as a byte; any two differ in at least four bits.
+    const BYTES: [(Phase, u8); 6] = [
+        (Phase::Fresh, 0x0f),
+        (Phase::Points, 0x33),
+        (Phase::Response, 0x3c),
+        (Phase::Leaf, 0x55),
+        (Phase::Opening, 0x5a),
+        (Phase::Closed, 0x66),
+    ];
 }
 
-/// A verifier's session; `default` is one before its first begin.
-#[derive(Clone, Debug, Default, PartialEq, Eq)]
+/// A verifier's session; `default` is one before its first begin. Messages not yet given are zeros.
+#[derive(Clone, Debug, PartialEq, Eq)]
 pub struct Verifier {
-    held: Option<Exchange>,
+    phase: Phase,
+    parameters: Parameters,
+    message_1: [u8; Parameters::MESSAGE_1_BYTES],
+    message_2: [u8; MESSAGE_2_BYTES],
+    message_3: [u8; Parameters::MESSAGE_3_BYTES],
+    leaf: u8,
+}
+
+impl Default for Verifier {
+    fn default() -> Verifier {
+        Verifier {
+            phase: Phase::Fresh,
+            parameters: Parameters::new(0, 0, 0, 0, 0),
+            message_1: [0; Parameters::MESSAGE_1_BYTES],
+            message_2: [0; MESSAGE_2_BYTES],
+            message_3: [0; Parameters::MESSAGE_3_BYTES],
+            leaf: 0,
+        }
+    }
 }
 
 impl Verifier {
@@ -62,64 +89,80 @@ impl Verifier {
     fn try_begin(&mut self, parameters: Parameters, message_1: &[u8]) -> Result<(), Number> {
         parameters.check()?;
         require(message_1.len() == Parameters::MESSAGE_1_BYTES, WRONG_LENGTH)?;
-        self.held = Some(Exchange {
-            parameters,
-            message_1: message_1.to_vec(),
-            message_2: Vec::new(),
-            message_3: Vec::new(),
-            leaf: 0,
-            phase: Phase::Points,
-        });
+        *self = Verifier { phase: Phase::Points, parameters, message_1: padded(message_1), ..Verifier::default() };
         Ok(())
     }
 
     fn try_points(&mut self, message_2: &[u8]) -> Result<(), Number> {
-        let exchange = self.due(Phase::Points)?;
-        require(message_2.len() == exchange.parameters.message_2_bytes(), WRONG_LENGTH)?;
-        exchange.message_2 = message_2.to_vec();
-        exchange.phase = Phase::Response;
+        self.require_due(Phase::Points)?;
+        require(message_2.len() == self.parameters.message_2_bytes(), WRONG_LENGTH)?;
+        self.message_2 = padded(message_2);
+        self.phase = Phase::Response;
         Ok(())
     }
 
     fn try_response(&mut self, message_3: &[u8]) -> Result<(), Number> {
-        let exchange = self.due(Phase::Response)?;
+        self.require_due(Phase::Response)?;
         require(message_3.len() == Parameters::MESSAGE_3_BYTES, WRONG_LENGTH)?;
-        exchange.message_3 = message_3.to_vec();
-        exchange.phase = Phase::Leaf;
+        self.message_3 = padded(message_3);
+        self.phase = Phase::Leaf;
         Ok(())
     }
 
     fn try_leaf(&mut self, leaf: u8) -> Result<(), Number> {
-        let exchange = self.due(Phase::Leaf)?;
-        require(usize::from(leaf) < exchange.parameters.leaves(), LEAF_NOT_BELOW_N)?;
-        exchange.leaf = leaf;
-        exchange.phase = Phase::Opening;
+        self.require_due(Phase::Leaf)?;
+        require(usize::from(leaf) < self.parameters.leaves(), LEAF_NOT_BELOW_N)?;
+        self.leaf = leaf;
+        self.phase = Phase::Opening;
         Ok(())
     }
 
     fn try_opening(&mut self, message_5: &[u8], mut lent: Lent) -> Result<(), Number> {
-        let exchange = self.due(Phase::Opening)?;
-        let parameters = exchange.parameters;
+        self.require_due(Phase::Opening)?;
         let messages = Messages {
-            message_1: &exchange.message_1,
-            message_2: &exchange.message_2,
-            message_3: &exchange.message_3,
-            leaf: exchange.leaf,
+            message_1: &self.message_1,
+            message_2: &self.message_2[..self.parameters.message_2_bytes()],
+            message_3: &self.message_3,
+            leaf: self.leaf,
             message_5,
         };
-        messages.check(&parameters)?;
-        lent.check(&parameters)?;
-        let outcome = check(&parameters, lent.key(), &messages);
-        lent.clear_work(&parameters);
-        exchange.phase = Phase::Closed;
+        messages.check(&self.parameters)?;
+        lent.check(&self.parameters)?;
+        let outcome = check(&self.parameters, lent.key(), &messages);
+        lent.clear_work(&self.parameters);
+        self.phase = Phase::Closed;
         outcome.map(|_| ())
     }
 
-    /// The exchange held if this call is due in it: else 12 if it is closed, and 11 otherwise.
-    fn due(&mut self, phase: Phase) -> Result<&mut Exchange, Number> {
-        let exchange = self.held.as_mut().ok_or(NOT_DUE)?;
-        require(exchange.phase != Phase::Closed, CLOSED)?;
-        require(exchange.phase == phase, NOT_DUE)?;
-        Ok(exchange)
+    /// Whether what is held can come from calls.
+    fn intact(&self) -> bool {
+        self.parameters.check().is_ok() && usize::from(self.leaf) < self.parameters.leaves()
+    }
+
+    /// Refuses with 12 if the session is closed or damaged, and with 11 if another call is due.
+    fn require_due(&self, phase: Phase) -> Result<(), Number> {
+        require(self.phase != Phase::Closed, CLOSED)?;
+        require(self.phase == Phase::Fresh || self.intact(), CLOSED)?;
+        require(self.phase == phase, NOT_DUE)
+    }
+
+    /// The session as it is stored: phase, m, k, w, D, t, messages 1 to 3, leaf.
+    pub fn to_bytes(&self) -> Vec<u8> {
+        let phase = [byte_of(&Phase::BYTES, self.phase)];
+        let parameters = self.parameters.to_bytes();
+        [&phase[..], &parameters, &self.message_1, &self.message_2, &self.message_3, &[self.leaf]].concat()
+    }
+
+    /// The session that stored bytes stand for; a byte that is no phase reads as closed.
+    pub fn from_bytes(bytes: &[u8]) -> Verifier {
+        let mut reader = Reader::new(bytes);
+        Verifier {
+            phase: phase_of(&Phase::BYTES, reader.byte(), Phase::Closed),
+            parameters: Parameters::from_bytes(reader.array()),
+            message_1: reader.array(),
+            message_2: reader.array(),
+            message_3: reader.array(),
+            leaf: reader.byte(),
+        }
     }
 }

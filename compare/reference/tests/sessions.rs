@@ -389,3 +389,113 @@ fn h_comes_before_the_response() {
     exchange.message_5[0] ^= 1;
     assert_eq!(verifier_calls(&exchange)[4].make(&mut verifier_after(&exchange, 4)).number, COMMITMENT_DIFFERS);
 }
+
+/// A session's bytes with one bit flipped.
+fn flipped(mut session: Vec<u8>, place: usize, bit: usize) -> Vec<u8> {
+    session[place] ^= 1 << bit;
+    session
+}
+
+#[test]
+fn sessions_are_stored_and_read_back() {
+    let mut prover = Prover::default();
+    for call in [begin_with(1, 1), points(), leaf(2)] {
+        assert_eq!(prover.to_bytes().len(), 373);
+        assert_eq!(Prover::from_bytes(&prover.to_bytes()), prover);
+        carry_out(&mut prover, &call);
+    }
+    assert_eq!(Prover::from_bytes(&prover.to_bytes()), prover);
+    for calls in 0..=5 {
+        let verifier = verifier_after(&sample_exchange(5), calls);
+        assert_eq!(verifier.to_bytes().len(), 167);
+        assert_eq!(Verifier::from_bytes(&verifier.to_bytes()), verifier);
+    }
+}
+
+/// Whatever bit of m was flipped after the leaf call, no second leaf is opened: 12, and 13 to the same salt and root.
+#[test]
+fn a_damaged_length_opens_no_second_leaf() {
+    let mut prover = Prover::default();
+    for call in [begin_with(1, 1), points(), leaf(2)] {
+        carry_out(&mut prover, &call);
+    }
+    for bit in 0..8 {
+        let mut damaged = Prover::from_bytes(&flipped(prover.to_bytes(), 1, bit));
+        refuse(&mut damaged, &points(), CLOSED);
+        refuse(&mut damaged, &leaf(3), CLOSED);
+        refuse(&mut damaged, &begin_with(1, 1), SALT_AND_ROOT_HELD);
+        carry_out(&mut damaged, &begin_with(1, 2));
+    }
+}
+
+/// A begun session with parameters outside their limits or an x that is too heavy is closed; its salt and root still count.
+#[test]
+fn damaged_provers_are_closed() {
+    let mut begun = Prover::default();
+    carry_out(&mut begun, &begin_with(1, 1));
+    let mut answered = begun.clone();
+    carry_out(&mut answered, &points());
+    for session in [begun.to_bytes(), answered.to_bytes()] {
+        // m 9 as 1, k 4 as 12, w 3 as 19, D 3 as 11, t 2 as 10
+        for (place, bit) in [(1, 3), (2, 3), (3, 4), (4, 3), (5, 3)] {
+            let mut damaged = Prover::from_bytes(&flipped(session.clone(), place, bit));
+            refuse(&mut damaged, &points(), CLOSED);
+            refuse(&mut damaged, &leaf(0), CLOSED);
+            refuse(&mut damaged, &begin_with(1, 1), SALT_AND_ROOT_HELD);
+            carry_out(&mut damaged, &begin_with(1, 2));
+        }
+        let mut heavy = session;
+        heavy[6..6 + SET.m].fill(1);
+        let mut heavy = Prover::from_bytes(&heavy);
+        refuse(&mut heavy, &points(), CLOSED);
+        refuse(&mut heavy, &leaf(0), CLOSED);
+        refuse(&mut heavy, &begin_with(1, 1), SALT_AND_ROOT_HELD);
+    }
+}
+
+/// A byte that is no phase reads as closed, and up to three flipped bits never make another phase.
+#[test]
+fn damaged_phases_are_closed() {
+    let mut prover = Prover::default();
+    let calls = [begin_with(1, 1), points(), leaf(2)];
+    let exchange = sample_exchange(5);
+    for done in 0..=calls.len() {
+        for mask in (1..=255u8).filter(|mask| mask.count_ones() <= 3) {
+            let mut session = prover.to_bytes();
+            session[0] ^= mask;
+            let mut damaged = Prover::from_bytes(&session);
+            refuse(&mut damaged, &points(), CLOSED);
+            refuse(&mut damaged, &leaf(0), CLOSED);
+        }
+        if let Some(call) = calls.get(done) {
+            carry_out(&mut prover, call);
+        }
+    }
+    for done in 0..=5 {
+        for mask in (1..=255u8).filter(|mask| mask.count_ones() <= 3) {
+            let mut session = verifier_after(&exchange, done).to_bytes();
+            session[0] ^= mask;
+            for call in &verifier_calls(&exchange)[1..] {
+                verifier_refuses(&mut Verifier::from_bytes(&session), call, CLOSED);
+            }
+        }
+    }
+}
+
+/// A begun verifier with a leaf that is not below n or a parameter outside its limits is closed.
+#[test]
+fn damaged_verifiers_are_closed() {
+    let exchange = sample_exchange(5);
+    for done in 1..=5 {
+        let session = verifier_after(&exchange, done).to_bytes();
+        for (place, bit) in [(1, 3), (4, 3), (5, 3), (166, 3), (166, 7)] {
+            let damaged = flipped(session.clone(), place, bit);
+            for call in &verifier_calls(&exchange)[1..] {
+                verifier_refuses(&mut Verifier::from_bytes(&damaged), call, CLOSED);
+            }
+            let mut begun = Verifier::from_bytes(&damaged);
+            assert_eq!(verifier_calls(&exchange)[0].make(&mut begun).number, CARRIED_OUT);
+            assert_eq!(begun, verifier_after(&exchange, 1));
+        }
+    }
+}

@@ -69,16 +69,18 @@ pub fn answer_number(answer: Answer) -> u32 {
     }
 }
 
+/// The difference, unless what is asked holds.
+pub fn require(holds: bool, difference: &str) -> Result<(), String> {
+    if holds {
+        Ok(())
+    } else {
+        Err(difference.to_string())
+    }
+}
+
 /// What differs between two effects, if anything.
 pub fn same(expected: &Effect, found: &Effect) -> Result<(), String> {
-    if expected.number != found.number {
-        return Err(format!("number {} for {}", found.number, expected.number));
-    }
-    if expected.output != found.output {
-        return Err("another output".to_string());
-    }
-    if expected.work != found.work {
-        return Err("another work area".to_string());
-    }
-    Ok(())
+    require(expected.number == found.number, &format!("number {} for {}", found.number, expected.number))?;
+    require(expected.output == found.output, "another output")?;
+    require(expected.work == found.work, "another work area")
 }

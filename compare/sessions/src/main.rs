@@ -3,7 +3,7 @@
 //! sessions_comparison SEED     what the gate runs; the last line is 'N passed, M failed'
 
 use sessions_comparison::count::Count;
-use sessions_comparison::{extractor, fixed, prover, verifier};
+use sessions_comparison::{damaged, extractor, fixed, prover, verifier};
 
 fn main() {
     let seed = match std::env::args().nth(1).map(|word| word.parse()) {
@@ -19,10 +19,12 @@ fn main() {
     prover::extremes(seed, &mut count);
     prover::scripts(seed, 0..400, &mut count);
     prover::strangers(seed, 100, &mut count);
+    damaged::provers(seed, 6, &mut count);
     verifier::honest(seed, 20, &mut count);
     verifier::damaged(seed, 40, &mut count);
     verifier::scripts(seed, 0..400, &mut count);
     verifier::strangers(seed, 100, &mut count);
+    damaged::verifiers(seed, 6, &mut count);
     extractor::pairs(seed, 12, &mut count);
     extractor::calls(seed, 0..400, &mut count);
     std::process::exit(count.finish());

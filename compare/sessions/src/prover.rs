@@ -1,8 +1,8 @@
 //! The prover's session.
 
 use crate::count::Count;
-use crate::effects::{make_prover, same};
-use crate::size;
+use crate::effects::{make_prover, require, same};
+use crate::{size, stranger};
 use reference::numbers::CARRIED_OUT;
 use reference::parameters::Parameters;
 use reference::prover::Prover;
@@ -14,6 +14,9 @@ use reference::sampling::scripts::{prover_script, Size};
 use reference::sampling::Random;
 use std::ops::Range;
 
+/// The bytes of the phases.
+pub const PHASES: [u8; 4] = [0x0f, 0x33, 0x55, 0x66];
+
 fn name(input: &ProverInput) -> &'static str {
     match input {
         ProverInput::Begin { .. } => "prover begin",
@@ -22,17 +25,31 @@ fn name(input: &ProverInput) -> &'static str {
     }
 }
 
-/// Makes the calls of both implementations.
+/// Makes a call of both implementations; the number answered.
+pub fn compare_one(
+    call: &ProverCall,
+    expected: &mut Prover,
+    found: &mut unlock::prover::Prover,
+    count: &mut Count,
+) -> Result<u8, String> {
+    let before = found.clone();
+    let effect = call.make(expected);
+    count.answer(name(&call.input), effect.number);
+    same(&effect, &make_prover(call, found))?;
+    if effect.number != CARRIED_OUT {
+        require(*found == before, "refused, but another session")?;
+    } else {
+        require(found.bytes() == expected.to_bytes(), "another session")?;
+    }
+    Ok(effect.number)
+}
+
+/// Makes the calls of both implementations, from one session.
 fn compare(calls: &[ProverCall], mut found: unlock::prover::Prover, count: &mut Count) -> Result<(), String> {
-    let mut expected = Prover::default();
+    let mut expected = Prover::from_bytes(found.bytes());
     for (place, call) in calls.iter().enumerate() {
-        let before = found.clone();
-        let effect = call.make(&mut expected);
-        count.answer(name(&call.input), effect.number);
-        same(&effect, &make_prover(call, &mut found)).map_err(|difference| format!("call {place}: {difference}"))?;
-        if effect.number != CARRIED_OUT && found != before {
-            return Err(format!("call {place}: refused, but another session"));
-        }
+        compare_one(call, &mut expected, &mut found, count)
+            .map_err(|difference| format!("call {place}: {difference}"))?;
     }
     Ok(())
 }
@@ -80,11 +97,11 @@ pub fn extremes(seed: u64, count: &mut Count) {
     }
 }
 
-/// Scripts from sessions that no call made: bytes whose parameters are outside their limits count as never begun.
+/// Scripts from sessions that no call made.
 pub fn strangers(seed: u64, scripts: usize, count: &mut Count) {
     for number in 0..scripts {
         let mut random = Random::new(seed.wrapping_mul(1_000_033).wrapping_add(number as u64));
-        let session = vec![random.choose(&[0, 255]); unlock::prover::Prover::size()];
+        let session = stranger(&mut random, unlock::prover::Prover::size(), &PHASES);
         let calls = prover_script(&mut random, Size { greatest_m: 12, greatest_axes: 3 }, 8);
         let outcome = compare(&calls, unlock::prover::Prover::from_bytes(session), count);
         count.settle(&format!("prover script {number} from a session that no call made"), outcome);

@@ -1,8 +1,8 @@
 //! The verifier's session.
 
 use crate::count::Count;
-use crate::effects::{make_verifier, same};
-use crate::size;
+use crate::effects::{make_verifier, require, same};
+use crate::{size, stranger};
 use reference::sampling::calls::{LentBytes, VerifierCall};
 use reference::sampling::damage::flip_bit;
 use reference::sampling::exchanges::{honest_exchange, Exchange, Start};
@@ -12,6 +12,9 @@ use reference::sampling::scripts::{verifier_script, Size};
 use reference::sampling::Random;
 use reference::verifier::Verifier;
 use std::ops::Range;
+
+/// The bytes of the phases.
+pub const PHASES: [u8; 6] = [0x0f, 0x33, 0x3c, 0x55, 0x5a, 0x66];
 
 fn name(call: &VerifierCall) -> &'static str {
     match call {
@@ -23,23 +26,36 @@ fn name(call: &VerifierCall) -> &'static str {
     }
 }
 
-/// Makes the calls of both implementations; the numbers answered.
+/// Makes a call of both implementations; the number answered.
+pub fn compare_one(
+    call: &VerifierCall,
+    expected: &mut Verifier,
+    found: &mut unlock::verifier::Verifier,
+    count: &mut Count,
+) -> Result<u8, String> {
+    let before = found.clone();
+    let effect = call.make(expected);
+    count.answer(name(call), effect.number);
+    same(&effect, &make_verifier(call, found))?;
+    if ![0, 5, 6, 7].contains(&effect.number) {
+        require(*found == before, "refused, but another session")?;
+    } else {
+        require(found.bytes() == expected.to_bytes(), "another session")?;
+    }
+    Ok(effect.number)
+}
+
+/// Makes the calls of both implementations, from one session; the numbers answered.
 fn compare(
     calls: &[VerifierCall],
     mut found: unlock::verifier::Verifier,
     count: &mut Count,
 ) -> Result<Vec<u8>, String> {
-    let mut expected = Verifier::default();
+    let mut expected = Verifier::from_bytes(found.bytes());
     let mut numbers = Vec::new();
     for (place, call) in calls.iter().enumerate() {
-        let before = found.clone();
-        let effect = call.make(&mut expected);
-        count.answer(name(call), effect.number);
-        same(&effect, &make_verifier(call, &mut found)).map_err(|difference| format!("call {place}: {difference}"))?;
-        if ![0, 5, 6, 7].contains(&effect.number) && found != before {
-            return Err(format!("call {place}: refused, but another session"));
-        }
-        numbers.push(effect.number);
+        let number = compare_one(call, &mut expected, &mut found, count);
+        numbers.push(number.map_err(|difference| format!("call {place}: {difference}"))?);
     }
     Ok(numbers)
 }
@@ -155,11 +171,11 @@ pub fn damaged(seed: u64, rounds: usize, count: &mut Count) {
     }
 }
 
-/// Scripts from sessions that no call made: bytes whose parameters are outside their limits count as never begun.
+/// Scripts from sessions that no call made.
 pub fn strangers(seed: u64, scripts: usize, count: &mut Count) {
     for number in 0..scripts {
         let mut random = Random::new(seed.wrapping_mul(1_000_039).wrapping_add(number as u64));
-        let session = vec![random.choose(&[0, 255]); unlock::verifier::Verifier::size()];
+        let session = stranger(&mut random, unlock::verifier::Verifier::size(), &PHASES);
         let calls = verifier_script(&mut random, Size { greatest_m: 12, greatest_axes: 3 }, 8);
         let outcome = compare(&calls, unlock::verifier::Verifier::from_bytes(session), count);
         count.settle(&format!("verifier script {number} from a session that no call made"), outcome.map(|_| ()));

@@ -32,7 +32,7 @@ pub fn list(bytes: &[u8]) -> String {
 }
 
 /// A record, field by field, on lines of its own.
-fn record(fields: &[(&str, String)]) -> String {
+pub fn record(fields: &[(&str, String)]) -> String {
     let lines: String = fields.iter().map(|(name, term)| format!("  {name} = {term};\n")).collect();
     format!("record {{\n{lines}}}")
 }

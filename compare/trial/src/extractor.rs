@@ -14,8 +14,8 @@ const FINDING_USES: [(&str, &[&str]); 3] = [
 ];
 
 const CALL_USES: [(&str, &[&str]); 2] = [
-    ("Rattle.extractor.specs.Call", &["Transcript", "Outcome", "extraction"]),
-    ("Rattle.trial_extractor.specs.Definitions", &["definitions", "extractionNumbers"]),
+    ("Rattle.calls.specs.Extractor", &["Transcript", "Outcome", "refused", "pair", "filled", "extraction"]),
+    ("Rattle.trial_extractor.specs.Definitions", &["definitions", "gives", "given"]),
 ];
 
 /// The hash of a weakness.
@@ -94,10 +94,10 @@ impl<'a> Pair<'a> {
 /// Names a call, and states what it answers and leaves in output and work area.
 fn call_fact(module: &mut Module, name: &str, weakness: Weakness, call: &ExtractorCall) {
     let (answer, work, output) = under(weakness, || call.make());
-    let numbers = match answer {
-        Answer::Refused(number) => format!("{number} ∷ []"),
-        Answer::Unequal { layer, number } => format!("0 ∷ {layer} ∷ {number} ∷ []"),
-        Answer::Extracted { axis } => format!("0 ∷ {axis} ∷ []"),
+    let answered = match answer {
+        Answer::Refused(number) => format!("refused {number}"),
+        Answer::Unequal { layer, number } => format!("pair {layer} {number}"),
+        Answer::Extracted { axis } => format!("filled {axis}"),
     };
     let lent = &call.lent;
     let first = named(module, &format!("{name}A"), &call.first);
@@ -108,9 +108,8 @@ fn call_fact(module: &mut Module, name: &str, weakness: Weakness, call: &Extract
     let hash = hash(weakness);
     let term = format!("extraction {hash} {set} {first} {second} {key} {lent_work} {lent_output}");
     module.value(name, "Outcome", &term);
-    let computed = format!("extractionNumbers ({name} .answer) ∷ {name} .out ∷ {name} .work ∷ []");
-    let expected = format!("({numbers}) ∷ {} ∷ {} ∷ []", list(&output), list(&work));
-    module.fact(&format!("{name}-gives"), &computed, &expected);
+    let expected = format!("gives ({answered}) ({}) ({})", list(&output), list(&work));
+    module.fact(&format!("{name}-gives"), &format!("given {name}"), &expected);
 }
 
 fn findings_module(name: &'static str, title: &str, sample: &Sample) -> Module {
@@ -174,8 +173,7 @@ pub fn calls(sample: &Sample) -> Module {
         "p, key, work, out     parameters, matrix and y, work area and output as lent",
         "..A, ..B              the messages of two exchanges",
         "honest, ..            the calls, with all that they are lent",
-        "..-gives              what the call answers: a refusal's number; or 0, layer and number; or 0 and the axis;",
-        "                      then output and work area",
+        "..-gives              what the call answers, and output and work area after it",
     ];
     let mut module = Module::new("ExtractorCalls", &comment, &CALL_USES);
     let honest = Pair::new(Weakness::Nothing, sample, [0, 1], [None; 2]).call();

@@ -1,21 +1,22 @@
 //! The prover's session: one call after another on one session, carried out and refused.
 
-use crate::antt::{list, parameters, public_key, Module};
+use crate::antt::{list, parameters, public_key, record, Module};
 use crate::sample::{Sample, OUTPUT, WORK};
 use reference::parameters::Parameters;
 use reference::prover::Prover;
 use reference::sampling::calls::{LentBytes, ProverCall, ProverInput};
 
 const USES: [(&str, &[&str]); 2] = [
-    ("Rattle.prover.specs.Session", &["Outcome", "fresh", "begin", "points", "leaf"]),
+    ("Rattle.calls.specs.Prover", &["Prover", "Outcome", "fresh", "begin", "points", "leaf"]),
     ("Rattle.trial_prover.specs.Definitions", &["definitions"]),
 ];
 
-/// A session and the calls made on it so far.
+/// A session, the term for it, and how many calls were made on it so far.
 struct Script<'a> {
     module: Module,
     sample: &'a Sample,
     session: Prover,
+    term: String,
     made: usize,
 }
 
@@ -23,20 +24,34 @@ impl Script<'_> {
     /// Makes a call and states what it gives.
     fn make(&mut self, label: &str, call: &ProverCall) {
         let effect = call.make(&mut self.session);
-        let before = if self.made == 0 { "fresh".into() } else { format!("(call{} .prover)", self.made) };
         self.made += 1;
         let name = format!("call{}", self.made);
-        let term = self.term(call, &before);
+        let term = self.term(call);
+        self.term = format!("({name} .prover)");
         self.module.comment(&format!("{name}: {label}"));
         self.module.value(&name, "Outcome", &term);
         let expected = format!("({} ∷ []) ∷ {} ∷ {} ∷ []", effect.number, list(&effect.output), list(&effect.work));
-        let computed = format!("(answerNumber ({name} .answer) ∷ []) ∷ {name} .out ∷ {name} .work ∷ []");
+        let computed = format!("({name} .answer ∷ []) ∷ {name} .out ∷ {name} .work ∷ []");
         self.module.fact(&format!("{name}-gives"), &computed, &expected);
     }
 
-    /// The call on a session.
-    fn term(&self, call: &ProverCall, session: &str) -> String {
-        let module = &self.module;
+    /// Names the session with m 1 in place of the m that it holds, and goes on from it.
+    fn damage(&mut self) {
+        let mut session = self.session.to_bytes();
+        session[1] = 1;
+        self.session = Prover::from_bytes(&session);
+        let held = |field: &str| format!("call{} .prover .{field}", self.made);
+        let set = parameters(&Parameters { m: 1, ..self.sample.key.parameters });
+        let fields = ["phase", "x", "salt", "root", "message2"].map(|field| (field, held(field)));
+        let term = record(&[&fields[..1], &[("parameters", set)], &fields[1..]].concat());
+        self.module.comment("the session with m 1, which no call made");
+        self.module.value("damaged", "Prover", &term);
+        self.term = "damaged".into();
+    }
+
+    /// The call on the session.
+    fn term(&self, call: &ProverCall) -> String {
+        let (module, session) = (&self.module, &self.term);
         let key = module.argument(&public_key(&call.lent.matrix, &call.lent.y));
         let lent = format!("{key} {} {}", module.list(&call.lent.work), module.list(&call.output));
         match &call.input {
@@ -129,6 +144,16 @@ fn script_calls(script: &Script) -> Vec<(&'static str, ProverCall)> {
     ]
 }
 
+/// The calls on the damaged session: it is closed, and its salt and root are those of the exchange held.
+fn damaged_calls(script: &Script) -> Vec<(&'static str, ProverCall)> {
+    vec![
+        ("points, the session damaged", script.points()),
+        ("leaf 0, the session damaged", script.leaf(0)),
+        ("begin with the salt and root held, the session damaged", script.begin(1)),
+        ("begin with another root, the session damaged", script.begin(0)),
+    ]
+}
+
 /// The prover's calls on one session.
 pub fn calls(sample: &Sample) -> Module {
     let comment = [
@@ -137,6 +162,7 @@ pub fn calls(sample: &Sample) -> Module {
         "p, key, xA, salt, root, m2     parameters, matrix and y, x_A, salt, root and message 2",
         "work                           a work area, longer than its named length",
         "call1, call2, ..               the calls, with all that they are lent",
+        "damaged                        the session held at the end, with another m",
         "call1-gives, ..                the number that the call answers, then output and work area",
     ];
     let mut module = Module::new("ProverCalls", &comment, &USES);
@@ -146,8 +172,12 @@ pub fn calls(sample: &Sample) -> Module {
     module.bytes("root", &sample.start.root);
     module.bytes("m2", &sample.start.message_2);
     module.bytes("work", &vec![WORK; sample.key.parameters.work_bytes() + 2]);
-    let mut script = Script { module, sample, session: Prover::default(), made: 0 };
+    let mut script = Script { module, sample, session: Prover::default(), term: "fresh".into(), made: 0 };
     for (label, call) in script_calls(&script) {
+        script.make(label, &call);
+    }
+    script.damage();
+    for (label, call) in damaged_calls(&script) {
         script.make(label, &call);
     }
     script.module

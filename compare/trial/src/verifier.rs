@@ -1,6 +1,6 @@
 //! The verifier's session: one call after another on one session, carried out and refused.
 
-use crate::antt::{list, parameters, public_key, Module};
+use crate::antt::{list, parameters, public_key, record, Module};
 use crate::sample::{changed, Part, Sample, WORK};
 use reference::parameters::Parameters;
 use reference::sampling::calls::{LentBytes, VerifierCall};
@@ -9,23 +9,37 @@ use reference::verifier::Verifier;
 
 const USES: [(&str, &[&str]); 2] = [
     (
-        "Rattle.verifier.specs.Session",
-        &["Outcome", "Judged", "fresh", "begin", "points", "response", "leaf", "opening"],
+        "Rattle.calls.specs.Verifier",
+        &["Verifier", "Outcome", "Judged", "fresh", "begin", "points", "response", "leaf", "opening"],
     ),
     ("Rattle.trial_verifier.specs.Definitions", &["definitions"]),
 ];
 
-/// A session and the calls made on it so far.
+/// A session, the term for it, and how many calls were made on it so far.
 struct Script {
     module: Module,
     session: Verifier,
+    term: String,
     made: usize,
 }
 
 impl Script {
-    /// The call on a session.
-    fn term(&self, call: &VerifierCall, session: &str) -> String {
-        let module = &self.module;
+    /// Names the session with leaf n in place of the leaf that it holds, and goes on from it.
+    fn damage(&mut self, set: &Parameters) {
+        let mut session = self.session.to_bytes();
+        *session.last_mut().expect("a session has bytes") = set.leaves() as u8;
+        self.session = Verifier::from_bytes(&session);
+        let held = |field| (field, format!("call{} .verifier .{field}", self.made));
+        let fields = ["phase", "parameters", "message1", "message2", "message3"].map(held);
+        let term = record(&[&fields[..], &[("leaf", set.leaves().to_string())]].concat());
+        self.module.comment("the session with leaf n, which no call made");
+        self.module.value("damaged", "Verifier", &term);
+        self.term = "damaged".into();
+    }
+
+    /// The call on the session.
+    fn term(&self, call: &VerifierCall) -> String {
+        let (module, session) = (&self.module, &self.term);
         match call {
             VerifierCall::Begin { parameters: set, message_1 } => {
                 format!("begin {session} {} {}", module.argument(&parameters(set)), module.list(message_1))
@@ -43,10 +57,10 @@ impl Script {
     /// Makes a call and states what it gives.
     fn make(&mut self, label: &str, call: &VerifierCall) {
         let effect = call.make(&mut self.session);
-        let before = if self.made == 0 { "fresh".into() } else { format!("(call{} .verifier)", self.made) };
         self.made += 1;
         let name = format!("call{}", self.made);
-        let term = self.term(call, &before);
+        let term = self.term(call);
+        self.term = format!("({name} .verifier)");
         let kind = if matches!(call, VerifierCall::Opening { .. }) { "Judged" } else { "Outcome" };
         self.module.comment(&format!("{name}: {label}"));
         self.module.value(&name, kind, &term);
@@ -54,10 +68,10 @@ impl Script {
         let fact = format!("{name}-gives");
         if kind == "Judged" {
             let expected = format!("({number} ∷ []) ∷ {} ∷ []", list(&effect.work));
-            let computed = format!("(answerNumber ({name} .answer) ∷ []) ∷ {name} .work ∷ []");
+            let computed = format!("({name} .answer ∷ []) ∷ {name} .work ∷ []");
             self.module.fact(&fact, &computed, &expected);
         } else {
-            self.module.fact(&fact, &format!("answerNumber ({name} .answer)"), &number.to_string());
+            self.module.fact(&fact, &format!("{name} .answer"), &number.to_string());
         }
     }
 
@@ -120,7 +134,8 @@ fn first_calls(sample: &Sample, honest: &Exchange) -> Vec<(&'static str, Verifie
     ]
 }
 
-/// The verifier's calls on one session: three exchanges, the first accepted, the others refused with 5 and 7.
+/// The verifier's calls on one session: three exchanges, the first accepted, the others refused with 5 and 7; and a fourth,
+/// damaged before its opening: it is closed.
 pub fn calls(sample: &Sample) -> Module {
     let set = sample.key.parameters;
     let comment = [
@@ -129,6 +144,7 @@ pub fn calls(sample: &Sample) -> Module {
         "p, key, m1, m2, m3, m5     parameters, matrix and y, the messages of an honest exchange",
         "work                       a work area, longer than its named length",
         "call1, call2, ..           the calls, with all that they are lent",
+        "damaged                    a session whose opening is due, with leaf n",
         "call1-gives, ..            the number that the call answers; of an opening, then the work area",
     ];
     let honest = sample.exchange(0);
@@ -139,7 +155,7 @@ pub fn calls(sample: &Sample) -> Module {
     module.bytes("m3", &honest.message_3);
     module.bytes("m5", &honest.message_5);
     module.bytes("work", &lent(sample).work);
-    let mut script = Script { module, session: Verifier::default(), made: 0 };
+    let mut script = Script { module, session: Verifier::default(), term: "fresh".into(), made: 0 };
     for (label, call) in first_calls(sample, &honest) {
         script.make(label, &call);
     }
@@ -147,5 +163,15 @@ pub fn calls(sample: &Sample) -> Module {
     response_changed.message_3[31] ^= 0x80;
     script.exchange(sample, "the commitment changed", &changed(&set, &honest, Part::Commitment));
     script.exchange(sample, "leaf n−1 hidden, message 3 changed", &response_changed);
+    let [begin, points, response, leaf, opening] = five_calls(sample, &honest);
+    for (label, call) in [("begin", &begin), ("points", &points), ("response", &response), ("leaf 0", &leaf)] {
+        script.make(label, call);
+    }
+    script.damage(&set);
+    for (label, call) in
+        [("points", points), ("response", response), ("leaf 0", leaf), ("opening", opening), ("begin", begin)]
+    {
+        script.make(&format!("{label}, the session damaged"), &call);
+    }
     script.module
 }

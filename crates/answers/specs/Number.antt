@@ -7,6 +7,7 @@ use Rattle.answers.specs.declared.Refusal.{Refusal}
 use Rattle.answers.specs.declared.Refusal.the-variants.{Parameter, Length, Weight, Leaf, Commitment, Sums, Response, Exchange, SameLeaf, Malformed, NotDue, Closed, Repeated}
 use Rattle.answers.specs.declared.Answer.{Answer}
 use Rattle.answers.specs.declared.Answer.the-variants.{Done, Refused}
+pub mod Laws
 
 abbrev pub refusalNumber : Refusal → ℕ
 refusalNumber Parameter = 1

@@ -1,27 +1,23 @@
 -- A session in a buffer that the caller lends.
 --
 -- fits b n call other   what the call gives; where the buffer b has not n bytes, the other
--- after a old new       the buffer after a call that answered a: the session written anew where the call was carried out, else as it was
+-- after n old new       the buffer after a call with the number n: the session written anew where the call was carried out (0), else as it was
 -- Kept                  a call's number, and the bytes in the buffer after it
 -- misfit b              2, and nothing else changes
--- judges n              'opening (closes with accepted, 5, 6 or 7)': with these numbers the session is written anew
-use mathlib.Core.Bool.{Bool, _&&_, _||_, cond}
+use mathlib.Core.Bool.{cond}
 use mathlib.Core.List.{List}
 use Prim.Native.Nat.{ℕ}
-use lib.Dec.{eqb, leb}
+use lib.Dec.{eqb}
 use lib.ListN.{length}
 use Rattle.answers.specs.Number.{refusalNumber}
-use Rattle.answers.specs.declared.Answer.{Answer}
-use Rattle.answers.specs.declared.Answer.the-variants.{Done, Refused}
 use Rattle.answers.specs.declared.Refusal.the-variants.{Length}
 pub mod Laws
 
 unfoldable pub fits : {A : Type 0} → List ℕ → ℕ → A → A → A
 fits b n call other = cond (eqb (length b) n) call other
 
-abbrev pub after : Answer → List ℕ → List ℕ → List ℕ
-after Done old new = new
-after (Refused r) old new = old
+abbrev pub after : ℕ → List ℕ → List ℕ → List ℕ
+after n old new = cond (eqb n 0) new old
 
 pub record Kept : Type 0 where
   pub number : ℕ
@@ -32,6 +28,3 @@ kept n b = record { number = n; session = b }
 
 abbrev pub misfit : List ℕ → Kept
 misfit b = kept (refusalNumber Length) b
-
-unfoldable pub judges : ℕ → Bool
-judges n = eqb n 0 || (leb 5 n && leb n 7)

@@ -1,16 +1,19 @@
 // A verifier's session in a buffer that the caller lends: which numbers of an opening write it anew.
 ghost use mathlib.Core.Path.{_≡_};
-ghost use Rattle.buffer.specs.Buffer.{judges};
+ghost use Rattle.calls.specs.Judging.{judged};
 
 // Does an opening with this number close the exchange?
 pub fn is_judged(n: u8) -> bool
-    ensures { λ r. ⌜ r ≡ judges n ⌝ }
+    ensures { λ r. ⌜ r ≡ judged n ⌝ }
 {
     if n == 0 {
         return true;
     }
-    if n < 5 {
-        return false;
+    if n == 5 {
+        return true;
     }
-    n <= 7
+    if n == 6 {
+        return true;
+    }
+    n == 7
 }

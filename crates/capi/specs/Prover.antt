@@ -2,21 +2,21 @@
 --
 -- Outcome                     number, bytes of the session, output and work area
 -- proverAfter b o             what the call's outcome o gives
--- proverCall b work out call  the call on the session that the bytes b are; a buffer of another length gives 2, and nothing changes
+-- proverCall b n work out call  the call on the session that the bytes b are; a buffer of another length gives the number n, and nothing changes
 -- proverBegin, proverPoints, proverLeaf   the three calls, at SHAKE256
 use mathlib.Core.List.{List}
 use Prim.Native.Nat.{ℕ}
-use Rattle.answers.specs.Number.{answerNumber, refusalNumber}
+use Rattle.answers.specs.Number.{refusalNumber}
 use Rattle.answers.specs.declared.Refusal.the-variants.{Length}
 use Rattle.parameters.specs.declared.Parameters.{Parameters}
 use Rattle.shake256.specs.Fips.{SHAKE256}
 use Rattle.exchange.specs.Values.{Key}
-use Rattle.prover.specs.declared.Prover.{Prover}
-use Rattle.prover.specs.Session as prover
+use Rattle.calls.specs.Prover as prover
 use Rattle.stored.specs.Prover.{proverSize, proverBytes, proverFrom}
-use Rattle.capi.specs.Session.{fits, after}
+use Rattle.capi.specs.Session.{fits, after, misfitNumber}
 pub mod Laws
 pub mod Follows
+pub mod Runs
 
 pub record Outcome : Type 0 where
   pub number : ℕ
@@ -29,16 +29,16 @@ abbrev pub given : ℕ → List ℕ → List ℕ → List ℕ → Outcome
 given n session out work = record { number = n; session = session; out = out; work = work }
 
 unfoldable pub proverAfter : List ℕ → prover.Outcome → Outcome
-proverAfter b o = given (answerNumber (o .answer)) (after (o .answer) b (proverBytes (o .prover))) (o .out) (o .work)
+proverAfter b o = given (o .answer) (after (o .answer) b (proverBytes (o .prover))) (o .out) (o .work)
 
-unfoldable pub proverCall : List ℕ → List ℕ → List ℕ → (Prover → prover.Outcome) → Outcome
-proverCall b work out call = fits b proverSize (proverAfter b (call (proverFrom b))) (given (refusalNumber Length) b out work)
+unfoldable pub proverCall : List ℕ → ℕ → List ℕ → List ℕ → (prover.Prover → prover.Outcome) → Outcome
+proverCall b n work out call = fits b proverSize (proverAfter b (call (proverFrom b))) (given n b out work)
 
 abbrev pub proverBegin : List ℕ → Parameters → List ℕ → List ℕ → List ℕ → Key → List ℕ → List ℕ → Outcome
-proverBegin b p xA salt root key work out = proverCall b work out (λ s. prover.begin SHAKE256 s p xA salt root key work out)
+proverBegin b p xA salt root key work out = proverCall b (misfitNumber p) work out (λ s. prover.begin SHAKE256 s p xA salt root key work out)
 
 abbrev pub proverPoints : List ℕ → List ℕ → Key → List ℕ → List ℕ → Outcome
-proverPoints b m2 key work out = proverCall b work out (λ s. prover.points SHAKE256 s m2 key work out)
+proverPoints b m2 key work out = proverCall b (refusalNumber Length) work out (λ s. prover.points SHAKE256 s m2 key work out)
 
 abbrev pub proverLeaf : List ℕ → ℕ → Key → List ℕ → List ℕ → Outcome
-proverLeaf b i key work out = proverCall b work out (λ s. prover.leaf SHAKE256 s i key work out)
+proverLeaf b i key work out = proverCall b (refusalNumber Length) work out (λ s. prover.leaf SHAKE256 s i key work out)

@@ -2,19 +2,26 @@
 --
 -- proverNew b           a prover's session before its first begin
 -- verifierNew b         a verifier's session before its first begin
+-- misfitNumber p        what begin answers for a buffer of another length: 1 stands before 2
+use mathlib.Core.Bool.{cond}
 use mathlib.Core.List.{List}
 use Prim.Native.Nat.{ℕ}
-use Rattle.answers.specs.Number.{answerNumber}
-use Rattle.answers.specs.declared.Answer.the-variants.{Done}
+use Rattle.answers.specs.Number.{refusalNumber}
+use Rattle.answers.specs.declared.Refusal.the-variants.{Parameter, Length}
+use Rattle.parameters.specs.declared.Parameters.{Parameters}
+use Rattle.parameters.specs.Limits.{withinLimits}
 unfoldable pub use Rattle.buffer.specs.Buffer.{fits}
 pub use Rattle.buffer.specs.Buffer.{after, Kept, kept, misfit}
-use Rattle.prover.specs.Session as prover
-use Rattle.verifier.specs.Session as verifier
+use Rattle.calls.specs.Prover as prover
+use Rattle.calls.specs.Verifier as verifier
 use Rattle.stored.specs.Prover.{proverSize, proverBytes}
 use Rattle.stored.specs.Verifier.{verifierSize, verifierBytes}
 
 abbrev pub proverNew : List ℕ → Kept
-proverNew b = fits b proverSize (kept (answerNumber Done) (proverBytes prover.fresh)) (misfit b)
+proverNew b = fits b proverSize (kept 0 (proverBytes prover.fresh)) (misfit b)
 
 abbrev pub verifierNew : List ℕ → Kept
-verifierNew b = fits b verifierSize (kept (answerNumber Done) (verifierBytes verifier.fresh)) (misfit b)
+verifierNew b = fits b verifierSize (kept 0 (verifierBytes verifier.fresh)) (misfit b)
+
+abbrev pub misfitNumber : Parameters → ℕ
+misfitNumber p = cond (withinLimits p) (refusalNumber Length) (refusalNumber Parameter)

@@ -1,7 +1,7 @@
 -- The verifier's calls on the bytes of a session.
 --
 -- verifierAfter b o           what the outcome o of a call on the bytes b gives
--- verifierCall b call         the call on the session that the bytes b are; a buffer of another length gives 2, and nothing changes
+-- verifierCall b n call       the call on the session that the bytes b are; a buffer of another length gives the number n, and nothing changes
 -- verifierBegin, verifierPoints, verifierResponse, verifierLeaf   the calls but the opening
 -- Judged                      number, bytes of the session and work area
 -- openingAfter b o            what the outcome o of the opening on the bytes b gives
@@ -9,36 +9,36 @@
 use mathlib.Core.Bool.{cond}
 use mathlib.Core.List.{List}
 use Prim.Native.Nat.{ℕ}
-use Rattle.answers.specs.Number.{answerNumber, refusalNumber}
+use Rattle.answers.specs.Number.{refusalNumber}
 use Rattle.answers.specs.declared.Refusal.the-variants.{Length}
 use Rattle.parameters.specs.declared.Parameters.{Parameters}
 use Rattle.shake256.specs.Fips.{SHAKE256}
 use Rattle.exchange.specs.Values.{Key}
-unfoldable pub use Rattle.buffer.specs.Buffer.{judges}
-use Rattle.verifier.specs.declared.Verifier.{Verifier}
-use Rattle.verifier.specs.Session as verifier
+pub use Rattle.calls.specs.Judging.{judged as judges}
+use Rattle.calls.specs.Verifier as verifier
 use Rattle.stored.specs.Verifier.{verifierSize, verifierBytes, verifierFrom}
-use Rattle.capi.specs.Session.{fits, after, Kept, kept, misfit}
+use Rattle.capi.specs.Session.{fits, after, Kept, kept, misfitNumber}
 pub mod Laws
 pub mod Follows
+pub mod Runs
 
 unfoldable pub verifierAfter : List ℕ → verifier.Outcome → Kept
-verifierAfter b o = kept (answerNumber (o .answer)) (after (o .answer) b (verifierBytes (o .verifier)))
+verifierAfter b o = kept (o .answer) (after (o .answer) b (verifierBytes (o .verifier)))
 
-unfoldable pub verifierCall : List ℕ → (Verifier → verifier.Outcome) → Kept
-verifierCall b call = fits b verifierSize (verifierAfter b (call (verifierFrom b))) (misfit b)
+unfoldable pub verifierCall : List ℕ → ℕ → (verifier.Verifier → verifier.Outcome) → Kept
+verifierCall b n call = fits b verifierSize (verifierAfter b (call (verifierFrom b))) (kept n b)
 
 abbrev pub verifierBegin : List ℕ → Parameters → List ℕ → Kept
-verifierBegin b p m1 = verifierCall b (λ s. verifier.begin s p m1)
+verifierBegin b p m1 = verifierCall b (misfitNumber p) (λ s. verifier.begin s p m1)
 
 abbrev pub verifierPoints : List ℕ → List ℕ → Kept
-verifierPoints b m2 = verifierCall b (λ s. verifier.points s m2)
+verifierPoints b m2 = verifierCall b (refusalNumber Length) (λ s. verifier.points s m2)
 
 abbrev pub verifierResponse : List ℕ → List ℕ → Kept
-verifierResponse b m3 = verifierCall b (λ s. verifier.response s m3)
+verifierResponse b m3 = verifierCall b (refusalNumber Length) (λ s. verifier.response s m3)
 
 abbrev pub verifierLeaf : List ℕ → ℕ → Kept
-verifierLeaf b i = verifierCall b (λ s. verifier.leaf s i)
+verifierLeaf b i = verifierCall b (refusalNumber Length) (λ s. verifier.leaf s i)
 
 -- ---- the opening
 
@@ -52,7 +52,7 @@ abbrev pub judged : ℕ → List ℕ → List ℕ → Judged
 judged n session work = record { number = n; session = session; work = work }
 
 unfoldable pub openingAfter : List ℕ → verifier.Judged → Judged
-openingAfter b o = judged (answerNumber (o .answer)) (cond (judges (answerNumber (o .answer))) (verifierBytes (o .verifier)) b) (o .work)
+openingAfter b o = judged (o .answer) (cond (judges (o .answer)) (verifierBytes (o .verifier)) b) (o .work)
 
 unfoldable pub verifierOpening : List ℕ → List ℕ → Key → List ℕ → Judged
 verifierOpening b m5 key work =

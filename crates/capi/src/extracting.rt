@@ -4,7 +4,9 @@ use parameters::Parameters;
 ghost use mathlib.Core.Path.{_≡_};
 ghost use Rattle.coefficients.specs.Coefficients.{keyOf};
 ghost use Rattle.capi.specs.Sizes.{parametersOf};
-ghost use Rattle.capi.specs.Extract.{extractNumber, given, transcriptOf, extractCall};
+ghost use Rattle.calls.specs.Extractor.{transcript};
+ghost use Rattle.findings.specs.Answer.{extractionAnswer};
+ghost use Rattle.capi.specs.Extract.{extractNumber, given, extractCall};
 
 fn wide(b: u8) -> u32
     ensures { λ r. ⌜ r ≡ b ⌝ }
@@ -14,7 +16,7 @@ fn wide(b: u8) -> u32
 
 // The number of the extractor's answer.
 fn number(e: Extraction) -> u32
-    ensures { λ r. ⌜ r ≡ extractNumber e ⌝ }
+    ensures { λ r. ⌜ r ≡ extractNumber (extractionAnswer e) ⌝ }
 {
     match e {
         Extraction::Refused(r) => wide(answers::refusal_number(r)),
@@ -48,8 +50,8 @@ pub extern "C" fn unlock_extract(
 ) -> u32
     ensures { λ r. ⌜ given r (now (out .exit)) (now (work .exit))
         ≡ extractCall (parametersOf m k w d t)
-        (transcriptOf (now (first1 .entry)) (now (first2 .entry)) (now (first3 .entry)) first4 (now (first5 .entry)))
-        (transcriptOf (now (second1 .entry)) (now (second2 .entry)) (now (second3 .entry)) second4 (now (second5 .entry)))
+        (transcript (now (first1 .entry)) (now (first2 .entry)) (now (first3 .entry)) first4 (now (first5 .entry)))
+        (transcript (now (second1 .entry)) (now (second2 .entry)) (now (second3 .entry)) second4 (now (second5 .entry)))
         (keyOf (now (matrix .entry)) (now (y .entry))) (now (work .entry)) (now (out .entry)) ⌝ }
 {
     let p = Parameters { m, k, w, d, t };

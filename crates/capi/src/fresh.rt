@@ -1,4 +1,4 @@
-// Sessions before their first begin: as bytes, zeros.
+// Sessions before their first begin.
 ghost use mathlib.Core.Path.{_≡_};
 ghost use Rattle.capi.specs.Session.{kept, proverNew, verifierNew};
 
@@ -10,7 +10,8 @@ pub extern "C" fn unlock_prover_new(session: &mut [u8]) -> u8
     if session.len() != stored::PROVER_SIZE {
         return 2;
     }
-    lists::zero_front(session, stored::PROVER_SIZE);
+    let s = prover::fresh();
+    stored::write_prover(s, session);
     0
 }
 
@@ -22,6 +23,7 @@ pub extern "C" fn unlock_verifier_new(session: &mut [u8]) -> u8
     if session.len() != stored::VERIFIER_SIZE {
         return 2;
     }
-    lists::zero_front(session, stored::VERIFIER_SIZE);
+    let s = verifier::fresh();
+    stored::write_verifier(s, session);
     0
 }

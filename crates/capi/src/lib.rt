@@ -2,6 +2,7 @@
 // buffer that the caller lends. Arguments go in the order session, parameters, inputs, matrix, y, work area, output.
 mod extracting;
 mod fresh;
+mod misfit;
 mod proving;
 mod sizes;
 mod verifying;

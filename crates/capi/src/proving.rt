@@ -1,12 +1,13 @@
 // The prover's calls.
+use crate::misfit::misfit_number;
 use answers::Answer;
 use parameters::Parameters;
 use prover::Called;
 ghost use mathlib.Core.Path.{_≡_};
 ghost use lib.ListN.{length};
 ghost use Rattle.answers.specs.Number.{answerNumber};
-ghost use Rattle.answers.specs.declared.Answer.the-variants as answer;
 ghost use Rattle.coefficients.specs.Coefficients.{keyOf};
+ghost use Rattle.prover.specs.Held.{held};
 ghost use Rattle.stored.specs.Parameters.{Small};
 ghost use Rattle.stored.specs.Prover.{proverSize, proverBytes};
 ghost use Rattle.capi.specs.Sizes.{parametersOf};
@@ -15,8 +16,8 @@ ghost use Rattle.capi.specs.Prover.{given, proverBegin, proverPoints, pr
 
 // Writes the session of a call that was carried out; the number of its answer.
 fn keep(called: Called, session: &mut [u8]) -> u8
-    requires { ⌜ (length (now session) ≡ proverSize) × (called .answer ≡ answer.Done → Small (called .prover .parameters)) ⌝ }
-    ensures { λ r. ⌜ kept r (now (session .exit)) ≡ kept (answerNumber (called .answer)) (after (called .answer) (now (session .entry)) (proverBytes (called .prover))) ⌝ }
+    requires { ⌜ (length (now session) ≡ proverSize) × (answerNumber (called .answer) ≡ 0 → Small (called .prover .parameters)) ⌝ }
+    ensures { λ r. ⌜ kept r (now (session .exit)) ≡ kept (answerNumber (called .answer)) (after (answerNumber (called .answer)) (now (session .entry)) (proverBytes (held (called .prover)))) ⌝ }
 {
     let answer = called.answer;
     let Answer::Done = answer else {
@@ -48,7 +49,8 @@ pub extern "C" fn unlock_prover_begin(
         ≡ proverBegin (now (session .entry)) (parametersOf m k w d t) (now («x_a» .entry)) (now (salt .entry)) (now (root .entry)) (keyOf (now (matrix .entry)) (now (y .entry))) (now (work .entry)) (now (out .entry)) ⌝ }
 {
     if session.len() != stored::PROVER_SIZE {
-        return 2;
+        let p = Parameters { m, k, w, d, t };
+        return misfit_number(p);
     }
     let s = stored::read_prover(session);
     let p = Parameters { m, k, w, d, t };

@@ -1,4 +1,5 @@
 // The verifier's calls.
+use crate::misfit::misfit_number;
 use answers::Answer;
 use buffer::is_judged;
 use parameters::Parameters;
@@ -7,8 +8,8 @@ ghost use mathlib.Core.Path.{_≡_};
 ghost use mathlib.Core.Bool.{true, cond};
 ghost use lib.ListN.{length};
 ghost use Rattle.answers.specs.Number.{answerNumber};
-ghost use Rattle.answers.specs.declared.Answer.the-variants as answer;
 ghost use Rattle.coefficients.specs.Coefficients.{keyOf};
+ghost use Rattle.verifier.specs.Held.{held};
 ghost use Rattle.stored.specs.Parameters.{Small};
 ghost use Rattle.stored.specs.Verifier.{verifierSize, verifierBytes};
 ghost use Rattle.capi.specs.Sizes.{parametersOf};
@@ -17,8 +18,8 @@ ghost use Rattle.capi.specs.Verifier.{verifierBegin, verifierPoints, ver
 
 // Writes the session of a call that was carried out; the number of its answer.
 fn keep(called: Called, session: &mut [u8]) -> u8
-    requires { ⌜ (length (now session) ≡ verifierSize) × (called .answer ≡ answer.Done → Small (called .verifier .parameters)) ⌝ }
-    ensures { λ r. ⌜ kept r (now (session .exit)) ≡ kept (answerNumber (called .answer)) (after (called .answer) (now (session .entry)) (verifierBytes (called .verifier))) ⌝ }
+    requires { ⌜ (length (now session) ≡ verifierSize) × (answerNumber (called .answer) ≡ 0 → Small (called .verifier .parameters)) ⌝ }
+    ensures { λ r. ⌜ kept r (now (session .exit)) ≡ kept (answerNumber (called .answer)) (after (answerNumber (called .answer)) (now (session .entry)) (verifierBytes (held (called .verifier)))) ⌝ }
 {
     let answer = called.answer;
     let Answer::Done = answer else {
@@ -43,7 +44,8 @@ pub extern "C" fn unlock_verifier_begin(
     ensures { λ r. ⌜ kept r (now (session .exit)) ≡ verifierBegin (now (session .entry)) (parametersOf m k w d t) (now (message1 .entry)) ⌝ }
 {
     if session.len() != stored::VERIFIER_SIZE {
-        return 2;
+        let p = Parameters { m, k, w, d, t };
+        return misfit_number(p);
     }
     let s = stored::read_verifier(session);
     let p = Parameters { m, k, w, d, t };
@@ -93,7 +95,7 @@ pub extern "C" fn unlock_verifier_leaf(session: &mut [u8], leaf: u8) -> u8
 // Writes the session of an opening that was judged; the number of its answer.
 fn keep_opening(called: Called, session: &mut [u8]) -> u8
     requires { ⌜ (length (now session) ≡ verifierSize) × (judges (answerNumber (called .answer)) ≡ true → Small (called .verifier .parameters)) ⌝ }
-    ensures { λ r. ⌜ kept r (now (session .exit)) ≡ kept (answerNumber (called .answer)) (cond (judges (answerNumber (called .answer))) (verifierBytes (called .verifier)) (now (session .entry))) ⌝ }
+    ensures { λ r. ⌜ kept r (now (session .exit)) ≡ kept (answerNumber (called .answer)) (cond (judges (answerNumber (called .answer))) (verifierBytes (held (called .verifier))) (now (session .entry))) ⌝ }
 {
     let answer = called.answer;
     let n = answers::answer_number(answer);

@@ -1,10 +1,11 @@
 -- Demand 2, its last clause: 'with a valid key, its matrix and y unchanged throughout, every root and salt that an exchange may start
--- with, all points and multipliers and every leaf of the cube lead to acceptance.' It is about the calls, from any two sessions, so
--- that a second exchange counts like the first; of the hash only the length of what it gives is used.
+-- with, all points and multipliers and every leaf of the cube lead to acceptance.' It is about the calls, after any run of prover's calls
+-- and from any session of the verifier, so that a second exchange counts like the first; of the hash only the length of what it gives is used.
 --
 -- ValidKey p key xA     'a valid key': parameters within their limits, matrix, y and x_A of the lengths that document 01 gives them,
 --                       y and x_A of bytes, and x of at most w nonzero entries
--- MayStart s salt root  'root and salt that an exchange may start with': of their lengths, and not refused by 13 in the session s
+-- MayStart h salt root  'root and salt that an exchange may start with' after the calls h: of their lengths, and not both equal to those of the
+--                       last begin carried out
 -- Slices                the work area and the output that each call is lent
 -- Fitting p i lent      outputs of their messages' lengths; 'a work area may be longer, never shorter than 2·D·(k+2w+12t)'
 -- proverBegin, verifierBegin, verifierPoints, proverPoints, verifierResponse, verifierLeaf, proverLeaf, verifierOpening
@@ -12,22 +13,23 @@
 -- LeadsToAcceptance     all eight are carried out, and the opening is accepted
 -- Complete hash         the clause
 use mathlib.Core.Path.{_≡_}
-use mathlib.Core.Bool.{false}
 use mathlib.Core.List.{List}
+use mathlib.Core.Option.{some}
 use Prim.Native.Nat.{ℕ, _≤_, _<_}
 use lib.ListN.{length}
-use Rattle.answers.specs.declared.Answer.the-variants.{Done}
 use Rattle.parameters.specs.declared.Parameters.{Parameters}
 use Rattle.parameters.specs.Limits.{Within}
 use Rattle.polynomial.specs.Bytes.{Bytes}
 use Rattle.relation.specs.Key.{weightOf, vectorOf}
 use Rattle.exchange.specs.Layout.{leaves, message2Length, message5Length, workLength}
 use Rattle.exchange.specs.Values.{Key}
-use Rattle.prover.specs.declared.Prover.{Prover}
-use Rattle.prover.specs.Session as prover
-use Rattle.verifier.specs.declared.Verifier.{Verifier}
-use Rattle.verifier.specs.Session as verifier
+use Rattle.calls.specs.Prover as prover
+use Rattle.calls.specs.Prover.{Prover}
+use Rattle.calls.specs.Prover.History.{Begin, Call, after, Made, made, lastBegin}
+use Rattle.calls.specs.Verifier as verifier
+use Rattle.calls.specs.Verifier.{Verifier}
 use Rattle.claims.specs.Words.{Lent}
+pub mod Reached
 pub mod Sessions
 pub mod Calls
 pub mod Sample
@@ -42,10 +44,10 @@ pub record ValidKey (p : Parameters) (key : Key) (xA : List ℕ) : Type 0 where
   pub bytes-y : Bytes (key .y)
   pub bytes-xA : Bytes xA
 
-pub record MayStart (s : Prover) (salt root : List ℕ) : Type 0 where
+pub record MayStart (h : List Made) (salt root : List ℕ) : Type 0 where
   pub salt-length : length salt ≡ 32
   pub root-length : length root ≡ 16
-  pub not-repeated : prover.repeated s salt root ≡ false
+  pub not-repeated : (b : Begin) → lastBegin h ≡ some b → (salt ≡ b .salt) × (root ≡ b .root) → ⊥
 
 pub record Slices : Type 0 where
   pub begin-work : List ℕ
@@ -93,22 +95,22 @@ module _ (hash : List ℕ → ℕ → List ℕ) (p : Parameters) (key : Key) (xA
   verifierOpening = verifier.opening hash (verifierLeaf .verifier) (proverLeaf .out) key (lent .opening-work)
 
   pub record LeadsToAcceptance : Type 0 where
-    pub prover-begin : proverBegin .answer ≡ Done
-    pub verifier-begin : verifierBegin .answer ≡ Done
-    pub verifier-points : verifierPoints .answer ≡ Done
-    pub prover-points : proverPoints .answer ≡ Done
-    pub verifier-response : verifierResponse .answer ≡ Done
-    pub verifier-leaf : verifierLeaf .answer ≡ Done
-    pub prover-leaf : proverLeaf .answer ≡ Done
-    -- of the opening, `Done` is accepted
-    pub accepted : verifierOpening .answer ≡ Done
+    pub prover-begin : proverBegin .answer ≡ 0
+    pub verifier-begin : verifierBegin .answer ≡ 0
+    pub verifier-points : verifierPoints .answer ≡ 0
+    pub prover-points : proverPoints .answer ≡ 0
+    pub verifier-response : verifierResponse .answer ≡ 0
+    pub verifier-leaf : verifierLeaf .answer ≡ 0
+    pub prover-leaf : proverLeaf .answer ≡ 0
+    -- of the opening, 0 is accepted
+    pub accepted : verifierOpening .answer ≡ 0
 
 -- ---- the clause
 
 abbrev pub Complete : (List ℕ → ℕ → List ℕ) → Type 0
 Complete hash = (p : Parameters) (key : Key) (xA : List ℕ) → ValidKey p key xA
-    → (s : Prover) (v : Verifier) (salt root : List ℕ) → MayStart s salt root
+    → (cs : List Call) (v : Verifier) (salt root : List ℕ) → MayStart (made hash cs) salt root
     → (m2 : List ℕ) → length m2 ≡ message2Length p
     → (i : ℕ) → i < leaves p
     → (lent : Slices) → Fitting p i lent
-    → LeadsToAcceptance hash p key xA s v salt root m2 i lent
+    → LeadsToAcceptance hash p key xA (after hash cs) v salt root m2 i lent

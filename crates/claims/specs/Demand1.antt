@@ -1,58 +1,161 @@
 -- Demand 1 at SHAKE256: 'A call that passes document 01's checks is carried out and ends, with at most one response and one opening between
 -- two starts of a prover's exchange. Every other call gets the one number that the order of checks sets, and leaves session, output and work
--- area as document 01 lays down.' That each method is its call's function on values, and ends, is the contracts of the sessions.
+-- area as document 01 lays down.' That each method is its call's function on values, and ends, is the contracts of the methods.
 --
--- Demand1     the demand, as far as it is about lists of calls and about what a call leaves
--- demand1     it holds
+-- ByTheOrder    an answer by the order is the first number of document 01's one list whose condition holds, 0 exactly when none does
+-- Prover        the prover's calls, after any calls from a fresh session and told by these calls; what is left to them; and of any session
+-- Verifier      the verifier's calls likewise
+-- Extractor     the extractor's call
+-- Demand1       all of it
+-- demand1       it holds
 use mathlib.Core.Path.{_≡_}
-use mathlib.Core.List.{List}
+use mathlib.Core.Bool.{true, false}
+use mathlib.Core.List.{List, _++_, _∷_}
+use mathlib.Core.Logic.{_↔_}
 use Prim.Native.Nat.{ℕ, _≤_}
+use lib.Dec.{eqb}
 use Rattle.lists.specs.Zeroed.{zeroed}
 use Rattle.shake256.specs.Fips.{SHAKE256}
-use Rattle.answers.specs.declared.Answer.the-variants.{Done, Refused}
-use Rattle.answers.specs.declared.Refusal.{Refusal}
-use Rattle.answers.specs.Number.{answerNumber}
+use Rattle.answers.specs.Order.{Conditions, order, holds, answerOf}
+use Rattle.answers.specs.Order.Laws.{noneOf, First, answer-carried, answer-first}
 use Rattle.parameters.specs.declared.Parameters.{Parameters}
 use Rattle.exchange.specs.Layout.{workLength}
 use Rattle.exchange.specs.Values.{Key}
-use Rattle.exchange.specs.Opening.{verdict}
-use Rattle.prover.specs.declared.Prover.{Prover}
-use Rattle.prover.specs.Session as prover
-use Rattle.verifier.specs.declared.Verifier.{Verifier}
-use Rattle.verifier.specs.Session as verifier
-use Rattle.claims.specs.Conduct.{Call, isBegin, isPoints, isLeaf, lentOut, lentWork, outcome, carriedOut, at-most-one, refused-same}
-use Rattle.claims.specs.Conduct as conduct
-use Rattle.claims.specs.Verifier as judging
+use Rattle.calls.specs.Held.{isSome}
+use Rattle.calls.specs.Judging.{judged}
+use Rattle.calls.specs.Prover as prover
+use Rattle.calls.specs.Prover.History as proverHistory
+use Rattle.calls.specs.Prover.Settled as proverSettled
+use Rattle.calls.specs.Prover.Reached as proverReached
+use Rattle.calls.specs.Prover.Told as proverTold
+use Rattle.calls.specs.Prover.Checked as proverChecked
+use Rattle.calls.specs.Prover.Runs as proverRuns
+use Rattle.calls.specs.Prover.AnySession as proverAny
+use Rattle.calls.specs.Verifier as verifier
+use Rattle.calls.specs.Verifier.History as verifierHistory
+use Rattle.calls.specs.Verifier.Since.{counted}
+use Rattle.calls.specs.Verifier.Reached.Laws as verifierReached
+use Rattle.calls.specs.Verifier.Told as verifierTold
+use Rattle.calls.specs.Verifier.Kept as verifierKept
+use Rattle.calls.specs.Extractor as extractor
+use Rattle.calls.specs.Extractor.Expected as extractorExpected
+use Rattle.calls.specs.Extractor.Told as extractorTold
+
+pub record ByTheOrder : Type 0 where
+  pub carried-out : (cs : Conditions) → answerOf cs ≡ 0 ↔ noneOf order (holds cs) ≡ true
+  pub first : (cs : Conditions) → (answerOf cs ≡ 0 → ⊥) → First order (holds cs) (answerOf cs)
+
+pub record Prover (hash : List ℕ → ℕ → List ℕ) : Type 0 where
+  -- number, output and work area of every call
+  pub told : (cs : List proverHistory.Call) (c : proverHistory.Call)
+      → proverHistory.seen (proverHistory.outcome hash (proverHistory.after hash cs) c) ≡ proverHistory.expected hash (proverHistory.made hash cs) c
+  -- a refused call changes nothing, on any session
+  pub refused : (s : prover.Prover) (c : proverHistory.Call) → (proverHistory.outcome hash s c .answer ≡ 0 → ⊥)
+      → proverHistory.outcome hash s c
+      ≡ record { answer = proverHistory.outcome hash s c .answer; prover = s; out = proverHistory.lentOut c; work = proverHistory.lentWork c }
+  -- 'at most one response and one opening between two starts': from any session, and for any calls among which no begin is carried out
+  pub one-response-and-one-opening : (s : prover.Prover) (cs : List proverHistory.Call) → proverAny.carriedIn hash proverAny.isBegin s cs ≡ 0
+      → (proverAny.carriedIn hash proverAny.isPoints s cs ≤ 1) × (proverAny.carriedIn hash proverAny.isLeaf s cs ≤ 1)
+  -- points is carried out only as the first since the last begin, and then it is; leaf only after it and once, and then it is
+  pub points : (cs : List proverHistory.Call) (m2 : List ℕ) (key : Key) (work out : List ℕ)
+      → (proverHistory.outcome hash (proverHistory.after hash cs) (proverHistory.pointsCall m2 key work out) .answer ≡ 0)
+      ↔ proverRuns.PointsDue (proverHistory.made hash cs) m2 key work out
+  pub leaf : (cs : List proverHistory.Call) (i : ℕ) (key : Key) (work out : List ℕ)
+      → (proverHistory.outcome hash (proverHistory.after hash cs) (proverHistory.leafCall i key work out) .answer ≡ 0)
+      ↔ proverRuns.LeafDue (proverHistory.made hash cs) i key work out
+  -- begin is carried out exactly where 1, 2 and 3 pass and salt and root are not both those of the last begin; 13 exactly where they are
+  pub begin : (cs : List proverHistory.Call) (b : proverHistory.Begin) (work out : List ℕ)
+      → (proverHistory.outcome hash (proverHistory.after hash cs) (proverHistory.beginCall b work out) .answer ≡ 0)
+      ↔ proverRuns.BeginDue (proverHistory.made hash cs) b work out
+  pub repeated : (cs : List proverHistory.Call) (b : proverHistory.Begin) (work out : List ℕ)
+      → (proverHistory.outcome hash (proverHistory.after hash cs) (proverHistory.beginCall b work out) .answer ≡ 13)
+      ↔ proverRuns.Repeats (proverHistory.made hash cs) b work out
+  -- between two openings there is a begin with another salt or root
+  pub begin-between : (earlier : List proverHistory.Call) (i : ℕ) (key : Key) (work out : List ℕ)
+      → proverHistory.outcome hash (proverHistory.after hash earlier) (proverHistory.leafCall i key work out) .answer ≡ 0
+      → (later : List proverHistory.Call) (i′ : ℕ) (key′ : Key) (work′ out′ : List ℕ)
+      → proverHistory.outcome hash (proverHistory.after hash (later ++ (proverHistory.leafCall i key work out ∷ earlier)))
+      (proverHistory.leafCall i′ key′ work′ out′) .answer ≡ 0
+      → proverRuns.Between hash earlier (proverHistory.leafCall i key work out) later
+  -- 'Begin is due always', on any session
+  pub begin-due : (s : prover.Prover) (b : proverHistory.Begin) (work out : List ℕ)
+      → (proverHistory.outcome hash s (proverHistory.beginCall b work out) .answer ≡ 11 → ⊥)
+      × (proverHistory.outcome hash s (proverHistory.beginCall b work out) .answer ≡ 12 → ⊥)
+  -- in a session that calls lead to, the guard changes nothing; a damaged one stays shut
+  pub guard-idle : (cs : List proverHistory.Call) → prover.standing (proverHistory.after hash cs) ≡ proverHistory.after hash cs .phase
+  pub damaged-closed : (s : prover.Prover) → prover.isFresh (s .phase) ≡ false → prover.intact s ≡ false
+      → (c : proverHistory.Call) → proverAny.isBegin c ≡ false → proverHistory.outcome hash s c .answer ≡ 12
+  pub damaged-repeats : (s : prover.Prover) → prover.isFresh (s .phase) ≡ false
+      → (b : proverHistory.Begin) (work out : List ℕ) → proverChecked.Allowed b work out → b .salt ≡ s .salt → b .root ≡ s .root
+      → proverHistory.outcome hash s (proverHistory.beginCall b work out) .answer ≡ 13
+
+pub record Verifier (hash : List ℕ → ℕ → List ℕ) : Type 0 where
+  -- number and work area of every call
+  pub told : (cs : List verifierHistory.Call) (c : verifierHistory.Call)
+      → verifierHistory.seen (verifierHistory.outcome hash (verifierHistory.after hash cs) c) ≡ verifierHistory.expected hash (verifierHistory.made hash cs) c
+  -- a call that is neither carried out nor a judged opening changes nothing, on any session
+  pub refused : (s : verifier.Verifier) (c : verifierHistory.Call)
+      → counted (record { call = c; number = verifierHistory.outcome hash s c .answer }) ≡ false
+      → (verifierHistory.outcome hash s c .verifier ≡ s) × (verifierHistory.outcome hash s c .work ≡ verifierHistory.lentWork c)
+  -- 'opening (closes with accepted, 5, 6 or 7)'; 'Closing changes nothing else that a session holds'
+  pub closes : (s : verifier.Verifier) (m5 : List ℕ) (key : Key) (work : List ℕ)
+      → judged (verifierHistory.outcome hash s (verifierHistory.openingCall m5 key work) .answer) ≡ true
+      → (verifierHistory.outcome hash s (verifierHistory.openingCall m5 key work) .verifier ≡ verifier.ended s)
+      × (verifierHistory.outcome hash s (verifierHistory.openingCall m5 key work) .work ≡ zeroed (workLength (s .parameters)) work)
+  pub begin-due : (s : verifier.Verifier) (b : verifierHistory.Begin)
+      → (verifierHistory.outcome hash s (verifierHistory.beginCall b) .answer ≡ 11 → ⊥)
+      × (verifierHistory.outcome hash s (verifierHistory.beginCall b) .answer ≡ 12 → ⊥)
+  pub guard-idle : (cs : List verifierHistory.Call) → verifier.standing (verifierHistory.after hash cs) ≡ verifierHistory.after hash cs .phase
+  pub damaged-closed : (s : verifier.Verifier) → eqb (verifier.step (s .phase)) 0 ≡ false → verifier.intact s ≡ false
+      → (c : verifierHistory.Call) → isSome (verifierHistory.beginIn c) ≡ false → verifierHistory.outcome hash s c .answer ≡ 12
+
+pub record Extractor (hash : List ℕ → ℕ → List ℕ) : Type 0 where
+  -- answer, output and work area
+  pub told : (p : Parameters) (t t′ : extractor.Transcript) (key : Key) (work out : List ℕ)
+      → extractor.extraction hash p t t′ key work out ≡ extractorExpected.expected hash p t t′ key work out
+  pub number : (p : Parameters) (t t′ : extractor.Transcript) (key : Key) (work out : List ℕ)
+      → extractor.numberOf (extractor.extraction hash p t t′ key work out .answer) ≡ extractorExpected.expectedNumber hash p t t′ key work out
 
 pub record Demand1 : Type 0 where
-  -- from any session, and for any calls among which no begin is carried out
-  pub one-response-and-one-opening : (s : Prover) (cs : List Call) → carriedOut SHAKE256 isBegin s cs ≡ 0
-      → (carriedOut SHAKE256 isPoints s cs ≤ 1) × (carriedOut SHAKE256 isLeaf s cs ≤ 1)
-  -- a call of the prover that is refused leaves session, output and work area as they were
-  pub prover-refused : (s : Prover) (c : Call) (r : Refusal) → outcome SHAKE256 s c .answer ≡ Refused r
-      → outcome SHAKE256 s c ≡ record { answer = Refused r; prover = s; out = lentOut c; work = lentWork c }
-  -- begin is always due
-  pub prover-begin-due : (s : Prover) (p : Parameters) (xA salt root : List ℕ) (key : Key) (work out : List ℕ)
-      → (answerNumber (prover.begin SHAKE256 s p xA salt root key work out .answer) ≡ 11 → ⊥)
-      × (answerNumber (prover.begin SHAKE256 s p xA salt root key work out .answer) ≡ 12 → ⊥)
-  pub verifier-begin-due : (v : Verifier) (p : Parameters) (m1 : List ℕ)
-      → (answerNumber (verifier.begin v p m1 .answer) ≡ 11 → ⊥) × (answerNumber (verifier.begin v p m1 .answer) ≡ 12 → ⊥)
-  -- an opening refused before 5 changes nothing; every other one closes the session and changes nothing else that it holds
-  pub opening-refused : (v : Verifier) (m5 : List ℕ) (key : Key) (work : List ℕ) (r : Refusal) → verifier.openingChecks SHAKE256 v m5 key work ≡ Refused r
-      → verifier.opening SHAKE256 v m5 key work ≡ record { answer = Refused r; verifier = v; work = work }
-  pub opening-closes : (v : Verifier) (m5 : List ℕ) (key : Key) (work : List ℕ) → verifier.openingChecks SHAKE256 v m5 key work ≡ Done
-      → verifier.opening SHAKE256 v m5 key work ≡ record {
-        answer = verdict SHAKE256 (v .parameters) (verifier.heldExchange v m5) key;
-        verifier = verifier.ended v;
-        work = zeroed (workLength (v .parameters)) work;
-      }
+  pub by-the-order : ByTheOrder
+  pub prover : Prover SHAKE256
+  pub verifier : Verifier SHAKE256
+  pub extractor : Extractor SHAKE256
+
+module _ (hash : List ℕ → ℕ → List ℕ) where
+  prover-conduct : Prover hash
+  prover-conduct = record {
+    told = proverTold.told-by-calls hash;
+    refused = proverSettled.refused-same hash;
+    one-response-and-one-opening = proverAny.at-most-one hash;
+    points = λ cs m2 key work out. (proverRuns.points-carried hash cs m2 key work out, proverRuns.points-due-after-begin hash cs m2 key work out);
+    leaf = λ cs i key work out. (proverRuns.leaf-carried hash cs i key work out, proverRuns.leaf-due-after-points hash cs i key work out);
+    begin = λ cs b work out. (proverRuns.begin-carried hash cs b work out, proverRuns.begin-due-always hash cs b work out);
+    repeated = proverRuns.repeated-exactly hash;
+    begin-between = proverRuns.begin-between hash;
+    begin-due = proverAny.begin-due hash;
+    guard-idle = proverReached.guard-idle hash;
+    damaged-closed = proverAny.damaged-closed hash;
+    damaged-repeats = proverAny.held-repeats hash;
+  }
+
+  verifier-conduct : Verifier hash
+  verifier-conduct = record {
+    told = verifierTold.told-by-calls hash;
+    refused = verifierKept.refused-same hash;
+    closes = verifierKept.judged-ended hash;
+    begin-due = verifierKept.begin-due hash;
+    guard-idle = verifierReached.guard-idle hash;
+    damaged-closed = verifierKept.damaged-shut hash;
+  }
+
+  extractor-conduct : Extractor hash
+  extractor-conduct = record { told = extractorTold.told hash; number = extractorTold.number-told hash }
 
 pub demand1 : Demand1
 demand1 = record {
-  one-response-and-one-opening = at-most-one SHAKE256;
-  prover-refused = refused-same SHAKE256;
-  prover-begin-due = conduct.begin-due SHAKE256;
-  verifier-begin-due = judging.begin-due;
-  opening-refused = judging.opening-early SHAKE256;
-  opening-closes = judging.opening-closes SHAKE256;
+  by-the-order = record { carried-out = answer-carried; first = answer-first };
+  prover = prover-conduct SHAKE256;
+  verifier = verifier-conduct SHAKE256;
+  extractor = extractor-conduct SHAKE256;
 }

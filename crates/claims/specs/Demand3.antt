@@ -20,7 +20,7 @@ use Rattle.parameters.specs.Limits.{Within}
 use Rattle.polynomial.specs.Bytes.{Bytes, bytes-from}
 use Rattle.exchange.specs.Layout.{workLength, outputLength}
 use Rattle.exchange.specs.Values.{Key}
-use Rattle.extractor.specs.Call.{Transcript}
+use Rattle.calls.specs.Extractor.{Transcript}
 use Rattle.claims.specs.Words.{Comparable}
 use Rattle.claims.specs.Extraction.{Extracts}
 use Rattle.claims.specs.Extraction.Proof.{extracts}
@@ -35,8 +35,7 @@ pub record Demand3 : Type 0 where
   -- a list of pairs of openings
   pub weight : (p : Parameters) (key : Key) (m1 : List ℕ) (qs : List Pair) (l : ℕ) (rs : List Point) → Within p → Bytes (key .y) → Each InBytes qs
       → Meeting SHAKE256 p key m1 qs l rs
-      → (work out : List ℕ) → workLength p ≤ length work → length out ≡ outputLength p
-      → OneLightX SHAKE256 p key qs work out
+      → OneLightX SHAKE256 p key qs
 
 bytes-SHAKE256 : (s : List ℕ) (n : ℕ) → Bytes (SHAKE256 s n)
 bytes-SHAKE256 s n = bytes-from (SHAKE256 s n) (SHAKE256-byte s n)

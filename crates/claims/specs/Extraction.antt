@@ -9,11 +9,9 @@ use mathlib.Core.Path.{_≡_}
 use mathlib.Core.List.{List}
 use Prim.Native.Nat.{ℕ}
 use Rattle.parameters.specs.declared.Parameters.{Parameters}
-use Rattle.answers.specs.declared.Refusal.{Refusal}
 use Rattle.exchange.specs.Values.{Key}
 use Rattle.exchange.specs.Extractor.{axis, compared, stringAt}
-use Rattle.findings.specs.declared.Extraction.the-variants.{Refused, Unequal, Extracted}
-use Rattle.extractor.specs.Call.{Transcript, exchangeOf, Outcome, extraction}
+use Rattle.calls.specs.Extractor.{Transcript, exchangeOf, refused, pair, filled, Outcome, extraction}
 use Rattle.claims.specs.Words.{At, Clash, States}
 pub mod Sums
 pub mod Strings
@@ -25,18 +23,18 @@ pub mod Proof
 module _ (hash : List ℕ → ℕ → List ℕ) (p : Parameters) (key : Key) (t t′ : Transcript) where
   pub record Right (out : List ℕ) (o : Outcome) : Type 0 where
     -- no number is given
-    pub never-refused : (r : Refusal) → o .answer ≡ Refused r → ⊥
+    pub never-refused : (n : ℕ) → o .answer ≡ refused n → ⊥
     -- what it names is such a pair, the first, and the output is untouched
-    pub named : (layer number : ℕ) → o .answer ≡ Unequal layer number
+    pub named : (layer number : ℕ) → o .answer ≡ pair layer number
         → Clash hash p key (exchangeOf t) (exchangeOf t′) layer number × (o .out ≡ out)
     -- it names one whenever some two strings that it compares are unequal
     pub names : (layer number : ℕ) → At layer number (compared p (exchangeOf t) (exchangeOf t′))
         → (stringAt hash p key (exchangeOf t) layer number ≡ stringAt hash p key (exchangeOf t′) layer number → ⊥)
-        → (layer′ : ℕ) × (number′ : ℕ) × (o .answer ≡ Unequal layer′ number′)
+        → (layer′ : ℕ) × (number′ : ℕ) × (o .answer ≡ pair layer′ number′)
     -- and otherwise gives every leaf's state, and the axis
     pub otherwise : ((layer number : ℕ) → At layer number (compared p (exchangeOf t) (exchangeOf t′))
         → stringAt hash p key (exchangeOf t) layer number ≡ stringAt hash p key (exchangeOf t′) layer number)
-        → (o .answer ≡ Extracted (axis p (exchangeOf t) (exchangeOf t′))) × States hash p key (exchangeOf t) (exchangeOf t′) (o .out)
+        → (o .answer ≡ filled (axis p (exchangeOf t) (exchangeOf t′))) × States hash p key (exchangeOf t) (exchangeOf t′) (o .out)
 
   -- work area and output as lent
   abbrev pub Extracts : List ℕ → List ℕ → Type 0

@@ -1,4 +1,3 @@
-pub mod Conduct
 pub mod Verifier
 pub mod Demand1
 pub mod Words

@@ -13,9 +13,11 @@
 -- MeetsTwice qs l r    the list meets r at position l with two unequal multipliers
 -- Meeting m1 qs l rs   a 'list of such pairs under one key, salt and commitment, free of such strings among them all, that meets m + w different
 --                      points at one position, each with two unequal multipliers': the points are rs, the position l
--- xOfPair              the summed x of the states that the extractor gives for the pair
+-- xOfPair q work out   the summed x of the states that the extractor gives for the pair, lent this work area and output
 -- lowBytes x           the low byte of each entry of x; x itself, where its entries are bytes
--- OneX                 x is the same in all the pairs and has at most w entries whose low byte is nonzero
+-- Gives x q work out   for the pair the extractor gives every leaf's state, whose summed x is x
+-- OneX                 x is the same in all the pairs, whatever slices of fitting lengths each call is lent, and has at most w entries whose
+--                      low byte is nonzero
 -- OneLightX            'x is the same in all the pairs and has at most w nonzero entries'
 -- InBytes q            messages 5 of the pair are bytes: with a hash that gives bytes, and y bytes, the entries of x are bytes
 use mathlib.Core.Path.{_≡_}
@@ -27,12 +29,11 @@ use Rattle.tower.specs.Field.{Point}
 use Rattle.parameters.specs.declared.Parameters.{Parameters}
 use Rattle.polynomial.specs.Bytes.{Bytes}
 use Rattle.relation.specs.Key.{weightOf}
-use Rattle.exchange.specs.Layout.{leaves}
+use Rattle.exchange.specs.Layout.{leaves, workLength, outputLength}
 use Rattle.exchange.specs.Values.{Key, pointOf, multiplierOf}
 use Rattle.exchange.specs.Opening.{Exchange}
 use Rattle.exchange.specs.Extractor.{axis, stringAt}
-use Rattle.findings.specs.declared.Extraction.the-variants.{Extracted}
-use Rattle.extractor.specs.Call.{Transcript, exchangeOf, extraction}
+use Rattle.calls.specs.Extractor.{Transcript, exchangeOf, filled, extraction}
 use Rattle.claims.specs.Words.{Comparable, leafShare, xSum}
 pub mod Light
 pub mod Common
@@ -96,21 +97,20 @@ module _ (hash : List ℕ → ℕ → List ℕ) (p : Parameters) (key : Key) whe
     pub enough : p .m + p .w ≤ length rs
     pub met : Each (MeetsTwice p qs l) rs
 
-  -- with whatever output slice and work area the extractor was lent
   unfoldable pub xOfPair : Pair → List ℕ → List ℕ → List ℕ
   xOfPair q work out =
       xSum p key (leafShare hash p (exchangeOf (q .one) .prefix) (extraction hash p (q .one) (q .other) key work out .out))
 
-  pub record OneX (qs : List Pair) (work out : List ℕ) : Type 0 where
+  pub record Gives (x : List ℕ) (q : Pair) (work out : List ℕ) : Type 0 where
+    pub extracted : extraction hash p (q .one) (q .other) key work out .answer ≡ filled (axis p (exchangeOf (q .one)) (exchangeOf (q .other)))
+    pub same : xOfPair q work out ≡ x
+
+  pub record OneX (qs : List Pair) : Type 0 where
     pub x : List ℕ
-    pub extracted : (q : Pair) → In q qs
-        → extraction hash p (q .one) (q .other) key work out .answer ≡ Extracted (axis p (exchangeOf (q .one)) (exchangeOf (q .other)))
-    pub same : (q : Pair) → In q qs → xOfPair q work out ≡ x
+    pub gives : (q : Pair) → In q qs → (work out : List ℕ) → workLength p ≤ length work → length out ≡ outputLength p → Gives x q work out
     pub light : weightOf (lowBytes x) ≤ p .w
 
-  pub record OneLightX (qs : List Pair) (work out : List ℕ) : Type 0 where
+  pub record OneLightX (qs : List Pair) : Type 0 where
     pub x : List ℕ
-    pub extracted : (q : Pair) → In q qs
-        → extraction hash p (q .one) (q .other) key work out .answer ≡ Extracted (axis p (exchangeOf (q .one)) (exchangeOf (q .other)))
-    pub same : (q : Pair) → In q qs → xOfPair q work out ≡ x
+    pub gives : (q : Pair) → In q qs → (work out : List ℕ) → workLength p ≤ length work → length out ≡ outputLength p → Gives x q work out
     pub light : weightOf x ≤ p .w

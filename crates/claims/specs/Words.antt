@@ -31,10 +31,9 @@ use Rattle.exchange.specs.Reading.{bytesAt, value, _⊞_, _⊠_}
 use Rattle.exchange.specs.Leaf.{share, commitment}
 use Rattle.exchange.specs.Values.{Key, xAOf, POf, aOf, bOf, cOf, pointOf, multiplierOf, imageOf, F}
 use Rattle.exchange.specs.Parties.{sums}
-use Rattle.exchange.specs.Opening.{Exchange, auxOf, openedState, leafCommitment}
-use Rattle.exchange.specs.Opening.Laws.{Accepted}
+use Rattle.exchange.specs.Opening.{Exchange, auxOf, openedState, leafCommitment, Accepted}
 use Rattle.exchange.specs.Extractor.{compared, stringAt}
-use Rattle.extractor.specs.Call.{Transcript, exchangeOf}
+use Rattle.calls.specs.Extractor.{Transcript, exchangeOf}
 
 -- ---- two openings
 

@@ -13,11 +13,13 @@
 -- partyV               '.. and takes the v that makes the axis sum zero'
 -- announced j          what the parties of axis j announce
 -- responseString       layer 7's string
--- verdict              'An opening is accepted exactly when the recomputed h is message 1's, the sums of α, β and v agree on all
---                      axes, and the recomputed h' is message 3's'; else 5, 6 or 7, in this order
+-- verdict              `Done` where the opening is accepted; else 5, 6 or 7, in this order
+-- Accepted             'An opening is accepted exactly when the recomputed h is message 1's, the sums of α, β and v agree on all
+--                      axes, and the recomputed h' is message 3's'
+use mathlib.Core.Path.{_≡_}
 use mathlib.Core.Bool.{Bool, true, _&&_, not, cond}
 use mathlib.Core.List.{List, [], _∷_}
-use Prim.Native.Nat.{ℕ, zero, suc, _+_, _*_}
+use Prim.Native.Nat.{ℕ, zero, suc, _+_, _*_, _<_}
 use lib.Dec.{eqb}
 use lib.ListN.{getD, take, drop}
 use Rattle.lists.specs.Equal.{eqList}
@@ -127,3 +129,8 @@ module _ (hash : List ℕ → ℕ → List ℕ) (p : Parameters) (e : Exchange) 
         ∷ (eqList (hash responseString 32) (e .message3), Response)
         ∷ []
         )
+
+pub record Accepted (hash : List ℕ → ℕ → List ℕ) (p : Parameters) (e : Exchange) (key : Key) : Type 0 where
+  pub commitment : hash (commitmentString hash p e) 32 ≡ e .h
+  pub sums-same : (j : ℕ) → j < p .d → sumsOf p (announced hash p e key j) ≡ sumsOf p (announced hash p e key 0)
+  pub response : hash (responseString hash p e key) 32 ≡ e .message3

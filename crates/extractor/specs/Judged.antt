@@ -28,8 +28,8 @@ use Rattle.layout.specs.Lent.{Lent}
 use Rattle.reader.specs.Message5.{auxPlace, commitmentIn, auxIn}
 use Rattle.reader.specs.Message5.Laws.{length-commitmentIn, all-aux}
 use Rattle.reader.specs.Opening.Laws.{rest-is}
-use Rattle.extractor.specs.Call.{Transcript, exchangeOf}
-use Rattle.extractor.specs.Call.Laws.{Sent}
+use Rattle.calls.specs.Extractor.{Transcript, exchangeOf}
+use Rattle.extractor.specs.Early.{Sent}
 use Rattle.comparison.specs.Comparison.{View, view, stateAt, rowAt}
 use Rattle.comparison.specs.Comparison.Laws.{Shows}
 use Rattle.comparison.specs.Shapes.{Viewed, Views}

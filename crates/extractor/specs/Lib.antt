@@ -1,2 +1,3 @@
-pub mod Call
+pub mod Given
+pub mod Early
 pub mod Judged

@@ -21,7 +21,7 @@ ghost use Rattle.shake256.specs.Fips.{SHAKE256};
 ghost use Rattle.exchange.specs.Layout.{leaves, outputLength};
 ghost use Rattle.coefficients.specs.Coefficients.{keyOf};
 ghost use Rattle.layout.specs.Lent.{lentTests};
-ghost use Rattle.extractor.specs.Call as spec;
+ghost use Rattle.calls.specs.Extractor as spec;
 
 // Have the messages of an exchange their lengths?
 fn message_lengths(p: Parameters, m1: &[u8], m2: &[u8], m3: &[u8], leaf: u8, m5: &[u8]) -> bool

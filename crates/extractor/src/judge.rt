@@ -6,7 +6,7 @@ use openings::check_opening;
 use parameters::Parameters;
 ghost use lib.ListN.{length};
 ghost use Rattle.coefficients.specs.Coefficients.{keyOf};
-ghost use Rattle.extractor.specs.Call.{transcript};
+ghost use Rattle.calls.specs.Extractor.{transcript};
 ghost use Rattle.extractor.specs.Judged.{Judging, Judged};
 
 // Checks an opening in the front of the work area, which ends as zeros, and keeps states and rows.

@@ -12,7 +12,8 @@ use parameters::Parameters;
 ghost use mathlib.Core.Path.{_≡_};
 ghost use Rattle.shake256.specs.Fips.{SHAKE256};
 ghost use Rattle.coefficients.specs.Coefficients.{keyOf};
-ghost use Rattle.extractor.specs.Call as spec;
+ghost use Rattle.calls.specs.Extractor as spec;
+ghost use Rattle.extractor.specs.Given.{given};
 
 // Compares two openings of one commitment with different hidden leaves: names the first unequal pair of strings hashed
 // to one digest, or fills out with every leaf's state and aux.
@@ -33,7 +34,7 @@ pub fn extract(
     work: &mut [u8],
     out: &mut [u8],
 ) -> Extraction
-    ensures { λ r. ⌜ spec.given r (now (out .exit)) (now (work .exit)) ≡ spec.extraction SHAKE256 p (spec.transcript (now (first1 .entry)) (now (first2 .entry)) (now (first3 .entry)) first4 (now (first5 .entry))) (spec.transcript (now (second1 .entry)) (now (second2 .entry)) (now (second3 .entry)) second4 (now (second5 .entry))) (keyOf (now (matrix .entry)) (now (y .entry))) (now (work .entry)) (now (out .entry)) ⌝ }
+    ensures { λ r. ⌜ given r (now (out .exit)) (now (work .exit)) ≡ spec.extraction SHAKE256 p (spec.transcript (now (first1 .entry)) (now (first2 .entry)) (now (first3 .entry)) first4 (now (first5 .entry))) (spec.transcript (now (second1 .entry)) (now (second2 .entry)) (now (second3 .entry)) second4 (now (second5 .entry))) (keyOf (now (matrix .entry)) (now (y .entry))) (now (work .entry)) (now (out .entry)) ⌝ }
 {
     let early = early_checks(
         p,

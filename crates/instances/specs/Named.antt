@@ -11,15 +11,19 @@ use Prim.Native.Nat.{ℕ}
 use native.Mathlib.Omega.{arith}
 use lib.ListN.{take, drop, replicate}
 use Rattle.answers.specs.declared.Answer.the-variants.{Done}
+use Rattle.parameters.specs.declared.Parameters.{Parameters}
 use Rattle.exchange.specs.Messages.{message1, message3, message5}
 use Rattle.exchange.specs.Opening.{verdict}
 use Rattle.exchange.specs.Opening.Laws.{accepted-then}
-use Rattle.findings.specs.declared.Extraction.the-variants.{Unequal}
-use Rattle.extractor.specs.Call.{Transcript, exchangeOf, extractLengths, sameStatement, earlyChecks, found, second, first, early, extraction}
+use Rattle.calls.specs.Extractor.{Transcript, exchangeOf, pair, extractLengths, sameStatement, earlyChecks, found, second, first, early, extraction}
 use Rattle.claims.specs.Words.{Sent, Comparable}
 use Rattle.standin.specs.StandIn.{weak}
 use Rattle.standin.specs.Definitions.{definitions}
-use Rattle.meetings.specs.Meetings.{p, key, x, salt, root, message2, within}
+use Rattle.meetings.specs.Pairs.{p as parameters, key, x, salt, root, message2}
+use Rattle.meetings.specs.Pairs.Laws.{within}
+
+abbrev p : Parameters
+p = parameters 1
 
 unfoldable pub honest : ℕ → Transcript
 honest u = record {
@@ -55,7 +59,7 @@ accepted = (refl, refl)
 pub comparable : Comparable (weak 7) p key (honest 0) bent
 unfolding bent honest
 comparable = record {
-  within = within;
+  within = within 1 (omega arith, omega arith);
   lent = record { matrix = refl; y = refl };
   sent = sent-honest;
   sent′ = sent-bent;
@@ -67,6 +71,6 @@ comparable = record {
   accepted′ = accepted-then (weak 7) p (exchangeOf bent) key (accepted .1);
 }
 
-pub names-7 : extraction (weak 7) p (honest 0) bent key (replicate 32 1) (replicate 71 0) .answer ≡ Unequal 7 0
+pub names-7 : extraction (weak 7) p (honest 0) bent key (replicate 32 1) (replicate 71 0) .answer ≡ pair 7 0
 unfolding bent honest exchangeOf extractLengths sameStatement earlyChecks found second first early extraction definitions
 names-7 = refl

@@ -20,7 +20,7 @@ use Rattle.exchange.specs.Messages.{message1, message3, message5}
 use Rattle.exchange.specs.Messages.Laws.{Secret, length-message1, length-message3, length-message5}
 use Rattle.exchange.specs.Opening.{verdict}
 use Rattle.exchange.specs.Opening.Laws.{accepted-then}
-use Rattle.extractor.specs.Call.{Transcript, exchangeOf}
+use Rattle.calls.specs.Extractor.{Transcript, exchangeOf}
 use Rattle.claims.specs.Words.{Sent, Comparable}
 use Rattle.claims.specs.Extraction.{Extracts}
 use Rattle.claims.specs.Extraction.Proof.{extracts}

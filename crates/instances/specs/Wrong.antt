@@ -21,11 +21,11 @@ use Rattle.answers.specs.declared.Answer.{Answer}
 use Rattle.answers.specs.declared.Answer.the-variants.{Done}
 use Rattle.answers.specs.declared.Refusal.the-variants.{Commitment}
 use Rattle.answers.specs.Checks.{checks}
+use Rattle.parameters.specs.declared.Parameters.{Parameters}
 use Rattle.exchange.specs.Layout.{leaves}
 use Rattle.exchange.specs.Opening.{Exchange, openedState, commitmentString}
 use Rattle.exchange.specs.Extractor.{unequal, states, compared, stringAt, unequalAt, extract}
-use Rattle.findings.specs.declared.Extraction.the-variants.{Unequal}
-use Rattle.extractor.specs.Call.{Transcript, exchangeOf, Outcome, found}
+use Rattle.calls.specs.Extractor.{Transcript, exchangeOf, pair as namedPair, Outcome, found}
 use Rattle.claims.specs.Words.{At, leafState}
 use Rattle.claims.specs.Extraction.{Right}
 use Rattle.claims.specs.Extraction.Compared.{at-member, Equal, none-then}
@@ -33,14 +33,17 @@ use Rattle.claims.specs.Extraction.Proof.{matched-of}
 use Rattle.standin.specs.StandIn.{standIn}
 use Rattle.standin.specs.Definitions.{definitions}
 use Rattle.meetings.specs.StandIn.{length-standIn}
-use Rattle.meetings.specs.Meetings.{p, key, transcript, pairs, pair}
-use Rattle.meetings.specs.Meetings.Accepted.{all-under}
+use Rattle.meetings.specs.Pairs.{p as parameters, key, transcript, pair}
+use Rattle.meetings.specs.Meetings.{pairs, all-under}
+
+abbrev p : Parameters
+p = parameters 1
 
 abbrev one : Transcript
-one = transcript 16 1 0
+one = transcript 1 16 1 0
 
 abbrev other : Transcript
-other = transcript 16 1 1
+other = transcript 1 16 1 1
 
 abbrev work : List ℕ
 work = replicate 32 1
@@ -110,7 +113,7 @@ pub both-accepted : (skipsAxes (exchangeOf one) ≡ Done) × (skipsAxes (exchang
 unfolding skipsAxes bent transcript exchangeOf definitions
 both-accepted = (refl, refl)
 
-answer-7 : afterSkipping .answer ≡ Unequal 7 0
+answer-7 : afterSkipping .answer ≡ namedPair 7 0
 unfolding afterSkipping found bent transcript exchangeOf definitions
 answer-7 = refl
 

@@ -1,3 +1,5 @@
 pub mod StandIn
 pub mod Honest
+pub mod Rows
+pub mod Pairs
 pub mod Meetings

@@ -12,7 +12,8 @@ use Rattle.exchange.specs.Layout.{workLength}
 use Rattle.rounds.specs.Rounds.{Arrays}
 use Rattle.prover.specs.declared.Prover.{Prover}
 use Rattle.prover.specs.Facts.{Ready}
-use Rattle.prover.specs.Session.{heldX}
+use Rattle.calls.specs.Prover.{heldX}
+use Rattle.prover.specs.Held.{held}
 use Rattle.prover.proofs.Prover.{the-type}
 use Rattle.prover.proofs.Prover.Laws.{the-laws}
 
@@ -29,7 +30,7 @@ module _ (s : Prover) (told : (vs : Valss (shape the-type .fields)) × shadow (w
   pub message2-length : length (s .message2) ≡ 64
   message2-length = sym (length-map (s .message2) _) ∙ told .1 .1 .1 .1 .1 .1 .1 .0 .1 .0 .1
 
-  pub held-arrays : (work : List ℕ) → Ready s → workLength (s .parameters) ≤ length work → Arrays (s .parameters) (s .x) (s .salt) (s .root) work
+  pub held-arrays : (work : List ℕ) → Ready (held s) → workLength (s .parameters) ≤ length work → Arrays (s .parameters) (s .x) (s .salt) (s .root) work
   unfolding heldX
   held-arrays work h fits = record {
     within = h .within;

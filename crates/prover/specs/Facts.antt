@@ -14,14 +14,14 @@ use Prim.Native.Nat.{ℕ, _≤_, _<_}
 use lib.ListN.{length, take}
 use Rattle.answers.specs.declared.Answer.{Answer}
 use Rattle.answers.specs.declared.Answer.the-variants.{Done, Refused}
+use Rattle.answers.specs.Number.{answerNumber}
 use Rattle.parameters.specs.declared.Parameters.{Parameters}
 use Rattle.parameters.specs.Limits.{Within}
 use Rattle.relation.specs.Key.{vectorOf, weightOf}
 use Rattle.exchange.specs.Layout.{leaves, message2Length, message5Length, workLength}
 use Rattle.layout.specs.Lent.{Lent}
 use Rattle.arguments.specs.Arguments.{Sized}
-use Rattle.prover.specs.declared.Prover.{Prover}
-use Rattle.prover.specs.Session.{Outcome, heldX}
+use Rattle.calls.specs.Prover.{Prover, Outcome, heldX}
 
 -- did the checks pass?
 abbrev pub isDone : Answer → Bool
@@ -29,7 +29,7 @@ isDone Done = true
 isDone (Refused r) = false
 
 abbrev pub outcomeOf : Answer → Prover → List ℕ → List ℕ → Outcome
-outcomeOf a s out work = record { answer = a; prover = s; out = out; work = work }
+outcomeOf a s out work = record { answer = answerNumber a; prover = s; out = out; work = work }
 
 pub record Begins (p : Parameters) (xA salt root matrix y work out : List ℕ) : Type 0 where
   pub within : Within p

@@ -1,3 +1,5 @@
-pub mod Session
+pub mod Held
 pub mod Facts
 pub mod Next
+pub mod Checks
+pub mod Carried

@@ -9,14 +9,12 @@ use Prim.Native.Nat.{ℕ}
 use lib.ListN.{replicate, take}
 use Rattle.lists.specs.Zeroed.{zeroed}
 use Rattle.shake256.specs.Fips.{SHAKE256}
-use Rattle.answers.specs.declared.Answer.the-variants.{Done}
 use Rattle.parameters.specs.declared.Parameters.{Parameters}
 use Rattle.exchange.specs.Layout.{workLength}
 use Rattle.exchange.specs.Messages.{message1}
 use Rattle.prover_phase.specs.declared.Phase.{Phase}
 use Rattle.prover_phase.specs.declared.Phase.the-variants.{Begun, Answered, Closed}
-use Rattle.prover.specs.declared.Prover.{Prover}
-use Rattle.prover.specs.Session.{Outcome}
+use Rattle.calls.specs.Prover.{Prover, Outcome}
 
 abbrev pub nextBegun : Phase → Parameters → List ℕ → List ℕ → List ℕ → Prover
 nextBegun f p x salt root = record { phase = f; parameters = p; x = x; salt = salt; root = root; message2 = replicate 64 0 }
@@ -29,7 +27,7 @@ nextClosed s = record { phase = Closed; parameters = s .parameters; x = s .x; sa
 
 unfoldable pub begunWith : Parameters → List ℕ → List ℕ → List ℕ → List ℕ → Outcome
 begunWith p x salt root work = record {
-  answer = Done;
+  answer = 0;
   prover = nextBegun Begun p x salt root;
   out = message1 SHAKE256 p (take (p .m) x) salt root;
   work = zeroed (workLength p) work;

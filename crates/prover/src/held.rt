@@ -1,12 +1,13 @@
 // What a session holds, and what the checks of a call answer.
 use crate::Prover;
 use answers::Answer;
-use arguments::both;
+use prover_phase::Phase;
 use prover_phase::due::is_closed;
 use prover_phase::is_fresh;
 ghost use mathlib.Core.Path.{_≡_};
+ghost use Rattle.calls.specs.Prover as spec;
 ghost use Rattle.prover.specs.Facts.{isDone};
-ghost use Rattle.prover.specs.Session as spec;
+ghost use Rattle.prover.specs.Held.{held};
 
 // Did the checks pass?
 pub fn is_done(a: Answer) -> bool
@@ -18,14 +19,10 @@ pub fn is_done(a: Answer) -> bool
     }
 }
 
-// Does the session hold an exchange?
-pub fn holds(s: Prover) -> bool
-    ensures { λ r. ⌜ r ≡ spec.holds s ⌝ }
+// Are the parameters within their limits, and has x at most w nonzero entries, as after every begin?
+fn intact(s: Prover) -> bool
+    ensures { λ r. ⌜ r ≡ spec.intact (held s) ⌝ }
 {
-    let phase = s.phase;
-    if is_fresh(phase) {
-        return false;
-    }
     let p = s.parameters;
     if !parameters::within_limits(p) {
         return false;
@@ -35,10 +32,24 @@ pub fn holds(s: Prover) -> bool
     key::within_weight(p.w, &x[..m])
 }
 
-// Is the exchange closed, so that only begin is due?
-pub fn closed(s: Prover) -> bool
-    ensures { λ r. ⌜ r ≡ spec.closed s ⌝ }
+// The phase that counts: a session that is not fresh and not intact, so one that no call made, counts as closed.
+pub fn standing(s: Prover) -> Phase
+    ensures { λ r. ⌜ r ≡ spec.standing (held s) ⌝ }
 {
     let phase = s.phase;
-    both(holds(s), is_closed(phase))
+    if is_fresh(phase) {
+        return phase;
+    }
+    if intact(s) {
+        return phase;
+    }
+    Phase::Closed
+}
+
+// Is the exchange closed, so that only begin is due?
+pub fn closed(s: Prover) -> bool
+    ensures { λ r. ⌜ r ≡ spec.closed (held s) ⌝ }
+{
+    let phase = standing(s);
+    is_closed(phase)
 }

@@ -11,7 +11,8 @@ ghost use mathlib.Core.Path.{_≡_};
 ghost use lib.ListN.{replicate};
 ghost use Rattle.shake256.specs.Fips.{SHAKE256};
 ghost use Rattle.coefficients.specs.Coefficients.{keyOf};
-ghost use Rattle.prover.specs.Session as spec;
+ghost use Rattle.calls.specs.Prover as spec;
+ghost use Rattle.prover.specs.Held.{held, given};
 
 // A session. Of x the first m entries count, of message 2 the first 8t bytes.
 pub struct Prover {
@@ -31,7 +32,7 @@ pub struct Called {
 
 // A session before its first begin.
 pub fn fresh() -> Prover
-    ensures { λ r. ⌜ r ≡ spec.fresh ⌝ }
+    ensures { λ r. ⌜ held r ≡ spec.fresh ⌝ }
 {
     let parameters = Parameters {
         m: 0,
@@ -70,7 +71,7 @@ impl Prover {
         work: &mut [u8],
         out: &mut [u8],
     ) -> Called
-        ensures { λ r. ⌜ spec.given r (now (out .exit)) (now (work .exit)) ≡ spec.begin SHAKE256 self p (now («x_a» .entry)) (now (salt .entry))
+        ensures { λ r. ⌜ given r (now (out .exit)) (now (work .exit)) ≡ spec.begin SHAKE256 (held self) p (now («x_a» .entry)) (now (salt .entry))
             (now (root .entry)) (keyOf (now (matrix .entry)) (now (y .entry))) (now (work .entry)) (now (out .entry)) ⌝ }
     {
         let mut x = room();
@@ -93,7 +94,7 @@ impl Prover {
         work: &mut [u8],
         out: &mut [u8],
     ) -> Called
-        ensures { λ r. ⌜ spec.given r (now (out .exit)) (now (work .exit)) ≡ spec.points SHAKE256 self (now (message2 .entry))
+        ensures { λ r. ⌜ given r (now (out .exit)) (now (work .exit)) ≡ spec.points SHAKE256 (held self) (now (message2 .entry))
             (keyOf (now (matrix .entry)) (now (y .entry))) (now (work .entry)) (now (out .entry)) ⌝ }
     {
         let answer = on_points::points_checks(self, message2, matrix, y, work, out);
@@ -108,7 +109,7 @@ impl Prover {
 
     // Takes the leaf that stays hidden: message 5 is written to out, and the exchange is closed.
     pub fn leaf(self, leaf: u8, matrix: &[u8], y: &[u8], work: &mut [u8], out: &mut [u8]) -> Called
-        ensures { λ r. ⌜ spec.given r (now (out .exit)) (now (work .exit)) ≡ spec.leaf SHAKE256 self leaf
+        ensures { λ r. ⌜ given r (now (out .exit)) (now (work .exit)) ≡ spec.leaf SHAKE256 (held self) leaf
             (keyOf (now (matrix .entry)) (now (y .entry))) (now (work .entry)) (now (out .entry)) ⌝ }
     {
         let hidden = leaf as usize;

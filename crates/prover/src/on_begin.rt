@@ -1,34 +1,36 @@
 // The call begin: its checks, and the call carried out.
 use crate::Called;
 use crate::Prover;
-use crate::held::holds;
 use answers::Answer;
 use answers::Refusal;
 use arguments::both;
 use layout::arrays;
 use parameters::Parameters;
 use prover_phase::Phase;
+use prover_phase::is_fresh;
 ghost use mathlib.Core.Path.{_≡_};
 ghost use lib.ListN.{replicate};
 ghost use Rattle.shake256.specs.Fips.{SHAKE256};
 ghost use Rattle.answers.specs.declared.Answer.the-variants.{Done};
 ghost use Rattle.relation.specs.Key.{vectorOf};
 ghost use Rattle.coefficients.specs.Coefficients.{keyOf};
+ghost use Rattle.calls.specs.Prover as spec;
 ghost use Rattle.prover.specs.Facts.{Starting};
+ghost use Rattle.prover.specs.Held.{held, given};
 ghost use Rattle.prover.specs.Next.{nextBegun, begunWith};
-ghost use Rattle.prover.specs.Session as spec;
 
 // Are salt and root both those of the exchange held, open or closed?
 fn repeated(s: Prover, salt: &[u8], root: &[u8]) -> bool
-    ensures { λ r. ⌜ r ≡ spec.repeated s (now (salt .entry)) (now (root .entry)) ⌝ }
+    ensures { λ r. ⌜ r ≡ spec.repeated (held s) (now (salt .entry)) (now (root .entry)) ⌝ }
 {
+    let phase = s.phase;
     let held_salt = s.salt;
     let held_root = s.root;
     let same = both(
         lists::equal(salt, &held_salt),
         lists::equal(root, &held_root),
     );
-    both(holds(s), same)
+    both(!is_fresh(phase), same)
 }
 
 // The checks of begin. Where they pass, x, which came as 255 zeros, has the key's vector at its front.
@@ -45,7 +47,7 @@ pub fn begin_checks(
     x: &mut [u8],
 ) -> Answer
     requires { ⌜ now x ≡ replicate 255 0 ⌝ }
-    ensures { λ r. ⌜ (r ≡ spec.beginChecks SHAKE256 s p (now («x_a» .entry)) (now (salt .entry)) (now (root .entry))
+    ensures { λ r. ⌜ (r ≡ spec.beginChecks SHAKE256 (held s) p (now («x_a» .entry)) (now (salt .entry)) (now (root .entry))
         (keyOf (now (matrix .entry)) (now (y .entry))) (now (work .entry)) (now (out .entry)))
         × (r ≡ Done → now (x .exit) ≡ spec.padded 255 (vectorOf (now (matrix .entry)) (now (y .entry)) (now («x_a» .entry)))) ⌝ }
 {
@@ -68,7 +70,7 @@ fn restarted(
     salt: [u8; 32],
     root: [u8; 16],
 ) -> Prover
-    ensures { λ r. ⌜ r ≡ nextBegun phase p x salt root ⌝ }
+    ensures { λ r. ⌜ held r ≡ nextBegun phase p x salt root ⌝ }
 {
     Prover {
         phase,
@@ -91,7 +93,7 @@ pub fn begun(
     out: &mut [u8],
 ) -> Called
     requires { ⌜ Starting p x (now salt) (now root) (now work) (now out) ⌝ }
-    ensures { λ r. ⌜ spec.given r (now (out .exit)) (now (work .exit)) ≡ begunWith p x (now (salt .entry)) (now (root .entry)) (now (work .entry)) ⌝ }
+    ensures { λ r. ⌜ given r (now (out .exit)) (now (work .exit)) ≡ begunWith p x (now (salt .entry)) (now (root .entry)) (now (work .entry)) ⌝ }
 {
     rounds::message1(p, &x, salt, root, work, out);
     let held_salt = arrays::array32(salt);

@@ -2,25 +2,25 @@
 use crate::Called;
 use crate::Prover;
 use crate::held::closed;
-use crate::held::holds;
+use crate::held::standing;
 use answers::Answer;
 use answers::Refusal;
-use arguments::both;
 use arguments::leaf_lengths;
 use prover_phase::due::is_answered;
 ghost use mathlib.Core.Path.{_≡_};
 ghost use Rattle.shake256.specs.Fips.{SHAKE256};
 ghost use Rattle.coefficients.specs.Coefficients.{keyOf};
+ghost use Rattle.calls.specs.Prover as spec;
 ghost use Rattle.prover.specs.Facts.{Opening};
+ghost use Rattle.prover.specs.Held.{held, given};
 ghost use Rattle.prover.specs.Next.{nextClosed};
-ghost use Rattle.prover.specs.Session as spec;
 
 // Is leaf due?
 fn leaf_due(s: Prover) -> bool
-    ensures { λ r. ⌜ r ≡ spec.leafDue s ⌝ }
+    ensures { λ r. ⌜ r ≡ spec.leafDue (held s) ⌝ }
 {
-    let phase = s.phase;
-    both(holds(s), is_answered(phase))
+    let phase = standing(s);
+    is_answered(phase)
 }
 
 // The checks of leaf.
@@ -32,7 +32,7 @@ pub fn leaf_checks(
     work: &[u8],
     out: &[u8],
 ) -> Answer
-    ensures { λ r. ⌜ r ≡ spec.leafChecks SHAKE256 s leaf (keyOf (now (matrix .entry)) (now (y .entry)))
+    ensures { λ r. ⌜ r ≡ spec.leafChecks SHAKE256 (held s) leaf (keyOf (now (matrix .entry)) (now (y .entry)))
         (now (work .entry)) (now (out .entry)) ⌝ }
 {
     if closed(s) {
@@ -53,7 +53,7 @@ pub fn leaf_checks(
 
 // The session closed; it keeps what it holds.
 fn ended(s: Prover) -> Prover
-    ensures { λ r. ⌜ r ≡ nextClosed s ⌝ }
+    ensures { λ r. ⌜ held r ≡ nextClosed (held s) ⌝ }
 {
     let parameters = s.parameters;
     let x = s.x;
@@ -80,8 +80,8 @@ pub fn opened(
     work: &mut [u8],
     out: &mut [u8],
 ) -> Called
-    requires { ⌜ Opening s leaf (now matrix) (now y) (now work) (now out) ⌝ }
-    ensures { λ r. ⌜ spec.given r (now (out .exit)) (now (work .exit)) ≡ spec.opened SHAKE256 s leaf (keyOf (now (matrix .entry)) (now (y .entry)))
+    requires { ⌜ Opening (held s) leaf (now matrix) (now y) (now work) (now out) ⌝ }
+    ensures { λ r. ⌜ given r (now (out .exit)) (now (work .exit)) ≡ spec.opened SHAKE256 (held s) leaf (keyOf (now (matrix .entry)) (now (y .entry)))
         (now (work .entry)) (now (out .entry)) ⌝ }
 {
     let p = s.parameters;

@@ -2,26 +2,26 @@
 use crate::Called;
 use crate::Prover;
 use crate::held::closed;
-use crate::held::holds;
+use crate::held::standing;
 use answers::Answer;
 use answers::Refusal;
-use arguments::both;
 use arguments::points_lengths;
 use layout::arrays;
 use prover_phase::due::is_begun;
 ghost use mathlib.Core.Path.{_≡_};
 ghost use Rattle.shake256.specs.Fips.{SHAKE256};
 ghost use Rattle.coefficients.specs.Coefficients.{keyOf};
+ghost use Rattle.calls.specs.Prover as spec;
 ghost use Rattle.prover.specs.Facts.{Answering};
+ghost use Rattle.prover.specs.Held.{held, given};
 ghost use Rattle.prover.specs.Next.{nextAnswered};
-ghost use Rattle.prover.specs.Session as spec;
 
 // Is points due?
 fn points_due(s: Prover) -> bool
-    ensures { λ r. ⌜ r ≡ spec.pointsDue s ⌝ }
+    ensures { λ r. ⌜ r ≡ spec.pointsDue (held s) ⌝ }
 {
-    let phase = s.phase;
-    both(holds(s), is_begun(phase))
+    let phase = standing(s);
+    is_begun(phase)
 }
 
 // The checks of points.
@@ -33,7 +33,7 @@ pub fn points_checks(
     work: &[u8],
     out: &[u8],
 ) -> Answer
-    ensures { λ r. ⌜ r ≡ spec.pointsChecks SHAKE256 s (now (message2 .entry)) (keyOf (now (matrix .entry)) (now (y .entry)))
+    ensures { λ r. ⌜ r ≡ spec.pointsChecks SHAKE256 (held s) (now (message2 .entry)) (keyOf (now (matrix .entry)) (now (y .entry)))
         (now (work .entry)) (now (out .entry)) ⌝ }
 {
     if closed(s) {
@@ -57,8 +57,8 @@ pub fn points_checks(
 }
 
 // The session once message 3 is given: it holds message 2.
-fn responded(s: Prover, held: [u8; 64]) -> Prover
-    ensures { λ r. ⌜ r ≡ nextAnswered s held ⌝ }
+fn responded(s: Prover, message2: [u8; 64]) -> Prover
+    ensures { λ r. ⌜ held r ≡ nextAnswered (held s) message2 ⌝ }
 {
     let parameters = s.parameters;
     let x = s.x;
@@ -71,7 +71,7 @@ fn responded(s: Prover, held: [u8; 64]) -> Prover
         x,
         salt,
         root,
-        message2: held,
+        message2,
     }
 }
 
@@ -84,8 +84,8 @@ pub fn answered(
     work: &mut [u8],
     out: &mut [u8],
 ) -> Called
-    requires { ⌜ Answering s (now message2) (now matrix) (now y) (now work) (now out) ⌝ }
-    ensures { λ r. ⌜ spec.given r (now (out .exit)) (now (work .exit)) ≡ spec.answered SHAKE256 s (now (message2 .entry)) (keyOf (now (matrix .entry)) (now (y .entry)))
+    requires { ⌜ Answering (held s) (now message2) (now matrix) (now y) (now work) (now out) ⌝ }
+    ensures { λ r. ⌜ given r (now (out .exit)) (now (work .exit)) ≡ spec.answered SHAKE256 (held s) (now (message2 .entry)) (keyOf (now (matrix .entry)) (now (y .entry)))
         (now (work .entry)) (now (out .entry)) ⌝ }
 {
     let p = s.parameters;
@@ -93,8 +93,8 @@ pub fn answered(
     let salt = s.salt;
     let root = s.root;
     rounds::message3(p, &x, &salt, &root, message2, matrix, y, work, out);
-    let held = arrays::padded64(message2);
-    let prover = responded(s, held);
+    let padded = arrays::padded64(message2);
+    let prover = responded(s, padded);
     Called {
         prover,
         answer: Answer::Done,

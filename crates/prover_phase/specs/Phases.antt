@@ -1,13 +1,14 @@
 -- The phases of a prover's session.
 --
 -- isFresh, isBegun, isAnswered, isClosed   which phase it is
--- proverPhaseByte f     the phase as a byte
--- proverPhaseFrom b     and back; any other byte is `Fresh`, so that any bytes are some session
+-- proverPhaseByte f     the phase as a byte; any two of them differ in at least four bits
+-- proverPhaseFrom b     and back; any other byte is `Closed`, so that a damaged session stays shut
 use Prim.Native.Nat.{ℕ}
 use mathlib.Core.Bool.{Bool, true, false, cond}
 use lib.Dec.{eqb}
 use Rattle.prover_phase.specs.declared.Phase.{Phase}
 use Rattle.prover_phase.specs.declared.Phase.the-variants.{Fresh, Begun, Answered, Closed}
+pub mod Laws
 
 abbrev pub isFresh : Phase → Bool
 isFresh Fresh = true
@@ -34,10 +35,10 @@ isClosed Answered = false
 isClosed Closed = true
 
 abbrev pub proverPhaseByte : Phase → ℕ
-proverPhaseByte Fresh = 0
-proverPhaseByte Begun = 1
-proverPhaseByte Answered = 2
-proverPhaseByte Closed = 3
+proverPhaseByte Fresh = 0x0f
+proverPhaseByte Begun = 0x33
+proverPhaseByte Answered = 0x55
+proverPhaseByte Closed = 0x66
 
 abbrev pub proverPhaseFrom : ℕ → Phase
-proverPhaseFrom b = cond (eqb b 1) Begun (cond (eqb b 2) Answered (cond (eqb b 3) Closed Fresh))
+proverPhaseFrom b = cond (eqb b 0x0f) Fresh (cond (eqb b 0x33) Begun (cond (eqb b 0x55) Answered Closed))

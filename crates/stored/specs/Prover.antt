@@ -1,16 +1,14 @@
 -- A prover's session as bytes.
 --
 -- proverSize            how many there are
--- proverPhaseByte f     the phase as a byte
--- proverPhaseFrom b     and back; any other byte is `Fresh`, so that any bytes are some session
--- proverBytes s         phase, m, k, w, d, t, x (255), salt (32), root (16), message 2 (64)
+-- proverBytes s         phase (`proverPhaseByte`), m, k, w, d, t, x (255), salt (32), root (16), message 2 (64)
 -- proverFrom b          the session that the bytes b are
 use Prim.Native.Nat.{ℕ}
 use mathlib.Core.List.{List, _∷_, _++_}
 use lib.ListN.{getD}
 use Rattle.lists.specs.Part.{part}
-pub use Rattle.prover_phase.specs.Phases.{proverPhaseByte, proverPhaseFrom}
-use Rattle.prover.specs.declared.Prover.{Prover}
+use Rattle.prover_phase.specs.Phases.{proverPhaseByte, proverPhaseFrom}
+use Rattle.calls.specs.Prover.{Prover}
 use Rattle.stored.specs.Parameters.{parameterBytes, parametersFrom}
 pub mod Laws
 

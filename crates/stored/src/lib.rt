@@ -1,16 +1,15 @@
 // Sessions as bytes, for a caller that keeps a session in a buffer of its own.
 mod parts;
-mod phases;
 
 use layout::arrays::array16;
 use layout::arrays::array32;
 use layout::arrays::array64;
 use prover::Prover;
-use prover_phase::bytes::phase_byte;
-use prover_phase::bytes::phase_from;
 use verifier::Verifier;
 ghost use mathlib.Core.Path.{_≡_};
 ghost use lib.ListN.{length};
+ghost use Rattle.prover.specs.Held.{held as heldProver};
+ghost use Rattle.verifier.specs.Held.{held as heldVerifier};
 ghost use Rattle.stored.specs.Parameters.{Small};
 ghost use Rattle.stored.specs.Prover.{proverSize, proverBytes, proverFrom};
 ghost use Rattle.stored.specs.Verifier.{verifierSize, verifierBytes, verifierFrom};
@@ -24,9 +23,9 @@ pub const VERIFIER_SIZE: usize = 167;
 // The prover's session that the bytes are.
 pub fn read_prover(b: &[u8]) -> Prover
     requires { ⌜ length (now b) ≡ proverSize ⌝ }
-    ensures { λ r. ⌜ r ≡ proverFrom (now (b .entry)) ⌝ }
+    ensures { λ r. ⌜ heldProver r ≡ proverFrom (now (b .entry)) ⌝ }
 {
-    let phase = phase_from(b[0]);
+    let phase = prover_phase::bytes::phase_from(b[0]);
     let parameters = parts::read_parameters(b);
     let x = parts::array255(&b[6..261]);
     let salt = array32(&b[261..293]);
@@ -45,11 +44,11 @@ pub fn read_prover(b: &[u8]) -> Prover
 // The bytes of a prover's session.
 pub fn write_prover(s: Prover, out: &mut [u8])
     requires { ⌜ (length (now out) ≡ proverSize) × Small (s .parameters) ⌝ }
-    ensures { λ _. ⌜ now (out .exit) ≡ proverBytes s ⌝ }
+    ensures { λ _. ⌜ now (out .exit) ≡ proverBytes (heldProver s) ⌝ }
 {
     let phase = s.phase;
     let p = s.parameters;
-    let start = parts::head(phase_byte(phase), p);
+    let start = parts::head(prover_phase::bytes::phase_byte(phase), p);
     let x = s.x;
     let salt = s.salt;
     let root = s.root;
@@ -60,9 +59,9 @@ pub fn write_prover(s: Prover, out: &mut [u8])
 // The verifier's session that the bytes are.
 pub fn read_verifier(b: &[u8]) -> Verifier
     requires { ⌜ length (now b) ≡ verifierSize ⌝ }
-    ensures { λ r. ⌜ r ≡ verifierFrom (now (b .entry)) ⌝ }
+    ensures { λ r. ⌜ heldVerifier r ≡ verifierFrom (now (b .entry)) ⌝ }
 {
-    let phase = phases::verifier_phase(b[0]);
+    let phase = verifier_phase::bytes::phase_from(b[0]);
     let parameters = parts::read_parameters(b);
     let message1 = array64(&b[6..70]);
     let message2 = array64(&b[70..134]);
@@ -81,11 +80,11 @@ pub fn read_verifier(b: &[u8]) -> Verifier
 // The bytes of a verifier's session.
 pub fn write_verifier(s: Verifier, out: &mut [u8])
     requires { ⌜ (length (now out) ≡ verifierSize) × Small (s .parameters) ⌝ }
-    ensures { λ _. ⌜ now (out .exit) ≡ verifierBytes s ⌝ }
+    ensures { λ _. ⌜ now (out .exit) ≡ verifierBytes (heldVerifier s) ⌝ }
 {
     let phase = s.phase;
     let p = s.parameters;
-    let start = parts::head(phases::verifier_phase_byte(phase), p);
+    let start = parts::head(verifier_phase::bytes::phase_byte(phase), p);
     let message1 = s.message1;
     let message2 = s.message2;
     let message3 = s.message3;

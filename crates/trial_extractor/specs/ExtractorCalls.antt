@@ -3,17 +3,16 @@
 -- p, key, work, out     parameters, matrix and y, work area and output as lent
 -- ..A, ..B              the messages of two exchanges
 -- honest, ..            the calls, with all that they are lent
--- ..-gives              what the call answers: a refusal's number; or 0, layer and number; or 0 and the axis;
---                       then output and work area
+-- ..-gives              what the call answers, and output and work area after it
 use mathlib.Core.Path.{_≡_, refl}
-use mathlib.Core.List.{List, [], _∷_}
+use mathlib.Core.List.{List}
 use Prim.Native.Nat.{ℕ}
 use lib.ListN.{replicate}
 use Rattle.parameters.specs.declared.Parameters.{Parameters}
 use Rattle.exchange.specs.Values.{Key}
 use Rattle.standin.specs.StandIn.{hex, standIn, weak}
-use Rattle.extractor.specs.Call.{Transcript, Outcome, extraction}
-use Rattle.trial_extractor.specs.Definitions.{definitions, extractionNumbers}
+use Rattle.calls.specs.Extractor.{Transcript, Outcome, refused, pair, filled, extraction}
+use Rattle.trial_extractor.specs.Definitions.{definitions, gives, given}
 
 abbrev p : Parameters
 p = record { m = 2; k = 1; w = 1; d = 1; t = 1 }
@@ -49,8 +48,8 @@ abbrev honest : Outcome
 honest = extraction standIn p honestA honestB key work out
 
 honest-gives :
-    extractionNumbers (honest .answer) ∷ honest .out ∷ honest .work ∷ []
-    ≡ (0 ∷ 1 ∷ []) ∷ hex 71 0x916eb600281909c9c7a9b1936d61768851fe874715fa0b76fe81e362a70f54e62f18b452d41634684f28e4a4a4f0d3126aa5c6c40d624a90254663727b43e47ce98872a968ba4a ∷ hex 32 0x000000000000000000000000000000000000000000000000000000000000a5a5 ∷ []
+    given honest
+    ≡ gives (filled 1) (hex 71 0x916eb600281909c9c7a9b1936d61768851fe874715fa0b76fe81e362a70f54e62f18b452d41634684f28e4a4a4f0d3126aa5c6c40d624a90254663727b43e47ce98872a968ba4a) (hex 32 0x000000000000000000000000000000000000000000000000000000000000a5a5)
 unfolding definitions
 honest-gives = refl
 
@@ -67,8 +66,8 @@ abbrev parameterOutside : Outcome
 parameterOutside = extraction standIn (record { m = 2; k = 2; w = 1; d = 1; t = 1 }) parameterOutsideA honestB key work out
 
 parameterOutside-gives :
-    extractionNumbers (parameterOutside .answer) ∷ parameterOutside .out ∷ parameterOutside .work ∷ []
-    ≡ (1 ∷ []) ∷ replicate 71 0x5a ∷ replicate 32 0xa5 ∷ []
+    given parameterOutside
+    ≡ gives (refused 1) (replicate 71 0x5a) (replicate 32 0xa5)
 unfolding definitions
 parameterOutside-gives = refl
 
@@ -76,8 +75,8 @@ abbrev workAreaShort : Outcome
 workAreaShort = extraction standIn p parameterOutsideA honestB key (replicate 29 0xa5) out
 
 workAreaShort-gives :
-    extractionNumbers (workAreaShort .answer) ∷ workAreaShort .out ∷ workAreaShort .work ∷ []
-    ≡ (2 ∷ []) ∷ replicate 71 0x5a ∷ replicate 29 0xa5 ∷ []
+    given workAreaShort
+    ≡ gives (refused 2) (replicate 71 0x5a) (replicate 29 0xa5)
 unfolding definitions
 workAreaShort-gives = refl
 
@@ -94,8 +93,8 @@ abbrev outputLong : Outcome
 outputLong = extraction standIn p honestA outputLongB key work (replicate 72 0x5a)
 
 outputLong-gives :
-    extractionNumbers (outputLong .answer) ∷ outputLong .out ∷ outputLong .work ∷ []
-    ≡ (2 ∷ []) ∷ replicate 72 0x5a ∷ replicate 32 0xa5 ∷ []
+    given outputLong
+    ≡ gives (refused 2) (replicate 72 0x5a) (replicate 32 0xa5)
 unfolding definitions
 outputLong-gives = refl
 
@@ -103,8 +102,8 @@ abbrev leafBeyond : Outcome
 leafBeyond = extraction standIn p parameterOutsideA outputLongB key work out
 
 leafBeyond-gives :
-    extractionNumbers (leafBeyond .answer) ∷ leafBeyond .out ∷ leafBeyond .work ∷ []
-    ≡ (4 ∷ []) ∷ replicate 71 0x5a ∷ replicate 32 0xa5 ∷ []
+    given leafBeyond
+    ≡ gives (refused 4) (replicate 71 0x5a) (replicate 32 0xa5)
 unfolding definitions
 leafBeyond-gives = refl
 
@@ -121,8 +120,8 @@ abbrev multiplierDiffers : Outcome
 multiplierDiffers = extraction standIn p honestA multiplierDiffersB key work out
 
 multiplierDiffers-gives :
-    extractionNumbers (multiplierDiffers .answer) ∷ multiplierDiffers .out ∷ multiplierDiffers .work ∷ []
-    ≡ (8 ∷ []) ∷ replicate 71 0x5a ∷ replicate 32 0xa5 ∷ []
+    given multiplierDiffers
+    ≡ gives (refused 8) (replicate 71 0x5a) (replicate 32 0xa5)
 unfolding definitions
 multiplierDiffers-gives = refl
 
@@ -139,8 +138,8 @@ abbrev sameLeaf : Outcome
 sameLeaf = extraction standIn p sameLeafA sameLeafA key work out
 
 sameLeaf-gives :
-    extractionNumbers (sameLeaf .answer) ∷ sameLeaf .out ∷ sameLeaf .work ∷ []
-    ≡ (9 ∷ []) ∷ replicate 71 0x5a ∷ replicate 32 0xa5 ∷ []
+    given sameLeaf
+    ≡ gives (refused 9) (replicate 71 0x5a) (replicate 32 0xa5)
 unfolding definitions
 sameLeaf-gives = refl
 
@@ -157,8 +156,8 @@ abbrev commitmentDiffers : Outcome
 commitmentDiffers = extraction standIn p sameLeafA commitmentDiffersB key work out
 
 commitmentDiffers-gives :
-    extractionNumbers (commitmentDiffers .answer) ∷ commitmentDiffers .out ∷ commitmentDiffers .work ∷ []
-    ≡ (5 ∷ []) ∷ replicate 71 0x5a ∷ hex 32 0x000000000000000000000000000000000000000000000000000000000000a5a5 ∷ []
+    given commitmentDiffers
+    ≡ gives (refused 5) (replicate 71 0x5a) (hex 32 0x000000000000000000000000000000000000000000000000000000000000a5a5)
 unfolding definitions
 commitmentDiffers-gives = refl
 
@@ -184,7 +183,7 @@ abbrev response : Outcome
 response = extraction (weak 7) p responseA responseB key work out
 
 response-gives :
-    extractionNumbers (response .answer) ∷ response .out ∷ response .work ∷ []
-    ≡ (0 ∷ 7 ∷ 0 ∷ []) ∷ replicate 71 0x5a ∷ hex 32 0x000000000000000000000000000000000000000000000000000000000000a5a5 ∷ []
+    given response
+    ≡ gives (pair 7 0) (replicate 71 0x5a) (hex 32 0x000000000000000000000000000000000000000000000000000000000000a5a5)
 unfolding definitions
 response-gives = refl

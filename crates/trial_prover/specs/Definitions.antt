@@ -2,11 +2,11 @@
 --
 -- definitions          unfolding it opens every definition of its calls, of the exchange, and what they stand on
 use Prim.Native.Nat.{ℕ}
-use Rattle.prover.specs.Session.{fresh, heldX, heldMessage2, holds, closed, pointsDue, leafDue, repeated}
-use Rattle.prover.specs.Session.{beginLengths, beginChecks, begun, begin, pointsChecks, answered, points, leafChecks, opened, leaf}
+use Rattle.calls.specs.Prover.{fresh, heldX, heldMessage2, intact, standing, closed, pointsDue, leafDue, repeated}
+use Rattle.calls.specs.Prover.{beginChecks, begun, begin, pointsChecks, answered, points, leafChecks, opened, leaf}
 use Rattle.standin.specs.Definitions as exchanges
 
 unfoldable pub definitions : ℕ
-unfolding exchanges.definitions fresh heldX heldMessage2 holds closed pointsDue leafDue repeated
-    beginLengths beginChecks begun begin pointsChecks answered points leafChecks opened leaf
+unfolding exchanges.definitions fresh heldX heldMessage2 intact standing closed pointsDue leafDue repeated
+    beginChecks begun begin pointsChecks answered points leafChecks opened leaf
 definitions = 0

@@ -3,16 +3,16 @@
 -- p, key, xA, salt, root, m2     parameters, matrix and y, x_A, salt, root and message 2
 -- work                           a work area, longer than its named length
 -- call1, call2, ..               the calls, with all that they are lent
+-- damaged                        the session held at the end, with another m
 -- call1-gives, ..                the number that the call answers, then output and work area
 use mathlib.Core.Path.{_≡_, refl}
 use mathlib.Core.List.{List, [], _∷_}
 use Prim.Native.Nat.{ℕ}
 use lib.ListN.{replicate}
-use Rattle.answers.specs.Number.{answerNumber}
 use Rattle.parameters.specs.declared.Parameters.{Parameters}
 use Rattle.exchange.specs.Values.{Key}
 use Rattle.standin.specs.StandIn.{hex, standIn}
-use Rattle.prover.specs.Session.{Outcome, fresh, begin, points, leaf}
+use Rattle.calls.specs.Prover.{Prover, Outcome, fresh, begin, points, leaf}
 use Rattle.trial_prover.specs.Definitions.{definitions}
 
 abbrev p : Parameters
@@ -41,7 +41,7 @@ abbrev call1 : Outcome
 call1 = points standIn fresh m2 key work (replicate 33 0x5a)
 
 call1-gives :
-    (answerNumber (call1 .answer) ∷ []) ∷ call1 .out ∷ call1 .work ∷ []
+    (call1 .answer ∷ []) ∷ call1 .out ∷ call1 .work ∷ []
     ≡ (11 ∷ []) ∷ replicate 33 0x5a ∷ replicate 32 0xa5 ∷ []
 unfolding definitions
 call1-gives = refl
@@ -51,7 +51,7 @@ abbrev call2 : Outcome
 call2 = begin standIn (call1 .prover) (record { m = 2; k = 2; w = 1; d = 1; t = 1 }) xA salt root key work (replicate 64 0x5a)
 
 call2-gives :
-    (answerNumber (call2 .answer) ∷ []) ∷ call2 .out ∷ call2 .work ∷ []
+    (call2 .answer ∷ []) ∷ call2 .out ∷ call2 .work ∷ []
     ≡ (1 ∷ []) ∷ replicate 64 0x5a ∷ replicate 32 0xa5 ∷ []
 unfolding definitions
 call2-gives = refl
@@ -61,7 +61,7 @@ abbrev call3 : Outcome
 call3 = begin standIn (call2 .prover) p (hex 1 0x51) salt root key (replicate 29 0xa5) (replicate 64 0x5a)
 
 call3-gives :
-    (answerNumber (call3 .answer) ∷ []) ∷ call3 .out ∷ call3 .work ∷ []
+    (call3 .answer ∷ []) ∷ call3 .out ∷ call3 .work ∷ []
     ≡ (2 ∷ []) ∷ replicate 64 0x5a ∷ replicate 29 0xa5 ∷ []
 unfolding definitions
 call3-gives = refl
@@ -71,7 +71,7 @@ abbrev call4 : Outcome
 call4 = begin standIn (call3 .prover) p xA salt root key work (replicate 64 0x5a)
 
 call4-gives :
-    (answerNumber (call4 .answer) ∷ []) ∷ call4 .out ∷ call4 .work ∷ []
+    (call4 .answer ∷ []) ∷ call4 .out ∷ call4 .work ∷ []
     ≡ (0 ∷ []) ∷ hex 64 0xf9bc3829513be4867a5491720bd00dfdef5ad14ea03d5d5d133497e208edfad19f8f62008be9ac1a3f8ed482e6b895cedbfca695b4d64a699aa25926895dc0ee ∷ hex 32 0x000000000000000000000000000000000000000000000000000000000000a5a5 ∷ []
 unfolding definitions
 call4-gives = refl
@@ -81,7 +81,7 @@ abbrev call5 : Outcome
 call5 = begin standIn (call4 .prover) p (hex 1 0x51) salt root key work (replicate 64 0x5a)
 
 call5-gives :
-    (answerNumber (call5 .answer) ∷ []) ∷ call5 .out ∷ call5 .work ∷ []
+    (call5 .answer ∷ []) ∷ call5 .out ∷ call5 .work ∷ []
     ≡ (3 ∷ []) ∷ replicate 64 0x5a ∷ replicate 32 0xa5 ∷ []
 unfolding definitions
 call5-gives = refl
@@ -91,7 +91,7 @@ abbrev call6 : Outcome
 call6 = begin standIn (call5 .prover) p xA salt root key work (replicate 64 0x5a)
 
 call6-gives :
-    (answerNumber (call6 .answer) ∷ []) ∷ call6 .out ∷ call6 .work ∷ []
+    (call6 .answer ∷ []) ∷ call6 .out ∷ call6 .work ∷ []
     ≡ (13 ∷ []) ∷ replicate 64 0x5a ∷ replicate 32 0xa5 ∷ []
 unfolding definitions
 call6-gives = refl
@@ -101,7 +101,7 @@ abbrev call7 : Outcome
 call7 = leaf standIn (call6 .prover) 0 key work (replicate 64 0x5a)
 
 call7-gives :
-    (answerNumber (call7 .answer) ∷ []) ∷ call7 .out ∷ call7 .work ∷ []
+    (call7 .answer ∷ []) ∷ call7 .out ∷ call7 .work ∷ []
     ≡ (11 ∷ []) ∷ replicate 64 0x5a ∷ replicate 32 0xa5 ∷ []
 unfolding definitions
 call7-gives = refl
@@ -111,7 +111,7 @@ abbrev call8 : Outcome
 call8 = points standIn (call7 .prover) m2 key work (replicate 33 0x5a)
 
 call8-gives :
-    (answerNumber (call8 .answer) ∷ []) ∷ call8 .out ∷ call8 .work ∷ []
+    (call8 .answer ∷ []) ∷ call8 .out ∷ call8 .work ∷ []
     ≡ (2 ∷ []) ∷ replicate 33 0x5a ∷ replicate 32 0xa5 ∷ []
 unfolding definitions
 call8-gives = refl
@@ -121,7 +121,7 @@ abbrev call9 : Outcome
 call9 = points standIn (call8 .prover) m2 key work (replicate 32 0x5a)
 
 call9-gives :
-    (answerNumber (call9 .answer) ∷ []) ∷ call9 .out ∷ call9 .work ∷ []
+    (call9 .answer ∷ []) ∷ call9 .out ∷ call9 .work ∷ []
     ≡ (0 ∷ []) ∷ hex 32 0x8f63b0b6b656626db27cbc9cf88255963e580f750c837013db969f401ea8bb35 ∷ hex 32 0x000000000000000000000000000000000000000000000000000000000000a5a5 ∷ []
 unfolding definitions
 call9-gives = refl
@@ -131,7 +131,7 @@ abbrev call10 : Outcome
 call10 = points standIn (call9 .prover) m2 key work (replicate 32 0x5a)
 
 call10-gives :
-    (answerNumber (call10 .answer) ∷ []) ∷ call10 .out ∷ call10 .work ∷ []
+    (call10 .answer ∷ []) ∷ call10 .out ∷ call10 .work ∷ []
     ≡ (11 ∷ []) ∷ replicate 32 0x5a ∷ replicate 32 0xa5 ∷ []
 unfolding definitions
 call10-gives = refl
@@ -141,7 +141,7 @@ abbrev call11 : Outcome
 call11 = leaf standIn (call10 .prover) 2 key work (replicate 56 0x5a)
 
 call11-gives :
-    (answerNumber (call11 .answer) ∷ []) ∷ call11 .out ∷ call11 .work ∷ []
+    (call11 .answer ∷ []) ∷ call11 .out ∷ call11 .work ∷ []
     ≡ (2 ∷ []) ∷ replicate 56 0x5a ∷ replicate 32 0xa5 ∷ []
 unfolding definitions
 call11-gives = refl
@@ -151,7 +151,7 @@ abbrev call12 : Outcome
 call12 = leaf standIn (call11 .prover) 2 key work (replicate 63 0x5a)
 
 call12-gives :
-    (answerNumber (call12 .answer) ∷ []) ∷ call12 .out ∷ call12 .work ∷ []
+    (call12 .answer ∷ []) ∷ call12 .out ∷ call12 .work ∷ []
     ≡ (4 ∷ []) ∷ replicate 63 0x5a ∷ replicate 32 0xa5 ∷ []
 unfolding definitions
 call12-gives = refl
@@ -161,7 +161,7 @@ abbrev call13 : Outcome
 call13 = leaf standIn (call12 .prover) 0 key work (replicate 63 0x5a)
 
 call13-gives :
-    (answerNumber (call13 .answer) ∷ []) ∷ call13 .out ∷ call13 .work ∷ []
+    (call13 .answer ∷ []) ∷ call13 .out ∷ call13 .work ∷ []
     ≡ (0 ∷ []) ∷ hex 63 0x81814badb189030c82efd43a081a71316e95abbaa5305b2dcf3825d83486be2721b0b3ba09cf5b472faac044c133f4e2382a6c99be3067f4e98872a968ba4a ∷ hex 32 0x000000000000000000000000000000000000000000000000000000000000a5a5 ∷ []
 unfolding definitions
 call13-gives = refl
@@ -171,7 +171,7 @@ abbrev call14 : Outcome
 call14 = leaf standIn (call13 .prover) 2 key work (replicate 63 0x5a)
 
 call14-gives :
-    (answerNumber (call14 .answer) ∷ []) ∷ call14 .out ∷ call14 .work ∷ []
+    (call14 .answer ∷ []) ∷ call14 .out ∷ call14 .work ∷ []
     ≡ (12 ∷ []) ∷ replicate 63 0x5a ∷ replicate 32 0xa5 ∷ []
 unfolding definitions
 call14-gives = refl
@@ -181,7 +181,7 @@ abbrev call15 : Outcome
 call15 = points standIn (call14 .prover) m2 key work (replicate 32 0x5a)
 
 call15-gives :
-    (answerNumber (call15 .answer) ∷ []) ∷ call15 .out ∷ call15 .work ∷ []
+    (call15 .answer ∷ []) ∷ call15 .out ∷ call15 .work ∷ []
     ≡ (12 ∷ []) ∷ replicate 32 0x5a ∷ replicate 32 0xa5 ∷ []
 unfolding definitions
 call15-gives = refl
@@ -191,7 +191,7 @@ abbrev call16 : Outcome
 call16 = begin standIn (call15 .prover) p xA salt root key work (replicate 64 0x5a)
 
 call16-gives :
-    (answerNumber (call16 .answer) ∷ []) ∷ call16 .out ∷ call16 .work ∷ []
+    (call16 .answer ∷ []) ∷ call16 .out ∷ call16 .work ∷ []
     ≡ (13 ∷ []) ∷ replicate 64 0x5a ∷ replicate 32 0xa5 ∷ []
 unfolding definitions
 call16-gives = refl
@@ -201,7 +201,58 @@ abbrev call17 : Outcome
 call17 = begin standIn (call16 .prover) p xA salt (hex 16 0x2c710468a6386d142cf37ec78f6d6fbe) key work (replicate 64 0x5a)
 
 call17-gives :
-    (answerNumber (call17 .answer) ∷ []) ∷ call17 .out ∷ call17 .work ∷ []
+    (call17 .answer ∷ []) ∷ call17 .out ∷ call17 .work ∷ []
     ≡ (0 ∷ []) ∷ hex 64 0xf9bc3829513be4867a5491720bd00dfdef5ad14ea03d5d5d133497e208edfad17a0d799851e890b40e9fe9176c10221c2041a4a7a7c58cad6538c4b547ced584 ∷ hex 32 0x000000000000000000000000000000000000000000000000000000000000a5a5 ∷ []
 unfolding definitions
 call17-gives = refl
+
+-- the session with m 1, which no call made
+abbrev damaged : Prover
+damaged = record {
+  phase = call17 .prover .phase;
+  parameters = record { m = 1; k = 1; w = 1; d = 1; t = 1 };
+  x = call17 .prover .x;
+  salt = call17 .prover .salt;
+  root = call17 .prover .root;
+  message2 = call17 .prover .message2;
+}
+
+-- call18: points, the session damaged
+abbrev call18 : Outcome
+call18 = points standIn damaged m2 key work (replicate 32 0x5a)
+
+call18-gives :
+    (call18 .answer ∷ []) ∷ call18 .out ∷ call18 .work ∷ []
+    ≡ (12 ∷ []) ∷ replicate 32 0x5a ∷ replicate 32 0xa5 ∷ []
+unfolding definitions
+call18-gives = refl
+
+-- call19: leaf 0, the session damaged
+abbrev call19 : Outcome
+call19 = leaf standIn (call18 .prover) 0 key work (replicate 63 0x5a)
+
+call19-gives :
+    (call19 .answer ∷ []) ∷ call19 .out ∷ call19 .work ∷ []
+    ≡ (12 ∷ []) ∷ replicate 63 0x5a ∷ replicate 32 0xa5 ∷ []
+unfolding definitions
+call19-gives = refl
+
+-- call20: begin with the salt and root held, the session damaged
+abbrev call20 : Outcome
+call20 = begin standIn (call19 .prover) p xA salt (hex 16 0x2c710468a6386d142cf37ec78f6d6fbe) key work (replicate 64 0x5a)
+
+call20-gives :
+    (call20 .answer ∷ []) ∷ call20 .out ∷ call20 .work ∷ []
+    ≡ (13 ∷ []) ∷ replicate 64 0x5a ∷ replicate 32 0xa5 ∷ []
+unfolding definitions
+call20-gives = refl
+
+-- call21: begin with another root, the session damaged
+abbrev call21 : Outcome
+call21 = begin standIn (call20 .prover) p xA salt root key work (replicate 64 0x5a)
+
+call21-gives :
+    (call21 .answer ∷ []) ∷ call21 .out ∷ call21 .work ∷ []
+    ≡ (0 ∷ []) ∷ hex 64 0xf9bc3829513be4867a5491720bd00dfdef5ad14ea03d5d5d133497e208edfad19f8f62008be9ac1a3f8ed482e6b895cedbfca695b4d64a699aa25926895dc0ee ∷ hex 32 0x000000000000000000000000000000000000000000000000000000000000a5a5 ∷ []
+unfolding definitions
+call21-gives = refl

@@ -1,5 +1,4 @@
 // The checks of the verifier's calls, in document 01's order.
-use crate::Phase;
 use crate::Verifier;
 use answers::Answer;
 use answers::Refusal;
@@ -9,6 +8,8 @@ use layout::message5_length;
 use leaves::leaf_count;
 use parameters::Parameters;
 use parameters::within_limits;
+use verifier_phase::Phase;
+use verifier_phase::step;
 ghost use mathlib.Core.Path.{_≡_};
 ghost use mathlib.Core.List.{[], _∷_};
 ghost use lib.Dec.{eqb};
@@ -18,30 +19,13 @@ ghost use Rattle.shake256.specs.Fips.{SHAKE256};
 ghost use Rattle.exchange.specs.Layout.{message5Length};
 ghost use Rattle.layout.specs.Lent.{lentTests};
 ghost use Rattle.coefficients.specs.Coefficients.{keyOf};
-ghost use Rattle.verifier.specs.Session as spec;
+ghost use Rattle.calls.specs.Verifier as spec;
+ghost use Rattle.verifier.specs.Held.{held};
 
-// The place of a phase in their order.
-fn step(phase: Phase) -> u8
-    ensures { λ r. ⌜ r ≡ spec.step phase ⌝ }
+// Are the parameters within their limits and is the leaf below n, as after every begin?
+fn intact(s: Verifier) -> bool
+    ensures { λ r. ⌜ r ≡ spec.intact (held s) ⌝ }
 {
-    match phase {
-        Phase::Fresh => 0,
-        Phase::Begun => 1,
-        Phase::Pointed => 2,
-        Phase::Responded => 3,
-        Phase::Chosen => 4,
-        Phase::Closed => 5,
-    }
-}
-
-// Does the session hold an exchange?
-fn holds(s: Verifier) -> bool
-    ensures { λ r. ⌜ r ≡ spec.holds s ⌝ }
-{
-    let phase = s.phase;
-    if step(phase) == 0 {
-        return false;
-    }
     let p = s.parameters;
     if !within_limits(p) {
         return false;
@@ -50,31 +34,39 @@ fn holds(s: Verifier) -> bool
     leaf < leaf_count(p)
 }
 
+// The phase that counts: a session that is not fresh and not intact counts as closed.
+fn standing(s: Verifier) -> Phase
+    ensures { λ r. ⌜ r ≡ spec.standing (held s) ⌝ }
+{
+    let phase = s.phase;
+    if step(phase) == step(Phase::Fresh) {
+        return phase;
+    }
+    if !intact(s) {
+        return Phase::Closed;
+    }
+    phase
+}
+
 // Is the exchange that the session holds closed?
 fn closed(s: Verifier) -> bool
-    ensures { λ r. ⌜ r ≡ spec.closed s ⌝ }
+    ensures { λ r. ⌜ r ≡ spec.closed (held s) ⌝ }
 {
-    if !holds(s) {
-        return false;
-    }
-    let phase = s.phase;
+    let phase = standing(s);
     step(phase) == step(Phase::Closed)
 }
 
 // Is the call of the phase `here` due?
 fn due(s: Verifier, here: Phase) -> bool
-    ensures { λ r. ⌜ r ≡ spec.due s here ⌝ }
+    ensures { λ r. ⌜ r ≡ spec.due (held s) here ⌝ }
 {
-    if !holds(s) {
-        return false;
-    }
-    let phase = s.phase;
+    let phase = standing(s);
     step(phase) == step(here)
 }
 
 // 12 and 11 for the call of the phase `here`.
 fn state_checks(s: Verifier, here: Phase) -> Answer
-    ensures { λ r. ⌜ r ≡ spec.afterBegin s here [] ⌝ }
+    ensures { λ r. ⌜ r ≡ spec.afterBegin (held s) here [] ⌝ }
 {
     if closed(s) {
         return Answer::Refused(Refusal::Closed);
@@ -100,7 +92,7 @@ pub fn begin_checks(p: Parameters, message1: &[u8]) -> Answer
 
 // The checks of points.
 pub fn points_checks(s: Verifier, message2: &[u8]) -> Answer
-    ensures { λ r. ⌜ r ≡ spec.pointsChecks s (now (message2 .entry)) ⌝ }
+    ensures { λ r. ⌜ r ≡ spec.pointsChecks (held s) (now (message2 .entry)) ⌝ }
 {
     let state = state_checks(s, Phase::Begun);
     let Answer::Done = state else {
@@ -115,7 +107,7 @@ pub fn points_checks(s: Verifier, message2: &[u8]) -> Answer
 
 // The checks of response.
 pub fn response_checks(s: Verifier, message3: &[u8]) -> Answer
-    ensures { λ r. ⌜ r ≡ spec.responseChecks s (now (message3 .entry)) ⌝ }
+    ensures { λ r. ⌜ r ≡ spec.responseChecks (held s) (now (message3 .entry)) ⌝ }
 {
     let state = state_checks(s, Phase::Pointed);
     let Answer::Done = state else {
@@ -129,7 +121,7 @@ pub fn response_checks(s: Verifier, message3: &[u8]) -> Answer
 
 // The checks of leaf.
 pub fn leaf_checks(s: Verifier, leaf: u8) -> Answer
-    ensures { λ r. ⌜ r ≡ spec.leafChecks s leaf ⌝ }
+    ensures { λ r. ⌜ r ≡ spec.leafChecks (held s) leaf ⌝ }
 {
     let state = state_checks(s, Phase::Responded);
     let Answer::Done = state else {
@@ -157,7 +149,7 @@ fn opening_lengths(s: Verifier, message5: usize, matrix: usize, y: usize, work: 
 
 // The checks of the opening.
 pub fn opening_checks(s: Verifier, message5: &[u8], matrix: &[u8], y: &[u8], work: &[u8]) -> Answer
-    ensures { λ r. ⌜ r ≡ spec.openingChecks SHAKE256 s (now (message5 .entry)) (keyOf (now (matrix .entry)) (now (y .entry))) (now (work .entry)) ⌝ }
+    ensures { λ r. ⌜ r ≡ spec.openingChecks SHAKE256 (held s) (now (message5 .entry)) (keyOf (now (matrix .entry)) (now (y .entry))) (now (work .entry)) ⌝ }
 {
     let state = state_checks(s, Phase::Chosen);
     let Answer::Done = state else {

@@ -1,11 +1,11 @@
 // The verdict on an opening, and the session after it.
-use crate::Phase;
 use crate::Verifier;
 use answers::Answer;
 use layout::message2_length;
 use layout::work_length;
 use leaves::leaf_count;
 use openings::check_opening;
+use verifier_phase::Phase;
 ghost use mathlib.Core.Path.{_≡_};
 ghost use lib.ListN.{length};
 ghost use Rattle.lists.specs.Zeroed.{zeroed};
@@ -13,13 +13,14 @@ ghost use Rattle.shake256.specs.Fips.{SHAKE256};
 ghost use Rattle.exchange.specs.Layout.{workLength};
 ghost use Rattle.exchange.specs.Opening.{verdict};
 ghost use Rattle.coefficients.specs.Coefficients.{keyOf};
-ghost use Rattle.verifier.specs.Session as spec;
-ghost use Rattle.verifier.specs.Session.Laws.{Opened};
+ghost use Rattle.calls.specs.Verifier as spec;
+ghost use Rattle.verifier.specs.Held.{held};
+ghost use Rattle.verifier.specs.Laws.{Opened};
 
 // Checks the opening of the exchange held; the named length of the work area ends as zeros.
 pub fn judge(s: Verifier, message5: &[u8], matrix: &[u8], y: &[u8], work: &mut [u8]) -> Answer
-    requires { ⌜ Opened s (length (now message5)) (length (now matrix)) (length (now y)) (length (now work)) ⌝ }
-    ensures { λ r. ⌜ r ≡ verdict SHAKE256 (s .parameters) (spec.heldExchange s (now (message5 .entry))) (keyOf (now (matrix .entry)) (now (y .entry))) ⌝ }
+    requires { ⌜ Opened (held s) (length (now message5)) (length (now matrix)) (length (now y)) (length (now work)) ⌝ }
+    ensures { λ r. ⌜ r ≡ verdict SHAKE256 (s .parameters) (spec.heldExchange (held s) (now (message5 .entry))) (keyOf (now (matrix .entry)) (now (y .entry))) ⌝ }
     ensures { λ r. ⌜ now (work .exit) ≡ zeroed (workLength (s .parameters)) (now (work .entry)) ⌝ }
 {
     let p = s.parameters;
@@ -50,7 +51,7 @@ pub fn judge(s: Verifier, message5: &[u8], matrix: &[u8], y: &[u8], work: &mut [
 
 // The session closed; it keeps the messages and the leaf.
 pub fn ended(s: Verifier) -> Verifier
-    ensures { λ r. ⌜ r ≡ spec.ended s ⌝ }
+    ensures { λ r. ⌜ held r ≡ spec.ended (held s) ⌝ }
 {
     let parameters = s.parameters;
     let message1 = s.message1;

@@ -14,26 +14,12 @@ use layout::arrays::array32;
 use layout::arrays::array64;
 use layout::arrays::padded64;
 use parameters::Parameters;
+use verifier_phase::Phase;
 ghost use mathlib.Core.Path.{_≡_};
 ghost use Rattle.shake256.specs.Fips.{SHAKE256};
 ghost use Rattle.coefficients.specs.Coefficients.{keyOf};
-ghost use Rattle.verifier.specs.Session as spec;
-
-// Which call is due. Begin is due always.
-pub enum Phase {
-    // before the first begin
-    Fresh,
-    // message 1 is there: points is due
-    Begun,
-    // message 2 was sent: response is due
-    Pointed,
-    // message 3 is there: leaf is due
-    Responded,
-    // message 4 was sent: opening is due
-    Chosen,
-    // an opening was judged: only begin is due
-    Closed,
-}
+ghost use Rattle.calls.specs.Verifier as spec;
+ghost use Rattle.verifier.specs.Held.{held, given, judged};
 
 // A session. Of message 2 the first 8t bytes count.
 pub struct Verifier {
@@ -53,7 +39,7 @@ pub struct Called {
 
 // A session before its first begin.
 pub fn fresh() -> Verifier
-    ensures { λ r. ⌜ r ≡ spec.fresh ⌝ }
+    ensures { λ r. ⌜ held r ≡ spec.fresh ⌝ }
 {
     let parameters = Parameters {
         m: 0,
@@ -75,7 +61,7 @@ pub fn fresh() -> Verifier
 impl Verifier {
     // Begins an exchange with its parameters and message 1; the exchange held is dropped.
     pub fn begin(self, p: Parameters, message1: &[u8]) -> Called
-        ensures { λ r. ⌜ spec.given r ≡ spec.begin self p (now (message1 .entry)) ⌝ }
+        ensures { λ r. ⌜ given r ≡ spec.begin (held self) p (now (message1 .entry)) ⌝ }
     {
         let checked = begin_checks(p, message1);
         let Answer::Done = checked else {
@@ -101,7 +87,7 @@ impl Verifier {
 
     // Takes message 2, which the verifier sends: points and multipliers.
     pub fn points(self, message2: &[u8]) -> Called
-        ensures { λ r. ⌜ spec.given r ≡ spec.points self (now (message2 .entry)) ⌝ }
+        ensures { λ r. ⌜ given r ≡ spec.points (held self) (now (message2 .entry)) ⌝ }
     {
         let checked = points_checks(self, message2);
         let Answer::Done = checked else {
@@ -130,7 +116,7 @@ impl Verifier {
 
     // Takes message 3, the response digest.
     pub fn response(self, message3: &[u8]) -> Called
-        ensures { λ r. ⌜ spec.given r ≡ spec.response self (now (message3 .entry)) ⌝ }
+        ensures { λ r. ⌜ given r ≡ spec.response (held self) (now (message3 .entry)) ⌝ }
     {
         let checked = response_checks(self, message3);
         let Answer::Done = checked else {
@@ -159,7 +145,7 @@ impl Verifier {
 
     // Takes message 4, the leaf that is to stay hidden.
     pub fn leaf(self, leaf: u8) -> Called
-        ensures { λ r. ⌜ spec.given r ≡ spec.leaf self leaf ⌝ }
+        ensures { λ r. ⌜ given r ≡ spec.leaf (held self) leaf ⌝ }
     {
         let checked = leaf_checks(self, leaf);
         let Answer::Done = checked else {
@@ -188,7 +174,7 @@ impl Verifier {
 
     // Judges message 5, which opens all leaves but the hidden one, and closes the exchange with the answer.
     pub fn opening(self, message5: &[u8], matrix: &[u8], y: &[u8], work: &mut [u8]) -> Called
-        ensures { λ r. ⌜ spec.judged r (now (work .exit)) ≡ spec.opening SHAKE256 self (now (message5 .entry)) (keyOf (now (matrix .entry)) (now (y .entry))) (now (work .entry)) ⌝ }
+        ensures { λ r. ⌜ judged r (now (work .exit)) ≡ spec.opening SHAKE256 (held self) (now (message5 .entry)) (keyOf (now (matrix .entry)) (now (y .entry))) (now (work .entry)) ⌝ }
     {
         let checked = opening_checks(self, message5, matrix, y, work);
         let Answer::Done = checked else {

@@ -1,20 +1,19 @@
 -- Each return has the tests that led there.
-use borrow.Author.Tests.{eq-eqb, ne-eqb, le-leb, lt-leb}
-use Rattle.buffer.specs.Buffer.{judges}
+use borrow.Author.Tests.{eq-eqb, ne-eqb}
 use Rattle.buffer.proofs.is_judged.Statement.{statement}
 use Rattle.buffer.proofs.is_judged.Tie as tie
 
 returns : tie.Need-returns
-unfolding judges
 returns c = rw (eq-eqb _ _ (c .if1 .taken))
 
 returns-2 : tie.Need-returns-2
-unfolding judges
-returns-2 c = rw (ne-eqb _ _ (c .before .if1 .left), lt-leb _ _ (c .if2 .taken))
+returns-2 c = rw (ne-eqb _ _ (c .before .if1 .left), eq-eqb _ _ (c .if2 .taken))
 
 returns-3 : tie.Need-returns-3
-unfolding judges
-returns-3 c = rw (ne-eqb _ _ (c .before .if1 .left), le-leb _ _ (c .if2 .left))
+returns-3 c = rw (ne-eqb _ _ (c .before .before .if1 .left), ne-eqb _ _ (c .before .if2 .left), eq-eqb _ _ (c .if3 .taken))
+
+returns-4 : tie.Need-returns-4
+returns-4 c = rw (ne-eqb _ _ (c .before .before .if1 .left), ne-eqb _ _ (c .before .if2 .left), ne-eqb _ _ (c .if3 .left))
 
 pub is-judged-spec : {M : Type 1} → statement M
-is-judged-spec = tie.close (tie.spec returns returns-2 returns-3)
+is-judged-spec = tie.close (tie.spec returns returns-2 returns-3 returns-4)

@@ -2,13 +2,10 @@
 --
 -- extract-given     the number, output and work area
 use mathlib.Core.Path.{_≡_, ap, _∙_}
-use mathlib.Core.List.{List}
 use Prim.Native.Nat.{ℕ}
-use Rattle.findings.specs.declared.Extraction.{Extraction}
-use Rattle.extractor.specs.Call as extractor
-use Rattle.capi.specs.Extract.{extractNumber, given, found, extractAfter}
+use Rattle.calls.specs.Extractor as extractor
+use Rattle.capi.specs.Extract.{extractNumber, given, extractAfter}
 
-pub extract-given : (n : ℕ) (e : Extraction) (out work : List ℕ) (o : extractor.Outcome) → n ≡ extractNumber e → found e out work ≡ o
-    → given n out work ≡ extractAfter o
+pub extract-given : (n : ℕ) (o o′ : extractor.Outcome) → o ≡ o′ → n ≡ extractNumber (o .answer) → given n (o .out) (o .work) ≡ extractAfter o′
 unfolding extractAfter
-extract-given n e out work o is o-is = ap (λ (z : ℕ). given z out work) is ∙ ap extractAfter o-is
+extract-given n o o′ e is = ap (λ (z : ℕ). given z (o .out) (o .work)) is ∙ ap extractAfter e

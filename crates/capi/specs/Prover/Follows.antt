@@ -1,20 +1,20 @@
 -- A session in a buffer goes on as the session that its bytes are does, call by call.
 --
 -- Follows r o                 r answers what o answers and gives what o gives, and its bytes are o's session
--- new-follows                 a fresh session's bytes are one
+-- new-follows, new-size       a fresh session's bytes are one
 -- begin-follows, points-follows, leaf-follows   each call does
-use mathlib.Core.Path.{_≡_, refl, _∙_}
-use mathlib.Core.Bool.{Bool, not}
-use mathlib.Core.List.{List, _∷_}
+use mathlib.Core.Path.{_≡_, refl, ap, _∙_}
+use mathlib.Core.Bool.{not}
+use mathlib.Core.List.{List}
 use Prim.Native.Nat.{ℕ, _-_, _≤_}
 use native.Mathlib.Omega.{arith}
-use lib.Dec.{eqb}
 use lib.ListN.{length, replicate, length-replicate}
 use borrow.Author.Tests.{eqb-true}
 use Rattle.lists.specs.Checks.{allTrue, all-at}
 use Rattle.lists.specs.Part.{putAt}
 use Rattle.lists.specs.Part.Laws.{length-part, length-putAt}
-use Rattle.answers.specs.Number.{answerNumber}
+use Rattle.answers.specs.Number.{refusalNumber}
+use Rattle.answers.specs.Number.Laws.{refused-not-0}
 use Rattle.answers.specs.declared.Answer.{Answer}
 use Rattle.answers.specs.declared.Answer.the-variants.{Done, Refused}
 use Rattle.answers.specs.declared.Refusal.the-variants.{Parameter, Length, NotDue, Closed as ExchangeClosed}
@@ -27,17 +27,17 @@ use Rattle.relation.specs.Key.Vector.{length-vector}
 use Rattle.shake256.specs.Fips.{SHAKE256}
 use Rattle.exchange.specs.Layout.{message2Length}
 use Rattle.exchange.specs.Values.{Key}
-use Rattle.prover.specs.declared.Prover.{Prover}
-use Rattle.prover.specs.Session.{Outcome as Called, fresh, settle, isBegun, closed, pointsDue, begin, beginLengths, beginChecks, begun, points, pointsChecks, answered, leaf, leafChecks, opened, keyLengths}
-use Rattle.stored.specs.Prover.{proverSize, proverFrom}
+use Rattle.calls.specs.Lengths.{beginLengths, pointsLengths}
+use Rattle.calls.specs.Prover.{Prover, Outcome as Called, fresh, settle, closed, pointsDue, begin, beginChecks, begun, points, pointsChecks, answered, leaf, leafChecks, opened}
+use Rattle.prover.specs.Checks.{points-ready}
+use Rattle.stored.specs.Prover.{proverSize, proverBytes, proverFrom}
 use Rattle.stored.specs.Prover.Laws.{ProverLengths, length-proverBytes, prover-back}
 use Rattle.capi.specs.Session.{proverNew}
-use Rattle.buffer.specs.Buffer.Laws.{fits-so}
+use Rattle.buffer.specs.Buffer.Laws.{fits-so, refused-stays}
 use Rattle.capi.specs.Prover.{Outcome, proverAfter, proverCall, proverBegin, proverPoints, proverLeaf}
-use Rattle.capi.specs.Prover.Laws.{holds-within}
 
 pub record Follows (r : Outcome) (o : Called) : Type 0 where
-  pub number : r .number ≡ answerNumber (o .answer)
+  pub number : r .number ≡ o .answer
   pub session : proverFrom (r .session) ≡ o .prover
   pub size : length (r .session) ≡ proverSize
   pub out : r .out ≡ o .out
@@ -65,9 +65,13 @@ module _ (b : List ℕ) (size : length b ≡ proverSize) where
   unfolding fresh
   new-follows = rw (← fits-so b proverSize _ _ size) (prover-back fresh (record { x = refl; salt = refl; root = refl; message2 = refl }))
 
+  pub new-size : length (proverNew b .session) ≡ proverSize
+  unfolding fresh
+  new-size = rw (← fits-so b proverSize _ _ size) (length-proverBytes fresh (record { x = refl; salt = refl; root = refl; message2 = refl }))
+
   -- ---- any call
 
-  settle-follows : (a : Answer) (out work : List ℕ) (done : Called) → done .answer ≡ Done → (a ≡ Done → ProverLengths (done .prover))
+  settle-follows : (a : Answer) (out work : List ℕ) (done : Called) → done .answer ≡ 0 → (a ≡ Done → ProverLengths (done .prover))
       → Follows (proverAfter b (settle a s out work done)) (settle a s out work done)
   unfolding proverAfter
   settle-follows Done out work done d lengths = record {
@@ -77,23 +81,23 @@ module _ (b : List ℕ) (size : length b ≡ proverSize) where
     out = refl;
     work = refl;
   }
-  settle-follows (Refused r) out work done d lengths = record { number = refl; session = refl; size = size; out = refl; work = refl }
+  settle-follows (Refused r) out work done d lengths =
+      let stays = refused-stays (refusalNumber r) b (proverBytes s) (refused-not-0 r) in
+      record { number = refl; session = ap proverFrom stays; size = ap length stays ∙ size; out = refl; work = refl }
 
-  call-follows : (work out : List ℕ) (call : Prover → Called) → Follows (proverAfter b (call s)) (call s) → Follows (proverCall b work out call) (call s)
+  call-follows : (n : ℕ) (work out : List ℕ) (call : Prover → Called) → Follows (proverAfter b (call s)) (call s) → Follows (proverCall b n work out call) (call s)
   unfolding proverCall
-  call-follows work out call h = rw (← fits-so b proverSize (proverAfter b (call s)) _ size) h
+  call-follows n work out call h = rw (← fits-so b proverSize (proverAfter b (call s)) _ size) h
 
   -- ---- begin
 
   module _ (p : Parameters) (xA salt root : List ℕ) (key : Key) (work out : List ℕ) where
-    abbrev beginTests : List Bool
-    beginTests = eqb (length xA) (p .k) ∷ eqb (length salt) 32 ∷ eqb (length root) 16 ∷ eqb (length out) 64 ∷ keyLengths p key work
-
     begun-lengths : beginChecks SHAKE256 s p xA salt root key work out ≡ Done → ProverLengths (begun SHAKE256 s p xA salt root key work out .prover)
-    unfolding beginChecks beginLengths begun
+    unfolding beginChecks begun
     begun-lengths e =
         let within = test-within p (check-true (withinLimits p) Parameter _ e) in
-        let so = all-at beginTests (check-true (allTrue beginTests) Length _ (check-rest (withinLimits p) Parameter _ e)) in
+        let tests = beginLengths p xA salt root key work out in
+        let so = all-at tests (check-true (allTrue tests) Length _ (check-rest (withinLimits p) Parameter _ e)) in
         let k = eqb-true (length xA) (p .k) (so 0) in
         let y = eqb-true (length (key .y)) (p .m - p .k) (so 5) in
         let v = length-vector (key .matrix) (key .y) xA in
@@ -107,33 +111,31 @@ module _ (b : List ℕ) (size : length b ≡ proverSize) where
     pub begin-follows : Follows (proverBegin b p xA salt root key work out) (begin SHAKE256 s p xA salt root key work out)
     unfolding begin begun
     begin-follows =
-        call-follows work out (λ z. begin SHAKE256 z p xA salt root key work out)
+        call-follows _ work out (λ z. begin SHAKE256 z p xA salt root key work out)
         (settle-follows (beginChecks SHAKE256 s p xA salt root key work out) out work (begun SHAKE256 s p xA salt root key work out) refl begun-lengths)
 
   -- ---- points and leaf
 
   module _ (m2 : List ℕ) (key : Key) (work out : List ℕ) where
-    abbrev pointsTests : List Bool
-    pointsTests = eqb (length m2) (message2Length (s .parameters)) ∷ eqb (length out) 32 ∷ keyLengths (s .parameters) key work
-
     answered-lengths : pointsChecks SHAKE256 s m2 key work out ≡ Done → ProverLengths (answered SHAKE256 s m2 key work out .prover)
-    unfolding pointsChecks answered pointsDue
+    unfolding pointsChecks answered
     answered-lengths e =
         let open-still = check-rest (not (closed s)) ExchangeClosed _ e in
-        let within = holds-within s (isBegun (s .phase)) (check-true (pointsDue s) NotDue _ open-still) in
-        let passed = check-true (allTrue pointsTests) Length Done (check-rest (pointsDue s) NotDue _ open-still) in
-        let long = eqb-true (length m2) (message2Length (s .parameters)) (all-at pointsTests passed 0) in
+        let within = points-ready s (check-true (pointsDue s) NotDue _ open-still) .within in
+        let tests = pointsLengths (s .parameters) m2 key work out in
+        let passed = check-true (allTrue tests) Length Done (check-rest (pointsDue s) NotDue _ open-still) in
+        let long = eqb-true (length m2) (message2Length (s .parameters)) (all-at tests passed 0) in
         record { x = read-lengths .x; salt = read-lengths .salt; root = read-lengths .root; message2 = front 64 m2 (omega arith) }
 
     pub points-follows : Follows (proverPoints b m2 key work out) (points SHAKE256 s m2 key work out)
     unfolding points answered
     points-follows =
-        call-follows work out (λ z. points SHAKE256 z m2 key work out)
+        call-follows _ work out (λ z. points SHAKE256 z m2 key work out)
         (settle-follows (pointsChecks SHAKE256 s m2 key work out) out work (answered SHAKE256 s m2 key work out) refl answered-lengths)
 
   pub leaf-follows : (i : ℕ) (key : Key) (work out : List ℕ) → Follows (proverLeaf b i key work out) (leaf SHAKE256 s i key work out)
   unfolding leaf opened
   leaf-follows i key work out =
-      call-follows work out (λ z. leaf SHAKE256 z i key work out)
+      call-follows _ work out (λ z. leaf SHAKE256 z i key work out)
       (settle-follows (leafChecks SHAKE256 s i key work out) out work (opened SHAKE256 s i key work out) refl
       (λ e. record { x = read-lengths .x; salt = read-lengths .salt; root = read-lengths .root; message2 = read-lengths .message2 }))

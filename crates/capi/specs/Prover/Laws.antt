@@ -5,24 +5,22 @@
 -- call-misfit                                a buffer of another length
 -- call-kept                                  the call on a buffer of the length, from what it answered and what was kept
 use mathlib.Core.Path.{_≡_, refl, sym, ap, _∙_}
-use mathlib.Core.Bool.{Bool, true, _&&_, not}
+use mathlib.Core.Bool.{not}
 use mathlib.Core.List.{List}
 use Prim.Native.Nat.{ℕ}
-use lib.Dec.{leb}
 use lib.ListN.{length}
-use Rattle.lists.specs.Checks.{and-left, and-right}
-use Rattle.answers.specs.Number.{answerNumber, refusalNumber}
+use Rattle.answers.specs.Number.{refusalNumber}
+use Rattle.answers.specs.Number.Laws.{refused-not-0}
 use Rattle.answers.specs.declared.Answer.{Answer}
 use Rattle.answers.specs.declared.Answer.the-variants.{Done, Refused}
 use Rattle.answers.specs.declared.Refusal.the-variants.{Parameter, Length, NotDue, Closed as ExchangeClosed}
-use Rattle.answers.specs.Checks.Laws.{Done≢Refused, check-true, check-rest}
+use Rattle.answers.specs.Checks.Laws.{check-true, check-rest}
 use Rattle.parameters.specs.declared.Parameters.{Parameters}
 use Rattle.parameters.specs.Limits.{withinLimits, Within}
 use Rattle.parameters.specs.Limits.Laws.{test-within}
-use Rattle.relation.specs.Key.{weightOf}
 use Rattle.exchange.specs.Values.{Key}
-use Rattle.prover.specs.declared.Prover.{Prover}
-use Rattle.prover.specs.Session.{Outcome as Called, settle, isFresh, isBegun, isAnswered, heldX, holds, closed, pointsDue, leafDue, begin, beginChecks, begun, points, pointsChecks, answered, leaf, leafChecks, opened}
+use Rattle.calls.specs.Prover.{Prover, Outcome as Called, settle, closed, pointsDue, leafDue, begin, beginChecks, begun, points, pointsChecks, answered, leaf, leafChecks, opened}
+use Rattle.prover.specs.Checks.{points-ready, leaf-ready}
 use Rattle.stored.specs.Parameters.{Small, within-small}
 use Rattle.stored.specs.Prover.{proverSize, proverBytes, proverFrom}
 use Rattle.capi.specs.Session.{Kept, kept, after}
@@ -31,59 +29,48 @@ use Rattle.capi.specs.Prover.{given, proverAfter, proverCall}
 
 -- ---- the parameters after a call that was carried out
 
-settle-done : (a : Answer) (s : Prover) (out work : List ℕ) (done : Called) → settle a s out work done .answer ≡ Done → a ≡ Done
-settle-done Done s out work done e = refl
-settle-done (Refused r) s out work done e = absurd (Done≢Refused (sym e))
-
 settled : (a : Answer) (s : Prover) (out work : List ℕ) (done : Called) → (a ≡ Done → Within (done .prover .parameters))
-    → settle a s out work done .answer ≡ Done → Within (settle a s out work done .prover .parameters)
+    → settle a s out work done .answer ≡ 0 → Within (settle a s out work done .prover .parameters)
 settled Done s out work done within e = within refl
-settled (Refused r) s out work done within e = absurd (Done≢Refused (sym e))
-
-pub holds-within : (s : Prover) (b : Bool) → (holds s && b) ≡ true → Within (s .parameters)
-unfolding holds
-holds-within s b e =
-    let light : Bool = leb (weightOf (heldX s)) (s .parameters .w) in
-    let held = and-left (holds s) b e in
-    test-within (s .parameters) (and-left (withinLimits (s .parameters)) light (and-right (not (isFresh (s .phase))) (withinLimits (s .parameters) && light) held))
+settled (Refused r) s out work done within e = absurd (refused-not-0 r e)
 
 module _ (hash : List ℕ → ℕ → List ℕ) (s : Prover) where
-  pub begin-within : (p : Parameters) (xA salt root : List ℕ) (key : Key) (work out : List ℕ) → begin hash s p xA salt root key work out .answer ≡ Done
+  pub begin-within : (p : Parameters) (xA salt root : List ℕ) (key : Key) (work out : List ℕ) → begin hash s p xA salt root key work out .answer ≡ 0
       → Within (begin hash s p xA salt root key work out .prover .parameters)
   unfolding begin beginChecks begun
   begin-within p xA salt root key work out =
       settled (beginChecks hash s p xA salt root key work out) s out work (begun hash s p xA salt root key work out)
       (λ e. test-within p (check-true (withinLimits p) Parameter _ e))
 
-  pub points-within : (m2 : List ℕ) (key : Key) (work out : List ℕ) → points hash s m2 key work out .answer ≡ Done
+  pub points-within : (m2 : List ℕ) (key : Key) (work out : List ℕ) → points hash s m2 key work out .answer ≡ 0
       → Within (points hash s m2 key work out .prover .parameters)
-  unfolding points pointsChecks answered pointsDue
+  unfolding points pointsChecks answered
   points-within m2 key work out =
       settled (pointsChecks hash s m2 key work out) s out work (answered hash s m2 key work out)
-      (λ e. holds-within s (isBegun (s .phase)) (check-true (pointsDue s) NotDue _ (check-rest (not (closed s)) ExchangeClosed _ e)))
+      (λ e. points-ready s (check-true (pointsDue s) NotDue _ (check-rest (not (closed s)) ExchangeClosed _ e)) .within)
 
-  pub leaf-within : (i : ℕ) (key : Key) (work out : List ℕ) → leaf hash s i key work out .answer ≡ Done
+  pub leaf-within : (i : ℕ) (key : Key) (work out : List ℕ) → leaf hash s i key work out .answer ≡ 0
       → Within (leaf hash s i key work out .prover .parameters)
-  unfolding leaf leafChecks opened leafDue
+  unfolding leaf leafChecks opened
   leaf-within i key work out =
       settled (leafChecks hash s i key work out) s out work (opened hash s i key work out)
-      (λ e. holds-within s (isAnswered (s .phase)) (check-true (leafDue s) NotDue _ (check-rest (not (closed s)) ExchangeClosed _ e)))
+      (λ e. leaf-ready s (check-true (leafDue s) NotDue _ (check-rest (not (closed s)) ExchangeClosed _ e)) .within)
 
-pub kept-small : (o o′ : Called) → o ≡ o′ → (o′ .answer ≡ Done → Within (o′ .prover .parameters)) → o .answer ≡ Done → Small (o .prover .parameters)
+pub kept-small : (o o′ : Called) → o ≡ o′ → (o′ .answer ≡ 0 → Within (o′ .prover .parameters)) → o .answer ≡ 0 → Small (o .prover .parameters)
 kept-small o o′ e within done = rw e (within-small _ (within (sym (ap (λ (z : Called). z .answer) e) ∙ done)))
 
 -- ---- a call
 
-module _ (b work out : List ℕ) (call : Prover → Called) where
-  pub call-misfit : (length b ≡ proverSize → ⊥) → given (refusalNumber Length) b out work ≡ proverCall b work out call
+module _ (b : List ℕ) (m : ℕ) (work out : List ℕ) (call : Prover → Called) where
+  pub call-misfit : (n : ℕ) → n ≡ m → (length b ≡ proverSize → ⊥) → given n b out work ≡ proverCall b m work out call
   unfolding proverCall
-  call-misfit h = fits-not b proverSize (proverAfter b (call (proverFrom b))) (given (refusalNumber Length) b out work) h
+  call-misfit n e h = rw e (fits-not b proverSize (proverAfter b (call (proverFrom b))) (given m b out work) h)
 
   pub call-kept : (s : Prover) (o : Called) (n : ℕ) (b′ : List ℕ) → length b ≡ proverSize → s ≡ proverFrom b → o ≡ call s
-      → kept n b′ ≡ kept (answerNumber (o .answer)) (after (o .answer) b (proverBytes (o .prover)))
-      → given n b′ (o .out) (o .work) ≡ proverCall b work out call
+      → kept n b′ ≡ kept (o .answer) (after (o .answer) b (proverBytes (o .prover)))
+      → given n b′ (o .out) (o .work) ≡ proverCall b m work out call
   unfolding proverCall proverAfter
   call-kept s o n b′ e s-is o-is is =
       ap (λ (z : Kept). given (z .number) (z .session) (o .out) (o .work)) is
       ∙ ap (proverAfter b) (o-is ∙ ap call s-is)
-      ∙ fits-so b proverSize (proverAfter b (call (proverFrom b))) (given (refusalNumber Length) b out work) e
+      ∙ fits-so b proverSize (proverAfter b (call (proverFrom b))) (given m b out work) e

@@ -1,55 +1,52 @@
 -- A session in a buffer goes on as the session that its bytes are does, call by call.
 --
 -- Follows r o                 r answers what o answers, and its bytes are o's session
--- new-follows                 a fresh session's bytes are one
+-- new-follows, new-size       a fresh session's bytes are one
 -- begin-follows, points-follows, response-follows, leaf-follows   each call does
 -- FollowsJudged r o, opening-follows   and the opening, with the work area
-use mathlib.Core.Path.{_≡_, refl}
+use mathlib.Core.Path.{_≡_, refl, ap, _∙_}
 use mathlib.Core.Bool.{Bool, true, false, not}
 use mathlib.Core.List.{List}
-use Prim.Native.Nat.{ℕ, _-_}
+use Prim.Native.Nat.{ℕ}
 use native.Mathlib.Omega.{arith}
-use lib.Dec.{eqb}
 use lib.ListN.{length, replicate}
-use borrow.Author.Tests.{eqb-true}
+use Rattle.lists.specs.Checks.{allTrue}
 use Rattle.lists.specs.Part.Laws.{length-part, length-putAt}
 use Rattle.lists.specs.Equal.{eqList}
-use Rattle.answers.specs.Number.{answerNumber}
+use Rattle.answers.specs.Number.{answerNumber, refusalNumber}
+use Rattle.answers.specs.Number.Laws.{refused-not-0}
 use Rattle.answers.specs.declared.Answer.{Answer}
 use Rattle.answers.specs.declared.Answer.the-variants.{Done, Refused}
-use Rattle.answers.specs.declared.Refusal.the-variants.{Parameter, Length, Commitment, Sums, Response, NotDue, Closed as ExchangeClosed}
+use Rattle.answers.specs.declared.Refusal.the-variants.{Length, Commitment, Sums, Response, NotDue, Closed as ExchangeClosed}
 use Rattle.answers.specs.Checks.{check}
-use Rattle.answers.specs.Checks.Laws.{check-true, check-rest}
 use Rattle.parameters.specs.declared.Parameters.{Parameters}
-use Rattle.parameters.specs.Limits.{withinLimits}
 use Rattle.shake256.specs.Fips.{SHAKE256}
-use Rattle.exchange.specs.Layout.{message2Length}
 use Rattle.exchange.specs.Values.{Key}
 use Rattle.exchange.specs.Opening.{Exchange, commitmentString, responseString, sumsAgree, verdict}
-use Rattle.verifier.specs.declared.Phase.the-variants.{Begun, Pointed, Chosen}
-use Rattle.verifier.specs.declared.Verifier.{Verifier}
-use Rattle.verifier.specs.Session.{Outcome as Called, Judged as Opened, fresh, settle, closed, due, heldExchange, begin, beginChecks, begun, points, pointsChecks, pointed, response, responseChecks, responded, leaf, leafChecks, chosen, opening, openingChecks, judge, ended}
-use Rattle.stored.specs.Verifier.{verifierSize, verifierFrom}
+use Rattle.verifier_phase.specs.declared.Phase.the-variants.{Chosen}
+use Rattle.calls.specs.Lengths.{openingLengths}
+use Rattle.verifier.specs.Laws.{begin-passed, points-passed, response-passed}
+use Rattle.calls.specs.Verifier.{Verifier, Outcome as Called, Judged as Opened, fresh, settle, closed, due, heldExchange, begin, beginChecks, begun, points, pointsChecks, pointed, response, responseChecks, responded, leaf, leafChecks, chosen, opening, openingChecks, judge, ended}
+use Rattle.stored.specs.Verifier.{verifierSize, verifierBytes, verifierFrom}
 use Rattle.stored.specs.Verifier.Laws.{VerifierLengths, length-verifierBytes, verifier-back}
 use Rattle.capi.specs.Session.{Kept, verifierNew}
-use Rattle.buffer.specs.Buffer.Laws.{fits-so}
+use Rattle.buffer.specs.Buffer.Laws.{fits-so, refused-stays}
 use Rattle.capi.specs.Verifier.{verifierAfter, verifierCall, verifierBegin, verifierPoints, verifierResponse, verifierLeaf, Judged, judges, openingAfter, verifierOpening}
-use Rattle.capi.specs.Verifier.Laws.{is-due, due-within, rest-done, openingLengths}
 
 pub record Follows (r : Kept) (o : Called) : Type 0 where
-  pub number : r .number ≡ answerNumber (o .answer)
+  pub number : r .number ≡ o .answer
   pub session : verifierFrom (r .session) ≡ o .verifier
   pub size : length (r .session) ≡ verifierSize
 
 pub record FollowsJudged (r : Judged) (o : Opened) : Type 0 where
-  pub number : r .number ≡ answerNumber (o .answer)
+  pub number : r .number ≡ o .answer
   pub session : verifierFrom (r .session) ≡ o .verifier
   pub size : length (r .session) ≡ verifierSize
   pub work : r .work ≡ o .work
 
 -- a verdict is 0, 5, 6 or 7
 verdict-judges : (hash : List ℕ → ℕ → List ℕ) (p : Parameters) (e : Exchange) (key : Key) → judges (answerNumber (verdict hash p e key)) ≡ true
-unfolding verdict judges
+unfolding verdict
 verdict-judges hash p e key = go (eqList (hash (commitmentString hash p e) 32) (e .h)) (sumsAgree hash p e key (p .d)) (eqList (hash (responseString hash p e key) 32) (e .message3))
   where
     go : (x y z : Bool) → judges (answerNumber (check x Commitment (check y Sums (check z Response Done)))) ≡ true
@@ -79,33 +76,40 @@ module _ (b : List ℕ) (size : length b ≡ verifierSize) where
     session = verifier-back next (lengths refl);
     size = length-verifierBytes next (lengths refl);
   }
-  settle-follows (Refused r) next lengths = record { number = refl; session = refl; size = size }
+  settle-follows (Refused r) next lengths =
+      let stays = refused-stays (refusalNumber r) b (verifierBytes s) (refused-not-0 r) in
+      record { number = refl; session = ap verifierFrom stays; size = ap length stays ∙ size }
 
-  call-follows : (call : Verifier → Called) → Follows (verifierAfter b (call s)) (call s) → Follows (verifierCall b call) (call s)
+  call-follows : (n : ℕ) (call : Verifier → Called) → Follows (verifierAfter b (call s)) (call s) → Follows (verifierCall b n call) (call s)
   unfolding verifierCall
-  call-follows call h = rw (← fits-so b verifierSize (verifierAfter b (call s)) _ size) h
+  call-follows n call h = rw (← fits-so b verifierSize (verifierAfter b (call s)) _ size) h
 
   pub new-follows : verifierFrom (verifierNew b .session) ≡ fresh
   unfolding fresh
   new-follows = rw (← fits-so b verifierSize _ _ size) (verifier-back fresh (record { message1 = refl; message2 = refl; message3 = refl }))
 
+  pub new-size : length (verifierNew b .session) ≡ verifierSize
+  unfolding fresh
+  new-size = rw (← fits-so b verifierSize _ _ size) (length-verifierBytes fresh (record { message1 = refl; message2 = refl; message3 = refl }))
+
   -- ---- the calls but the opening
 
   pub begin-follows : (p : Parameters) (m1 : List ℕ) → Follows (verifierBegin b p m1) (begin s p m1)
-  unfolding begin beginChecks begun
+  unfolding begin begun
   begin-follows p m1 =
-      call-follows (λ z. begin z p m1) (settle-follows (beginChecks p m1) (begun p m1) (λ e. record {
-        message1 = eqb-true (length m1) 64 (check-true (eqb (length m1) 64) Length Done (check-rest (withinLimits p) Parameter _ e));
+      call-follows _ (λ z. begin z p m1) (settle-follows (beginChecks p m1) (begun p m1) (λ e. record {
+        message1 = begin-passed p m1 e;
         message2 = refl;
         message3 = refl;
       }))
 
   pub points-follows : (m2 : List ℕ) → Follows (verifierPoints b m2) (points s m2)
-  unfolding points pointsChecks pointed
+  unfolding points pointed
   points-follows m2 =
-      call-follows (λ z. points z m2) (settle-follows (pointsChecks s m2) (pointed s m2) (λ e.
-      let within = due-within s Begun (is-due s Begun _ e) in
-      let long = eqb-true (length m2) (message2Length (s .parameters)) (check-true (eqb (length m2) (message2Length (s .parameters))) Length Done (rest-done s Begun _ e)) in
+      call-follows _ (λ z. points z m2) (settle-follows (pointsChecks s m2) (pointed s m2) (λ e.
+      let passed = points-passed s m2 e in
+      let within = passed .within in
+      let long = passed .size in
       record {
         message1 = read-lengths .message1;
         message2 = length-putAt (replicate 64 0) 0 m2 (omega arith);
@@ -113,18 +117,18 @@ module _ (b : List ℕ) (size : length b ≡ verifierSize) where
       }))
 
   pub response-follows : (m3 : List ℕ) → Follows (verifierResponse b m3) (response s m3)
-  unfolding response responseChecks responded
+  unfolding response responded
   response-follows m3 =
-      call-follows (λ z. response z m3) (settle-follows (responseChecks s m3) (responded s m3) (λ e. record {
+      call-follows _ (λ z. response z m3) (settle-follows (responseChecks s m3) (responded s m3) (λ e. record {
         message1 = read-lengths .message1;
         message2 = read-lengths .message2;
-        message3 = eqb-true (length m3) 32 (check-true (eqb (length m3) 32) Length Done (rest-done s Pointed _ e));
+        message3 = response-passed s m3 e;
       }))
 
   pub leaf-follows : (i : ℕ) → Follows (verifierLeaf b i) (leaf s i)
   unfolding leaf chosen
   leaf-follows i =
-      call-follows (λ z. leaf z i) (settle-follows (leafChecks s i) (chosen s i) (λ e. record {
+      call-follows _ (λ z. leaf z i) (settle-follows (leafChecks s i) (chosen s i) (λ e. record {
         message1 = read-lengths .message1;
         message2 = read-lengths .message2;
         message3 = read-lengths .message3;
@@ -140,7 +144,7 @@ module _ (b : List ℕ) (size : length b ≡ verifierSize) where
     judge-follows : (x y z : Bool)
         → FollowsJudged (openingAfter b (judge SHAKE256 s m5 key work (check x ExchangeClosed (check y NotDue (check z Length Done)))))
         (judge SHAKE256 s m5 key work (check x ExchangeClosed (check y NotDue (check z Length Done))))
-    unfolding judge openingAfter judges
+    unfolding judge openingAfter
     judge-follows true true true =
         let judged = verdict-judges SHAKE256 (s .parameters) (heldExchange s m5) key in
         record {
@@ -157,4 +161,4 @@ module _ (b : List ℕ) (size : length b ≡ verifierSize) where
     unfolding verifierOpening opening openingChecks
     opening-follows =
         rw (← fits-so b verifierSize (openingAfter b (opening SHAKE256 s m5 key work)) _ size)
-        (judge-follows (not (closed s)) (due s Chosen) (openingLengths s m5 key work))
+        (judge-follows (not (closed s)) (due s Chosen) (allTrue (openingLengths (s .parameters) (s .leaf) m5 key work)))

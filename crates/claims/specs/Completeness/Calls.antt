@@ -1,4 +1,4 @@
--- The eight calls one after the other: each gives what the next one needs, and the verdict on the prover's own messages is `Done`.
+-- The eight calls one after the other: each gives what the next one needs, and the verdict on the prover's own messages is 0.
 --
 -- completeness     demand 2's last clause, for every hash whose output has the length asked for
 use mathlib.Core.Path.{_≡_, ap, ap₂, _∙_}
@@ -6,7 +6,7 @@ use mathlib.Core.List.{List}
 use Prim.Native.Nat.{ℕ, _<_}
 use lib.ListN.{length}
 use Rattle.lists.specs.Zeroed.{zeroed}
-use Rattle.answers.specs.declared.Answer.the-variants.{Done}
+use Rattle.answers.specs.Number.{answerNumber}
 use Rattle.parameters.specs.declared.Parameters.{Parameters}
 use Rattle.relation.specs.Key.{vectorOf}
 use Rattle.exchange.specs.Layout.{leaves, message2Length, workLength}
@@ -14,17 +14,22 @@ use Rattle.exchange.specs.Values.{Key}
 use Rattle.exchange.specs.Messages.{message1, message3, message5}
 use Rattle.exchange.specs.Messages.Laws.{length-message1, length-message3, length-message5}
 use Rattle.exchange.specs.Messages.Agreement.{messages-accepted}
-use Rattle.prover.specs.declared.Prover.{Prover}
-use Rattle.prover.specs.Session as prover
-use Rattle.verifier.specs.declared.Verifier.{Verifier}
-use Rattle.verifier.specs.Session as verifier
+use Rattle.calls.specs.Prover as prover
+use Rattle.calls.specs.Prover.{Prover}
+use Rattle.calls.specs.Prover.History.{Call, after, made}
+use Rattle.calls.specs.Verifier as verifier
+use Rattle.calls.specs.Verifier.{Verifier}
 use Rattle.claims.specs.Completeness.{ValidKey, MayStart, Slices, Fitting, LeadsToAcceptance, Complete, proverBegin, verifierBegin, verifierPoints, proverPoints, verifierResponse, verifierLeaf, proverLeaf, verifierOpening}
+use Rattle.claims.specs.Completeness.Reached.{may-start}
 use Rattle.claims.specs.Completeness.Sessions.{secret, begunProver, answeredProver, closedProver, proverBegin-is, proverPoints-is, proverLeaf-is, pointedVerifier, respondedVerifier, chosenVerifier, verifierBegin-is, verifierPoints-is, verifierResponse-is, verifierLeaf-is, verifierOpening-is}
 
 module _ (hash : List ℕ → ℕ → List ℕ) (hash-length : (s : List ℕ) (n : ℕ) → length (hash s n) ≡ n)
-    (p : Parameters) (key : Key) (xA : List ℕ) (valid : ValidKey p key xA) (s : Prover) (v : Verifier) (salt root : List ℕ)
-    (start : MayStart s salt root) (m2 : List ℕ) (size : length m2 ≡ message2Length p) (i : ℕ) (inside : i < leaves p)
+    (p : Parameters) (key : Key) (xA : List ℕ) (valid : ValidKey p key xA) (cs : List Call) (v : Verifier) (salt root : List ℕ)
+    (start : MayStart (made hash cs) salt root) (m2 : List ℕ) (size : length m2 ≡ message2Length p) (i : ℕ) (inside : i < leaves p)
     (lent : Slices) (fit : Fitting p i lent) where
+  abbrev s : Prover
+  s = after hash cs
+
   abbrev x : List ℕ
   x = vectorOf (key .matrix) (key .y) xA
 
@@ -38,50 +43,52 @@ module _ (hash : List ℕ → ℕ → List ℕ) (hash-length : (s : List ℕ) (n
   m5 = message5 hash p x salt root key m2 i
 
   call1 : proverBegin hash p key xA s v salt root m2 i lent
-      ≡ record { answer = Done; prover = begunProver p x salt root; out = m1; work = zeroed (workLength p) (lent .begin-work) }
-  call1 = proverBegin-is hash p key xA valid salt root s start (lent .begin-work) (lent .begin-out) (fit .begin-work) (fit .begin-out)
+      ≡ record { answer = 0; prover = begunProver p x salt root; out = m1; work = zeroed (workLength p) (lent .begin-work) }
+  call1 = proverBegin-is hash p key xA valid salt root s (start .salt-length) (start .root-length) (may-start hash cs salt root start)
+      (lent .begin-work) (lent .begin-out) (fit .begin-work) (fit .begin-out)
 
-  call2 : verifierBegin hash p key xA s v salt root m2 i lent ≡ record { answer = Done; verifier = verifier.begun p m1 }
+  call2 : verifierBegin hash p key xA s v salt root m2 i lent ≡ record { answer = 0; verifier = verifier.begun p m1 }
   call2 =
       ap (λ (o : prover.Outcome). verifier.begin v p (o .out)) call1
       ∙ verifierBegin-is p (valid .within) v m1 (length-message1 hash hash-length p x (secret p key xA valid) salt root (start .salt-length))
 
   call3 : verifierPoints hash p key xA s v salt root m2 i lent
-      ≡ record { answer = Done; verifier = pointedVerifier p m1 m2 }
+      ≡ record { answer = 0; verifier = pointedVerifier p m1 m2 }
   call3 =
       ap (λ (o : verifier.Outcome). verifier.points (o .verifier) m2) call2
       ∙ verifierPoints-is p (valid .within) m1 m2 m3 i size
 
   call4 : proverPoints hash p key xA s v salt root m2 i lent
-      ≡ record { answer = Done; prover = answeredProver p x salt root m2; out = m3; work = zeroed (workLength p) (lent .points-work) }
+      ≡ record { answer = 0; prover = answeredProver p x salt root m2; out = m3; work = zeroed (workLength p) (lent .points-work) }
   call4 =
       ap (λ (o : prover.Outcome). prover.points hash (o .prover) m2 key (lent .points-work) (lent .points-out)) call1
       ∙ proverPoints-is hash p key xA valid salt root m2 size (lent .points-work) (lent .points-out) (fit .points-work) (fit .points-out)
 
   call5 : verifierResponse hash p key xA s v salt root m2 i lent
-      ≡ record { answer = Done; verifier = respondedVerifier p m1 m2 m3 }
+      ≡ record { answer = 0; verifier = respondedVerifier p m1 m2 m3 }
   call5 =
       ap₂ (λ (o : verifier.Outcome) (o′ : prover.Outcome). verifier.response (o .verifier) (o′ .out)) call3 call4
       ∙ verifierResponse-is p (valid .within) m1 m2 m3 i (length-message3 hash hash-length p x (secret p key xA valid) salt root key m2)
 
   call6 : verifierLeaf hash p key xA s v salt root m2 i lent
-      ≡ record { answer = Done; verifier = chosenVerifier p m1 m2 m3 i }
+      ≡ record { answer = 0; verifier = chosenVerifier p m1 m2 m3 i }
   call6 =
       ap (λ (o : verifier.Outcome). verifier.leaf (o .verifier) i) call5
       ∙ verifierLeaf-is p (valid .within) m1 m2 m3 i inside
 
   call7 : proverLeaf hash p key xA s v salt root m2 i lent
-      ≡ record { answer = Done; prover = closedProver p x salt root m2; out = m5; work = zeroed (workLength p) (lent .leaf-work) }
+      ≡ record { answer = 0; prover = closedProver p x salt root m2; out = m5; work = zeroed (workLength p) (lent .leaf-work) }
   call7 =
       ap (λ (o : prover.Outcome). prover.leaf hash (o .prover) i key (lent .leaf-work) (lent .leaf-out)) call4
       ∙ proverLeaf-is hash p key xA valid salt root m2 size (lent .leaf-work) (lent .leaf-out) (fit .leaf-work) i inside (fit .leaf-out)
 
-  call8 : verifierOpening hash p key xA s v salt root m2 i lent .answer ≡ Done
+  call8 : verifierOpening hash p key xA s v salt root m2 i lent .answer ≡ 0
   call8 =
       ap₂ (λ (o : verifier.Outcome) (o′ : prover.Outcome). verifier.opening hash (o .verifier) (o′ .out) key (lent .opening-work) .answer) call6 call7
       ∙ verifierOpening-is p (valid .within) m1 m2 m3 i hash key (valid .lent) m5 (lent .opening-work) size inside
       (length-message5 hash hash-length p x (secret p key xA valid) salt root key m2 i) (fit .opening-work)
-      ∙ messages-accepted hash hash-length p key xA (valid .long) (valid .lent .y) (secret p key xA valid) salt root m2 i inside (start .salt-length)
+      ∙ ap answerNumber
+      (messages-accepted hash hash-length p key xA (valid .long) (valid .lent .y) (secret p key xA valid) salt root m2 i inside (start .salt-length))
 
   leads : LeadsToAcceptance hash p key xA s v salt root m2 i lent
   leads = record {

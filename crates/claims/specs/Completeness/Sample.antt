@@ -1,12 +1,17 @@
--- What demand 2's last clause supposes can be had: document 01's sample key is valid, a session before its first begin may start with
--- every salt and root, and there are slices that fit.
+-- What demand 2's last clause supposes can be had: document 01's sample key is valid, before the first begin an exchange may start with
+-- every salt and root, after a begin with every other salt, and there are slices that fit.
 --
 -- sample, sampleKey, sampleXA   the set, matrix, syndrome and key of document 01's key listing
 -- sample-valid                  they are a valid key
 -- fresh-start                   before the first begin no salt and root is refused
 -- blank, blank-fits             slices of zeros, of the least lengths that fit
-use mathlib.Core.Path.{_≡_, refl, sym}
+-- begunWith salt root           a run of one begin
+-- begun-last                    it is carried out, so it is the last begin
+-- other-start                   after it an exchange may start with every other salt
+-- same-refused                  but not with the same salt and root
+use mathlib.Core.Path.{_≡_, refl, sym, ap, _∙_}
 use mathlib.Core.List.{List, [], _∷_}
+use mathlib.Core.Option.{some, Option·none-ne-some, Option·some-injective}
 use Prim.Native.Nat.{ℕ}
 use native.Mathlib.Nat.{le-of-eq}
 use lib.Dec.{lit<}
@@ -20,8 +25,11 @@ use Rattle.parameters.specs.Limits.Laws.{test-within}
 use Rattle.relation.specs.Key.{dot, rows, vectorOf, weightOf}
 use Rattle.exchange.specs.Layout.{message5Length, workLength}
 use Rattle.exchange.specs.Values.{Key}
-use Rattle.prover.specs.Session.{fresh, holds, repeated}
+use Rattle.calls.specs.Prover.{Outcome}
+use Rattle.calls.specs.Prover.History.{Begin, Call, beginCall, outcome, after, made, begun, lastBegin}
 use Rattle.claims.specs.Completeness.{ValidKey, MayStart, Slices, Fitting}
+use Rattle.claims.specs.Completeness.Reached.{may-start}
+use Rattle.claims.specs.Completeness.Sessions.{proverBegin-is}
 
 abbrev pub sample : Parameters
 sample = record { m = 2; k = 1; w = 1; d = 1; t = 1 }
@@ -50,9 +58,9 @@ sample-valid = record {
   bytes-xA = (lit< tt, tt);
 }
 
-pub fresh-start : (salt root : List ℕ) → length salt ≡ 32 → length root ≡ 16 → MayStart fresh salt root
-unfolding fresh holds repeated
-fresh-start salt root h k = record { salt-length = h; root-length = k; not-repeated = refl }
+pub fresh-start : (salt root : List ℕ) → length salt ≡ 32 → length root ≡ 16 → MayStart [] salt root
+unfolding lastBegin
+fresh-start salt root h k = record { salt-length = h; root-length = k; not-repeated = λ b e r. Option·none-ne-some b e }
 
 abbrev pub blank : Parameters → ℕ → Slices
 blank p i = record {
@@ -78,3 +86,35 @@ blank-fits p i = record {
   where
     zeros : (n : ℕ) → length {A = ℕ} (replicate n 0) ≡ n
     zeros n = length-replicate n 0
+
+-- ---- after a begin
+
+module _ (salt root : List ℕ) where
+  abbrev pub sampleBegin : Begin
+  sampleBegin = record { parameters = sample; xA = sampleXA; salt = salt; root = root; key = sampleKey }
+
+  abbrev pub begunWith : List Call
+  begunWith = beginCall sampleBegin (blank sample 0 .begin-work) (blank sample 0 .begin-out) ∷ []
+
+module _ (hash : List ℕ → ℕ → List ℕ) (salt root : List ℕ) (salt-length : length salt ≡ 32) (root-length : length root ≡ 16) where
+  carried-out : outcome hash (after hash []) (beginCall (sampleBegin salt root) (blank sample 0 .begin-work) (blank sample 0 .begin-out)) .answer ≡ 0
+  unfolding outcome
+  carried-out =
+      ap (λ (o : Outcome). o .answer)
+      (proverBegin-is hash sample sampleKey sampleXA sample-valid salt root (after hash []) salt-length root-length
+      (may-start hash [] salt root (unfold made in fresh-start salt root salt-length root-length))
+      (blank sample 0 .begin-work) (blank sample 0 .begin-out) (blank-fits sample 0 .begin-work) (blank-fits sample 0 .begin-out))
+
+  pub begun-last : lastBegin (made hash (begunWith salt root)) ≡ some (sampleBegin salt root)
+  unfolding made lastBegin begun
+  begun-last = rw carried-out
+
+  pub other-start : (salt′ root′ : List ℕ) → length salt′ ≡ 32 → length root′ ≡ 16 → (salt′ ≡ salt → ⊥) → MayStart (made hash (begunWith salt root)) salt′ root′
+  other-start salt′ root′ h k n = record {
+    salt-length = h;
+    root-length = k;
+    not-repeated = λ b e r. n (r .0 ∙ ap (λ (b : Begin). b .salt) (Option·some-injective _ _ (sym e ∙ begun-last)));
+  }
+
+  pub same-refused : MayStart (made hash (begunWith salt root)) salt root → ⊥
+  same-refused start = start .not-repeated (sampleBegin salt root) begun-last (refl, refl)

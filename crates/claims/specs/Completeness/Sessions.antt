@@ -4,7 +4,7 @@
 -- secret                          x of a valid key
 -- keyLengths-pass                 matrix, y and work area have lengths that no call refuses
 -- begunProver, answeredProver, closedProver   the prover's session after begin, points and leaf
--- held-holds                      it holds an exchange
+-- held-stands                     its phase counts
 -- proverBegin-is, proverPoints-is, proverLeaf-is   what its calls give
 -- pointedVerifier, respondedVerifier, chosenVerifier   the verifier's session after points, response and leaf
 -- due-passes                      the checks of a verifier's call that is due: 12 and 11 are past
@@ -24,6 +24,7 @@ use Rattle.lists.specs.Zeroed.{zeroed}
 use Rattle.answers.specs.declared.Answer.the-variants.{Done}
 use Rattle.answers.specs.declared.Refusal.{Refusal}
 use Rattle.answers.specs.declared.Refusal.the-variants.{Length, Leaf}
+use Rattle.answers.specs.Number.{answerNumber}
 use Rattle.answers.specs.Checks.{checks}
 use Rattle.parameters.specs.declared.Parameters.{Parameters}
 use Rattle.parameters.specs.Limits.{Within}
@@ -38,15 +39,16 @@ use Rattle.exchange.specs.Messages.Laws.{Secret}
 use Rattle.exchange.specs.Opening.{exchange, verdict}
 use Rattle.prover_phase.specs.declared.Phase.{Phase}
 use Rattle.prover_phase.specs.declared.Phase.the-variants.{Begun, Answered, Closed}
-use Rattle.prover.specs.declared.Prover.{Prover}
-use Rattle.prover.specs.Session as prover
-use Rattle.verifier.specs.declared.Phase.{Phase as VerifierPhase}
-use Rattle.verifier.specs.declared.Phase.the-variants as phase
-use Rattle.verifier.specs.declared.Verifier.{Verifier}
-use Rattle.verifier.specs.Session as verifier
+use Rattle.verifier_phase.specs.declared.Phase.{Phase as VerifierPhase}
+use Rattle.verifier_phase.specs.declared.Phase.the-variants as phase
+use Rattle.calls.specs.Lengths.{keyLengths, openingLengths}
+use Rattle.calls.specs.Prover as prover
+use Rattle.calls.specs.Prover.{Prover}
+use Rattle.calls.specs.Verifier as verifier
+use Rattle.calls.specs.Verifier.{Verifier}
 use Rattle.claims.specs.Words.{Lent}
 use Rattle.claims.specs.Verifier.{opening-closes}
-use Rattle.claims.specs.Completeness.{ValidKey, MayStart}
+use Rattle.claims.specs.Completeness.{ValidKey}
 
 pub held-front : (n : ℕ) (d s : List ℕ) → length s ≡ n → take n (putAt d 0 s) ≡ s
 unfolding putAt
@@ -66,7 +68,7 @@ module _ (p : Parameters) (key : Key) (xA : List ℕ) (valid : ValidKey p key xA
   }
 
 keyLengths-pass : (p : Parameters) (key : Key) → Lent p key → (work : List ℕ) → workLength p ≤ length work
-    → allTrue (prover.keyLengths p key work) ≡ true
+    → allTrue (keyLengths p key work) ≡ true
 keyLengths-pass p key lent work h = rw (eq-eqb _ _ (lent .matrix), eq-eqb _ _ (lent .y), le-leb _ _ h)
 
 -- ---- the prover's calls
@@ -88,37 +90,37 @@ module _ (hash : List ℕ → ℕ → List ℕ) (p : Parameters) (key : Key) (xA
   abbrev x : List ℕ
   x = vectorOf (key .matrix) (key .y) xA
 
-  pub proverBegin-is : (s : Prover) → MayStart s salt root → (work out : List ℕ) → workLength p ≤ length work → length out ≡ 64
+  pub proverBegin-is : (s : Prover) → length salt ≡ 32 → length root ≡ 16 → prover.repeated s salt root ≡ false → (work out : List ℕ) → workLength p ≤ length work → length out ≡ 64
       → prover.begin hash s p xA salt root key work out
-      ≡ record { answer = Done; prover = begunProver p x salt root; out = message1 hash p x salt root; work = zeroed (workLength p) work }
-  unfolding prover.begin prover.beginChecks prover.beginLengths prover.begun
-  proverBegin-is s start work out hw ho =
+      ≡ record { answer = 0; prover = begunProver p x salt root; out = message1 hash p x salt root; work = zeroed (workLength p) work }
+  unfolding prover.begin prover.beginChecks prover.begun
+  proverBegin-is s salt-length root-length not-repeated work out hw ho =
       rw (
         within-test p (valid .within),
         eq-eqb (length xA) (p .k) (valid .long),
-        eq-eqb (length salt) 32 (start .salt-length),
-        eq-eqb (length root) 16 (start .root-length),
+        eq-eqb (length salt) 32 salt-length,
+        eq-eqb (length root) 16 root-length,
         eq-eqb (length out) 64 ho,
         keyLengths-pass p key (valid .lent) work hw,
         le-leb (weightOf x) (p .w) (valid .light),
-        start .not-repeated,
+        not-repeated,
       )
 
   heldX-is : take (p .m) (prover.padded 255 x) ≡ x
   heldX-is = held-front (p .m) (replicate 255 0) x (secret p key xA valid .long)
 
-  held-holds : (phase : Phase) (m2 : List ℕ) → prover.isFresh phase ≡ false → prover.holds (heldProver p x salt root phase m2) ≡ true
-  unfolding prover.holds prover.heldX
-  held-holds phase m2 e = rw (e, heldX-is, within-test p (valid .within), le-leb (weightOf x) (p .w) (valid .light))
+  held-stands : (phase : Phase) (m2 : List ℕ) → prover.isFresh phase ≡ false → prover.standing (heldProver p x salt root phase m2) ≡ phase
+  unfolding prover.standing prover.intact prover.heldX
+  held-stands phase m2 e = rw (e, heldX-is, within-test p (valid .within), le-leb (weightOf x) (p .w) (valid .light))
 
   module _ (m2 : List ℕ) (size : length m2 ≡ message2Length p) (work out : List ℕ) (hw : workLength p ≤ length work) where
     pub proverPoints-is : length out ≡ 32
         → prover.points hash (begunProver p x salt root) m2 key work out
-        ≡ record { answer = Done; prover = answeredProver p x salt root m2; out = message3 hash p x salt root key m2; work = zeroed (workLength p) work }
+        ≡ record { answer = 0; prover = answeredProver p x salt root m2; out = message3 hash p x salt root key m2; work = zeroed (workLength p) work }
     unfolding prover.points prover.pointsChecks prover.closed prover.pointsDue prover.answered prover.heldX
     proverPoints-is ho =
         rw (
-          held-holds Begun (replicate 64 0) refl,
+          held-stands Begun (replicate 64 0) refl,
           eq-eqb (length m2) (message2Length p) size,
           eq-eqb (length out) 32 ho,
           keyLengths-pass p key (valid .lent) work hw,
@@ -127,11 +129,11 @@ module _ (hash : List ℕ → ℕ → List ℕ) (p : Parameters) (key : Key) (xA
 
     pub proverLeaf-is : (i : ℕ) → i < leaves p → length out ≡ message5Length p i
         → prover.leaf hash (answeredProver p x salt root m2) i key work out
-        ≡ record { answer = Done; prover = closedProver p x salt root m2; out = message5 hash p x salt root key m2 i; work = zeroed (workLength p) work }
+        ≡ record { answer = 0; prover = closedProver p x salt root m2; out = message5 hash p x salt root key m2 i; work = zeroed (workLength p) work }
     unfolding prover.leaf prover.leafChecks prover.closed prover.leafDue prover.opened prover.heldX prover.heldMessage2
     proverLeaf-is i inside ho =
         rw (
-          held-holds Answered (prover.padded 64 m2) refl,
+          held-stands Answered (prover.padded 64 m2) refl,
           eq-eqb (length out) (message5Length p i) ho,
           keyLengths-pass p key (valid .lent) work hw,
           lt-ltb i (leaves p) inside,
@@ -155,27 +157,27 @@ module _ (p : Parameters) (m1 m2 : List ℕ) where
 due-passes : (s : Verifier) (here : VerifierPhase) (cs : List (Bool × Refusal)) → Within (s .parameters) → s .leaf < leaves (s .parameters)
     → eqb (verifier.step (s .phase)) 0 ≡ false → eqb (verifier.step (s .phase)) 5 ≡ false
     → eqb (verifier.step (s .phase)) (verifier.step here) ≡ true → verifier.afterBegin s here cs ≡ checks cs
-unfolding verifier.closed verifier.due verifier.holds
+unfolding verifier.closed verifier.due verifier.standing verifier.intact
 due-passes s here cs within inside not-fresh not-closed is-due =
-    rw (within-test (s .parameters) within, lt-ltb _ _ inside, is-due, not-fresh, not-closed)
+    rw (within-test (s .parameters) within, lt-ltb _ _ inside, not-fresh, not-closed, is-due)
 
 module _ (p : Parameters) (within : Within p) where
-  pub verifierBegin-is : (v : Verifier) (m1 : List ℕ) → length m1 ≡ 64 → verifier.begin v p m1 ≡ record { answer = Done; verifier = verifier.begun p m1 }
+  pub verifierBegin-is : (v : Verifier) (m1 : List ℕ) → length m1 ≡ 64 → verifier.begin v p m1 ≡ record { answer = 0; verifier = verifier.begun p m1 }
   unfolding verifier.begin verifier.beginChecks
   verifierBegin-is v m1 e = rw (within-test p within, eq-eqb (length m1) 64 e)
 
   module _ (m1 m2 m3 : List ℕ) (i : ℕ) where
-    pub verifierPoints-is : length m2 ≡ message2Length p → verifier.points (verifier.begun p m1) m2 ≡ record { answer = Done; verifier = pointedVerifier p m1 m2 }
+    pub verifierPoints-is : length m2 ≡ message2Length p → verifier.points (verifier.begun p m1) m2 ≡ record { answer = 0; verifier = pointedVerifier p m1 m2 }
     unfolding verifier.points verifier.pointsChecks verifier.begun
     verifierPoints-is e =
         rw (due-passes (verifier.begun p m1) phase.Begun ((eqb (length m2) (message2Length p), Length) ∷ []) within (leaves-pos p) refl refl refl, eq-eqb _ _ e)
 
-    pub verifierResponse-is : length m3 ≡ 32 → verifier.response (pointedVerifier p m1 m2) m3 ≡ record { answer = Done; verifier = respondedVerifier p m1 m2 m3 }
+    pub verifierResponse-is : length m3 ≡ 32 → verifier.response (pointedVerifier p m1 m2) m3 ≡ record { answer = 0; verifier = respondedVerifier p m1 m2 m3 }
     unfolding verifier.response verifier.responseChecks verifier.begun verifier.pointed
     verifierResponse-is e =
         rw (due-passes (pointedVerifier p m1 m2) phase.Pointed ((eqb (length m3) 32, Length) ∷ []) within (leaves-pos p) refl refl refl, eq-eqb _ _ e)
 
-    pub verifierLeaf-is : i < leaves p → verifier.leaf (respondedVerifier p m1 m2 m3) i ≡ record { answer = Done; verifier = chosenVerifier p m1 m2 m3 i }
+    pub verifierLeaf-is : i < leaves p → verifier.leaf (respondedVerifier p m1 m2 m3) i ≡ record { answer = 0; verifier = chosenVerifier p m1 m2 m3 i }
     unfolding verifier.leaf verifier.leafChecks verifier.begun verifier.pointed verifier.responded
     verifierLeaf-is h =
         rw (due-passes (respondedVerifier p m1 m2 m3) phase.Responded ((ltb i (leaves p), Leaf) ∷ []) within (leaves-pos p) refl refl refl, lt-ltb _ _ h)
@@ -185,13 +187,13 @@ module _ (p : Parameters) (within : Within p) where
           → verifier.openingChecks hash (chosenVerifier p m1 m2 m3 i) m5 key work ≡ Done
       unfolding verifier.openingChecks verifier.begun verifier.pointed verifier.responded verifier.chosen
       opening-passes h e hw =
-          due-passes (chosenVerifier p m1 m2 m3 i) phase.Chosen ((allTrue (eqb (length m5) (message5Length p i) ∷ prover.keyLengths p key work), Length) ∷ [])
+          due-passes (chosenVerifier p m1 m2 m3 i) phase.Chosen ((allTrue (openingLengths p i m5 key work), Length) ∷ [])
           within h refl refl refl
           ∙ rw (eq-eqb _ _ e, keyLengths-pass p key lent work hw)
 
       pub verifierOpening-is : length m2 ≡ message2Length p → i < leaves p → length m5 ≡ message5Length p i → workLength p ≤ length work
-          → verifier.opening hash (chosenVerifier p m1 m2 m3 i) m5 key work .answer ≡ verdict hash p (exchange m1 m2 m3 i m5) key
+          → verifier.opening hash (chosenVerifier p m1 m2 m3 i) m5 key work .answer ≡ answerNumber (verdict hash p (exchange m1 m2 m3 i m5) key)
       unfolding verifier.heldExchange verifier.begun verifier.pointed verifier.responded verifier.chosen
       verifierOpening-is size h e hw =
           ap (λ (o : verifier.Judged). o .answer) (opening-closes hash (chosenVerifier p m1 m2 m3 i) m5 key work (opening-passes h e hw))
-          ∙ ap (λ (m2 : List ℕ). verdict hash p (exchange m1 m2 m3 i m5) key) (held-front (message2Length p) (replicate 64 0) m2 size)
+          ∙ ap (λ (m2 : List ℕ). answerNumber (verdict hash p (exchange m1 m2 m3 i m5) key)) (held-front (message2Length p) (replicate 64 0) m2 size)

@@ -29,8 +29,8 @@ use Rattle.exchange.specs.Layout.{leaves}
 use Rattle.exchange.specs.Sequences.{listed, those}
 use Rattle.exchange.specs.Sequences.Laws.{mem-listed, listed-mem, mem-those, those-mem, those-none, none-those, those-first}
 use Rattle.exchange.specs.Values.{Key}
-use Rattle.exchange.specs.Opening.{Exchange, leafString, leafCommitment, commitmentString, responseString}
-use Rattle.exchange.specs.Opening.Laws.{Accepted, commitment-disclosed}
+use Rattle.exchange.specs.Opening.{Exchange, leafString, leafCommitment, commitmentString, responseString, Accepted}
+use Rattle.exchange.specs.Opening.Laws.{commitment-disclosed}
 use Rattle.exchange.specs.Extractor.{openedInBoth, compared, stringAt, unequalAt}
 use Rattle.claims.specs.Words.{At, here, later, Clash}
 use Rattle.claims.specs.Extraction.Strings.{axisStringOf, commitments-same, digests-same}

@@ -12,7 +12,6 @@ use native.Mathlib.Omega.{arith}
 use borrow.Author.Tests.{eq-eqb, ne-eqb, le-leb, lt-ltb}
 use lib.ListN.{length, take, drop}
 use Rattle.lists.specs.Equal.Laws.{eqList-of}
-use Rattle.answers.specs.declared.Refusal.{Refusal}
 use Rattle.answers.specs.declared.Answer.the-variants.{Done}
 use Rattle.parameters.specs.declared.Parameters.{Parameters}
 use Rattle.parameters.specs.Limits.Laws.{within-test}
@@ -25,9 +24,7 @@ use Rattle.exchange.specs.Values.{Key}
 use Rattle.exchange.specs.Opening.{Exchange, exchange, auxOf, openedState, leafString, leafCommitment}
 use Rattle.exchange.specs.Opening.Laws.{accepted-when, commitment-disclosed}
 use Rattle.exchange.specs.Extractor.{axis, output, unequalAt, finding, extract}
-use Rattle.findings.specs.declared.Extraction.{Extraction}
-use Rattle.findings.specs.declared.Extraction.the-variants.{Refused, Unequal, Extracted}
-use Rattle.extractor.specs.Call.{Transcript, exchangeOf, Outcome, extractLengths, sameStatement, earlyChecks, found, second, first, early, extraction}
+use Rattle.calls.specs.Extractor.{Transcript, exchangeOf, Answer, refused, pair, filled, Outcome, extractLengths, sameStatement, earlyChecks, found, second, first, early, extraction}
 use Rattle.claims.specs.Words.{Comparable, States, leafState, auxState}
 use Rattle.claims.specs.Extraction.{Extracts}
 use Rattle.claims.specs.Extraction.Strings.{SameAux, string4-ext}
@@ -157,25 +154,25 @@ module _ (hash : List ℕ → ℕ → List ℕ) (p : Parameters) (key : Key) (t 
         )
 
     answer-unequal : (a : ℕ × ℕ) (rest : List (ℕ × ℕ)) → unequalAt hash p key (exchangeOf t) (exchangeOf t′) ≡ a ∷ rest
-        → (extraction hash p t t′ key work out .answer ≡ Unequal (a .0) (a .1)) × (extraction hash p t t′ key work out .out ≡ out)
+        → (extraction hash p t t′ key work out .answer ≡ pair (a .0) (a .1)) × (extraction hash p t t′ key work out .out ≡ out)
     unfolding found finding
     answer-unequal a rest q = (ap (λ (o : Outcome). o .answer) (call-is (a ∷ rest) q), ap (λ (o : Outcome). o .out) (call-is (a ∷ rest) q))
 
     answer-states : unequalAt hash p key (exchangeOf t) (exchangeOf t′) ≡ []
-        → (extraction hash p t t′ key work out .answer ≡ Extracted (axis p (exchangeOf t) (exchangeOf t′)))
+        → (extraction hash p t t′ key work out .answer ≡ filled (axis p (exchangeOf t) (exchangeOf t′)))
         × (extraction hash p t t′ key work out .out ≡ output hash p (exchangeOf t) (exchangeOf t′))
     unfolding found finding
     answer-states q = (ap (λ (o : Outcome). o .answer) (call-is [] q), ap (λ (o : Outcome). o .out) (call-is [] q))
 
 -- ---- the claim
 
-never-both : {a : Extraction} {layer number j : ℕ} → a ≡ Unequal layer number → a ≡ Extracted j → ⊥
+never-both : {a : Answer} {layer number j : ℕ} → a ≡ pair layer number → a ≡ filled j → ⊥
 never-both e q = let z : _≡_ {A = ℕ} 0 1 = cc in omega arith
 
-not-refused : {a : Extraction} {r : Refusal} {layer number : ℕ} → a ≡ Unequal layer number → a ≡ Refused r → ⊥
+not-refused : {a : Answer} {n : ℕ} {layer number : ℕ} → a ≡ pair layer number → a ≡ refused n → ⊥
 not-refused e q = let z : _≡_ {A = ℕ} 0 1 = cc in omega arith
 
-not-refused′ : {a : Extraction} {r : Refusal} {j : ℕ} → a ≡ Extracted j → a ≡ Refused r → ⊥
+not-refused′ : {a : Answer} {n : ℕ} {j : ℕ} → a ≡ filled j → a ≡ refused n → ⊥
 not-refused′ e q = let z : _≡_ {A = ℕ} 0 1 = cc in omega arith
 
 pub extracts : (hash : List ℕ → ℕ → List ℕ) → ((s : List ℕ) (n : ℕ) → length (hash s n) ≡ n)
@@ -191,7 +188,7 @@ extracts hash hash-length p key t t′ work out c wl ol = go (unequalAt hash p k
         let given = answer-states hash p key t t′ c work out wl ol q in
         let all-equal = none-then hash hash-length p key (exchangeOf t) (exchangeOf t′) matched q in
         record {
-          never-refused = λ r z. not-refused′ (given .0) z;
+          never-refused = λ n z. not-refused′ (given .0) z;
           named = λ layer number z. absurd (never-both z (given .0));
           names = λ layer number m n. absurd (n (unfold Equal in all-equal (layer, number) (at-member m)));
           otherwise = λ h. (
@@ -204,7 +201,7 @@ extracts hash hash-length p key t t′ work out c wl ol = go (unequalAt hash p k
         let given = answer-unequal hash p key t t′ c work out wl ol a rest q in
         let found = clash hash hash-length p key (exchangeOf t) (exchangeOf t′) matched (c .accepted) (c .accepted′) same-h same-message3 a rest q in
         record {
-          never-refused = λ r z. not-refused (given .0) z;
+          never-refused = λ n z. not-refused (given .0) z;
           named = λ layer number z.
               let l : a .0 ≡ layer = cc (given .0) in
               let n : a .1 ≡ number = cc (given .0) in

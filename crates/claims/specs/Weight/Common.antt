@@ -7,7 +7,8 @@
 -- same-leaf               what two openings of the list disclose of a leaf is the same
 -- pair-equal              no two strings that the extractor compares are unequal, in any pair of the list
 -- pair-given              so it gives every leaf's state, in any pair
--- one-share               the share of a leaf is the same in all pairs
+-- pairShares              the shares that follow from what the extractor wrote for a pair
+-- one-share               the share of a leaf is the same in all pairs, each call with its own work area and output
 use mathlib.Core.Path.{_≡_, refl, sym, ap, _∙_}
 use mathlib.Core.Bool.{Bool, true, false}
 use mathlib.Core.List.{List}
@@ -25,8 +26,7 @@ use Rattle.exchange.specs.Values.{Key}
 use Rattle.exchange.specs.Opening.{Exchange, exchange, auxOf, openedState, leafString, commitmentString}
 use Rattle.exchange.specs.Opening.Laws.{commitment-disclosed}
 use Rattle.exchange.specs.Extractor.{axis, stringAt}
-use Rattle.findings.specs.declared.Extraction.the-variants.{Extracted}
-use Rattle.extractor.specs.Call.{exchangeOf, extraction}
+use Rattle.calls.specs.Extractor.{exchangeOf, filled, extraction}
 use Rattle.claims.specs.Words.{States, leafState, auxState, leafShare}
 use Rattle.claims.specs.Extraction.Strings.{SameAux, share-ext, leaf-same, commitments-same}
 use Rattle.claims.specs.Extraction.Leaves.{Matched}
@@ -161,7 +161,7 @@ module _ (hash : List ℕ → ℕ → List ℕ) (hash-length : (s : List ℕ) (n
       abbrev written : List ℕ
       written = extraction hash p (q .one) (q .other) key work out .out
 
-      pub pair-given : (extraction hash p (q .one) (q .other) key work out .answer ≡ Extracted (axis p e e′)) × States hash p key e e′ written
+      pub pair-given : (extraction hash p (q .one) (q .other) key work out .answer ≡ filled (axis p e e′)) × States hash p key e e′ written
       pair-given =
           extracts hash hash-length p key (q .one) (q .other) work out (good i .comparable) work-length out-length .otherwise
           (λ layer number m. unfold Equal in pair-equal (layer, number) (is-place p e e′ (layer, number) (at-member m)))
@@ -197,18 +197,19 @@ module _ (hash : List ℕ → ℕ → List ℕ) (hash-length : (s : List ℕ) (n
 
   -- ---- all pairs
 
-  module _ (work out : List ℕ) (work-length : workLength p ≤ length work) (out-length : length out ≡ outputLength p) where
-    -- the shares that follow from what the extractor wrote for a pair
-    unfoldable pub pairShares : Pair → ℕ → List ℕ
-    pairShares q = leafShare hash p (exchangeOf (q .one) .prefix) (extraction hash p (q .one) (q .other) key work out .out)
+  unfoldable pub pairShares : Pair → List ℕ → List ℕ → ℕ → List ℕ
+  pairShares q work out = leafShare hash p (exchangeOf (q .one) .prefix) (extraction hash p (q .one) (q .other) key work out .out)
 
-    pub one-share : {q q′ : Pair} → In q qs → In q′ qs → (j : ℕ) → j < leaves p → pairShares q j ≡ pairShares q′ j
+  module _ (work out : List ℕ) (work-length : workLength p ≤ length work) (out-length : length out ≡ outputLength p)
+      (work′ out′ : List ℕ) (work-length′ : workLength p ≤ length work′) (out-length′ : length out′ ≡ outputLength p) where
+    pub one-share : {q q′ : Pair} → In q qs → In q′ qs → (j : ℕ) → j < leaves p → pairShares q work out j ≡ pairShares q′ work′ out′ j
     unfolding pairShares leafShare
     one-share {q} {q′} i i′ j l =
         let d = disclosed i work out work-length out-length j l in
-        let d′ = disclosed i′ work out work-length out-length j l in
+        let d′ = disclosed i′ work′ out′ work-length′ out-length′ j l in
         let s = same-leaf (d .listed) (d′ .listed) j l (d .not-hidden) (d′ .not-hidden) in
         share-ext p (exchangeOf (q .one) .prefix) j _ _ _ _ hash (d .state-is ∙ s .0 ∙ sym (d′ .state-is))
         (λ t. d .aux-is t ∙ s .1 t ∙ sym (d′ .aux-is t))
-        ∙ ap (λ (pre : List ℕ). share hash p pre j (leafState (written i′ work out work-length out-length) j) (auxState p (written i′ work out work-length out-length)))
+        ∙ ap (λ (pre : List ℕ). share hash p pre j (leafState (written i′ work′ out′ work-length′ out-length′) j)
+        (auxState p (written i′ work′ out′ work-length′ out-length′)))
         (same-prefix (listed-one i) (listed-one i′))

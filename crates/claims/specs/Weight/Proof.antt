@@ -6,9 +6,10 @@
 use mathlib.Core.Path.{_≡_, sym, _∙_}
 use mathlib.Core.List.{List, [], _∷_}
 use Prim.Native.Nat.{ℕ, _+_, _-_, _*_, _≤_, _<_}
+use native.Mathlib.Nat.{le-of-eq}
 use native.Mathlib.Decide.{ℕ-discrete}
 use native.Mathlib.Omega.{arith}
-use lib.ListN.{length}
+use lib.ListN.{length, replicate, length-replicate}
 use Rattle.algebra.specs.Each.{Each, each-map, Distinct}
 use Rattle.tower.specs.Field.{Point}
 use Rattle.parameters.specs.declared.Parameters.{Parameters}
@@ -24,10 +25,10 @@ use Rattle.exchange.specs.Leaf.Laws.{bytes-share}
 use Rattle.exchange.specs.Values.{Key, POf, pointOf, multiplierOf, F}
 use Rattle.exchange.specs.Values.Laws.{length-POf}
 use Rattle.exchange.specs.Opening.{exchange, auxOf}
-use Rattle.extractor.specs.Call.{Transcript, exchangeOf, extraction}
+use Rattle.calls.specs.Extractor.{Transcript, exchangeOf, extraction}
 use Rattle.claims.specs.Words.{leafState, auxState, leafShare, summed, Witness, States, xSum, QSum, PSum, aSum, bSum, cSum}
 use Rattle.claims.specs.Extraction.Sums.{length-summed, length-xSum, bytes-xSum, xSum-ext, QSum-ext, PSum-ext, aSum-ext, bSum-ext, cSum-ext}
-use Rattle.claims.specs.Weight.{Pair, lowBytes, InBytes, In, openings, Meets, MeetsTwice, Under, Free, Meeting, xOfPair, OneX, OneLightX}
+use Rattle.claims.specs.Weight.{Pair, lowBytes, InBytes, In, openings, Meets, MeetsTwice, Under, Free, Meeting, xOfPair, Gives, OneX, OneLightX}
 use Rattle.claims.specs.Weight.Light.{lowBytes-bytes, Twice, defect, light-low}
 use Rattle.claims.specs.Weight.Common.{each-in, good, pair-given, pairShares, one-share}
 
@@ -50,10 +51,22 @@ carried p key s s₀ same m2 w l h r ε is-r is-ε =
     (w .relation l h)
 
 module _ (hash : List ℕ → ℕ → List ℕ) (hash-length : (s : List ℕ) (n : ℕ) → length (hash s n) ≡ n) (p : Parameters) (key : Key) (m1 : List ℕ)
-    (qs : List Pair) (under : Each (Under hash p key m1) qs) (free : Free hash p key (openings qs)) (work out : List ℕ)
-    (work-length : workLength p ≤ length work) (out-length : length out ≡ outputLength p) where
+    (qs : List Pair) (under : Each (Under hash p key m1) qs) (free : Free hash p key (openings qs)) where
+  -- slices of zeros, with which each pair is compared
+  abbrev work : List ℕ
+  work = replicate (workLength p) 0
+
+  abbrev out : List ℕ
+  out = replicate (outputLength p) 0
+
+  work-length : workLength p ≤ length work
+  work-length = le-of-eq (sym (length-replicate (workLength p) 0))
+
+  out-length : length out ≡ outputLength p
+  out-length = length-replicate (outputLength p) 0
+
   abbrev shares : Pair → ℕ → List ℕ
-  shares = pairShares hash hash-length p key m1 qs under free work out work-length out-length
+  shares q = pairShares hash hash-length p key m1 qs under free q work out
 
   -- ---- one pair's sums serve for all
 
@@ -117,7 +130,8 @@ module _ (hash : List ℕ → ℕ → List ℕ) (hash-length : (s : List ℕ) (n
     relation-met : {q : Pair} → In q qs → (l : ℕ) → l < p .t → (r ε : Point) → Meets p q l r ε → ε ⊠ defect₀ r ≡ z₀ l
     relation-met {q} i l h r ε met =
         unfold defect x₀ lowQ QSum F in
-        carried p key (shares q) (shares q₀) (one-share hash hash-length p key m1 qs under free work out work-length out-length i i₀) (q .one .message2)
+        carried p key (shares q) (shares q₀) (one-share hash hash-length p key m1 qs under free work out work-length out-length work out work-length out-length i i₀)
+        (q .one .message2)
         (unfold pairShares exchangeOf exchange in pair-given hash hash-length p key m1 qs under free i work out work-length out-length .1 .witness)
         l h r ε (met .point) (met .multiplier)
 
@@ -139,22 +153,23 @@ module _ (hash : List ℕ → ℕ → List ℕ) (hash-length : (s : List ℕ) (n
           product′ = relation-met i₀ (m .in-list′) l position r (m .ε′) (m .meets′);
         }
 
-    one-x : OneX hash p key qs work out
-    one-x = record {
-      x = x₀ i₀;
-      extracted = λ q i. pair-given hash hash-length p key m1 qs under free i work out work-length out-length .0;
-      same = λ q i.
+    gives-x₀ : (q : Pair) → In q qs → (work′ out′ : List ℕ) → workLength p ≤ length work′ → length out′ ≡ outputLength p
+        → Gives hash p key (x₀ i₀) q work′ out′
+    gives-x₀ q i work′ out′ wl ol = record {
+      extracted = pair-given hash hash-length p key m1 qs under free i work′ out′ wl ol .0;
+      same =
           unfold xOfPair x₀ pairShares in
-          xSum-ext p key (shares q) (shares q₀) (one-share hash hash-length p key m1 qs under free work out work-length out-length i i₀);
-      light = light₀;
+          xSum-ext p key (pairShares hash hash-length p key m1 qs under free q work′ out′) (shares q₀)
+          (one-share hash hash-length p key m1 qs under free work′ out′ wl ol work out work-length out-length i i₀);
     }
 
-    one-light-x : ((s : List ℕ) (n : ℕ) → Bytes (hash s n)) → Bytes (key .y) → InBytes q₀ → OneLightX hash p key qs work out
-    unfolding one-x
+    one-x : OneX hash p key qs
+    one-x = record { x = x₀ i₀; gives = gives-x₀; light = light₀ }
+
+    one-light-x : ((s : List ℕ) (n : ℕ) → Bytes (hash s n)) → Bytes (key .y) → InBytes q₀ → OneLightX hash p key qs
     one-light-x hash-bytes y-bytes sent = record {
       x = x₀ i₀;
-      extracted = one-x .extracted;
-      same = one-x .same;
+      gives = gives-x₀;
       light = rw (lowBytes-bytes (x₀ i₀) (bytes-x₀ i₀ hash-bytes y-bytes sent)) at light₀;
     }
 
@@ -168,16 +183,15 @@ first-pair p qs l (r ∷ rs) within n met = (met .0 .pair, met .0 .in-list)
 
 pub low-claim : (hash : List ℕ → ℕ → List ℕ) → ((s : List ℕ) (n : ℕ) → length (hash s n) ≡ n)
     → (p : Parameters) (key : Key) (m1 : List ℕ) (qs : List Pair) (l : ℕ) (rs : List Point) → Within p → Meeting hash p key m1 qs l rs
-    → (work out : List ℕ) → workLength p ≤ length work → length out ≡ outputLength p → OneX hash p key qs work out
-low-claim hash hash-length p key m1 qs l rs within h work out work-length out-length =
-    one-x hash hash-length p key m1 qs (h .under) (h .free) work out work-length out-length l (h .position) rs (h .different) (h .enough) (h .met)
+    → OneX hash p key qs
+low-claim hash hash-length p key m1 qs l rs within h =
+    one-x hash hash-length p key m1 qs (h .under) (h .free) l (h .position) rs (h .different) (h .enough) (h .met)
     (first-pair p qs l rs within (h .enough) (h .met) .1)
 
 pub weight-claim : (hash : List ℕ → ℕ → List ℕ) → ((s : List ℕ) (n : ℕ) → length (hash s n) ≡ n) → ((s : List ℕ) (n : ℕ) → Bytes (hash s n))
     → (p : Parameters) (key : Key) (m1 : List ℕ) (qs : List Pair) (l : ℕ) (rs : List Point) → Within p → Meeting hash p key m1 qs l rs
-    → Bytes (key .y) → Each InBytes qs
-    → (work out : List ℕ) → workLength p ≤ length work → length out ≡ outputLength p → OneLightX hash p key qs work out
-weight-claim hash hash-length hash-bytes p key m1 qs l rs within h y-bytes sent work out work-length out-length =
+    → Bytes (key .y) → Each InBytes qs → OneLightX hash p key qs
+weight-claim hash hash-length hash-bytes p key m1 qs l rs within h y-bytes sent =
     let first = first-pair p qs l rs within (h .enough) (h .met) in
-    one-light-x hash hash-length p key m1 qs (h .under) (h .free) work out work-length out-length l (h .position) rs (h .different) (h .enough)
+    one-light-x hash hash-length p key m1 qs (h .under) (h .free) l (h .position) rs (h .different) (h .enough)
     (h .met) (first .1) hash-bytes y-bytes (each-in InBytes sent (first .1))

@@ -32,8 +32,8 @@ use Rattle.exchange.specs.Values.{Key}
 use Rattle.exchange.specs.Values.Relation.{Relation}
 use Rattle.exchange.specs.Parties.{axisString}
 use Rattle.exchange.specs.Parties.Laws.{string-inj}
-use Rattle.exchange.specs.Opening.{Exchange, auxOf, openedState, leafString, leafCommitment, commitmentString, announced, responseString}
-use Rattle.exchange.specs.Opening.Laws.{Accepted, commitment-disclosed, length-commitments}
+use Rattle.exchange.specs.Opening.{Exchange, auxOf, openedState, leafString, leafCommitment, commitmentString, announced, responseString, Accepted}
+use Rattle.exchange.specs.Opening.Laws.{commitment-disclosed, length-commitments}
 use Rattle.exchange.specs.Extractor.{auxFrom, stateFrom, output, stringAt}
 use Rattle.exchange.specs.Extractor.Laws.{Compared, atResponse, atAxis, atCommitment, atLeaf, Equal, FirstUnequal, string-6}
 use Rattle.exchange.specs.Extractor.Relation.{opening, sumFrom, LeavesAgree, countedAux, leaf-first, leaf-second, relation-holds}

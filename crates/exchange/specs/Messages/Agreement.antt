@@ -3,6 +3,7 @@
 -- ownW, ownV               α and β of the prover's leaves at a position, and their parts of v
 -- zero-sum                 v of all leaves, with the constant, sums to zero: the relation of the sum
 -- announced-same           what the verifier's parties announce is what the prover's do
+-- axisString-is, responseString-is   so are the strings of layers 6 and 7
 -- response-is              the recomputed h' is the prover's
 -- honest-accepted          the verdict on the honest exchange
 -- messages-accepted        the verdict on what is read from the messages
@@ -149,19 +150,24 @@ module _ (hash : List ℕ → ℕ → List ℕ) (hash-length : (s : List ℕ) (n
       (ap₂ _++_ (encode-ext _ _ (p .t) (λ l k. ap (λ (z : Point × Point). z .1) (W-same l k j c)))
       (encode-ext _ _ (p .t) (λ l k. V-same l k j c h)))
 
-  axisString-is : (j : ℕ) → axisString p salt j (announced hash p e key j) ≡ axisString p salt j (ownAnnounced hash p x salt root key m2 j)
+  pub axisString-is : (j : ℕ) → axisString p salt j (announced hash p e key j) ≡ axisString p salt j (ownAnnounced hash p x salt root key m2 j)
   unfolding axisString string6
   axisString-is j =
       ap (λ (s : List ℕ). string 6 salt ((j + 1) ∷ s))
       (joined-ext (announcedBytes p (announced hash p e key j)) (announcedBytes p (ownAnnounced hash p x salt root key m2 j)) (side p) (announced-same j))
 
-  response-is : hash (responseString hash p e key) 32 ≡ message3 hash p x salt root key m2
-  unfolding responseString message3 string7
-  response-is =
-      ap (λ (s : List ℕ). hash (string 7 salt s) 32)
+  pub responseString-is : responseString hash p e key
+      ≡ string7 salt (λ j. hash (axisString p salt j (ownAnnounced hash p x salt root key m2 j)) 32) (p .d)
+  unfolding responseString string7
+  responseString-is =
+      ap (string 7 salt)
       (joined-ext (λ j. hash (axisString p salt j (announced hash p e key j)) 32)
       (λ j. hash (axisString p salt j (ownAnnounced hash p x salt root key m2 j)) 32) (p .d)
       (λ j h. ap (λ (s : List ℕ). hash s 32) (axisString-is j)))
+
+  response-is : hash (responseString hash p e key) 32 ≡ message3 hash p x salt root key m2
+  unfolding message3
+  response-is = ap (λ (s : List ℕ). hash s 32) responseString-is
 
   pub honest-accepted : verdict hash p (honest hash p x salt root key m2 u) key ≡ Done
   honest-accepted =

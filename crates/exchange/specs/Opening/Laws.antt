@@ -3,8 +3,7 @@
 -- sums-agree, sumsAgree-true   the sums of α, β and v agree on all axes, whatever the opening holds
 -- verdict-is               the verdict without the check of the sums: number 6 never occurs
 -- never-sums               the same, said of the answer
--- Accepted                 'the recomputed h is message 1's, the sums of α, β and v agree on all axes, and the recomputed h' is message 3's'
--- accepted-then, accepted-when   'An opening is accepted exactly when' these hold
+-- accepted-then, accepted-when   the verdict is `Done` exactly when the opening is `Accepted`
 -- commitment-disclosed     the commitment of a disclosed leaf
 -- length-commitments       commitments have 32 bytes, where message 5 has its length
 use mathlib.Core.Path.{_≡_, refl, sym, ap, ap₂, _∙_}
@@ -29,7 +28,7 @@ use Rattle.exchange.specs.Layout.{leaves, message5Length}
 use Rattle.exchange.specs.Reading.Laws.{encode-ext}
 use Rattle.exchange.specs.Values.{Key}
 use Rattle.exchange.specs.Parties.{sums, sumsOf}
-use Rattle.exchange.specs.Opening.{Exchange, commitmentOf, leafString, leafCommitment, commitmentString, disclosed, announced, responseString, sumsAgree, verdict}
+use Rattle.exchange.specs.Opening.{Exchange, commitmentOf, leafString, leafCommitment, commitmentString, disclosed, announced, responseString, sumsAgree, verdict, Accepted}
 use Rattle.exchange.specs.Opening.Cube.{hats, opened-all, opened-v-zero}
 
 -- ---- number 6 never occurs
@@ -67,11 +66,6 @@ module _ (hash : List ℕ → ℕ → List ℕ) (p : Parameters) (e : Exchange) 
       go false b q = let z : _≡_ {A = ℕ} 0 1 = cc in omega arith
 
 -- ---- acceptance
-
-pub record Accepted (hash : List ℕ → ℕ → List ℕ) (p : Parameters) (e : Exchange) (key : Key) : Type 0 where
-  pub commitment : hash (commitmentString hash p e) 32 ≡ e .h
-  pub sums-same : (j : ℕ) → j < p .d → sumsOf p (announced hash p e key j) ≡ sumsOf p (announced hash p e key 0)
-  pub response : hash (responseString hash p e key) 32 ≡ e .message3
 
 module _ (hash : List ℕ → ℕ → List ℕ) (p : Parameters) (e : Exchange) (key : Key) where
   sumsAgree-then : (n : ℕ) → sumsAgree hash p e key n ≡ true

@@ -8,9 +8,9 @@ use Rattle.exchange.specs.Layout.{workLength}
 use Rattle.exchange.specs.Values.{Key}
 use Rattle.exchange.specs.Extractor.{Finding}
 use Rattle.coefficients.specs.Coefficients.{keyOf}
-use Rattle.extractor.specs.Call.{Transcript, transcript}
-use Rattle.extractor.specs.Call.Laws.{Early, early-passed}
-use Rattle.extractor.specs.Call.Outcomes.{zeroed-twice, refused-early, refused-first, refused-second, both-accepted}
+use Rattle.calls.specs.Extractor.{Transcript, transcript}
+use Rattle.extractor.specs.Early.{Early, early-passed}
+use Rattle.extractor.specs.Given.Laws.{zeroed-twice, refused-early, refused-first, refused-second, both-accepted}
 use Rattle.findings.specs.Found.{Found}
 use Rattle.extractor.specs.Judged.Pair.{states-most, rows-most, openings, compared-is}
 use Rattle.extractor.proofs.extract.Statement.{statement}

@@ -16,7 +16,7 @@ use Rattle.exchange.specs.Values.{Key}
 use Rattle.exchange.specs.Opening.{exchange}
 use Rattle.openings.specs.Checked.{Checked}
 use Rattle.openings.specs.Checked.Laws.{checked-state, checked-row}
-use Rattle.extractor.specs.Call.{Transcript, exchangeOf}
+use Rattle.calls.specs.Extractor.{Transcript, exchangeOf}
 use Rattle.extractor.specs.Judged.{Judged}
 
 module _ (p : Parameters) (t : Transcript) (key : Key) (r : Answer) (area states rows : List ℕ)

@@ -18,8 +18,8 @@ use Rattle.exchange.specs.Values.{Key}
 use Rattle.exchange.specs.Opening.{exchange}
 use Rattle.exchange.specs.Extractor.{extract}
 use Rattle.layout.specs.Lent.Laws.{leaves-most}
-use Rattle.extractor.specs.Call.{Transcript, exchangeOf}
-use Rattle.extractor.specs.Call.Laws.{Early}
+use Rattle.calls.specs.Extractor.{Transcript, exchangeOf}
+use Rattle.extractor.specs.Early.{Early}
 use Rattle.comparison.specs.Comparison.{comparison}
 use Rattle.comparison.specs.Comparison.Laws.{Shows, comparison-is}
 use Rattle.extractor.specs.Judged.{viewOf, Judged, shows, viewed, Openings}

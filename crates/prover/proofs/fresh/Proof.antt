@@ -1,6 +1,6 @@
 -- The record is the definition's.
 use mathlib.Core.Path.{refl}
-use Rattle.prover.specs.Session.{fresh}
+use Rattle.calls.specs.Prover.{fresh}
 use Rattle.prover.proofs.fresh.Statement.{statement}
 use Rattle.prover.proofs.fresh.Tie as tie
 

@@ -9,7 +9,7 @@ use Rattle.stored.proofs.read_verifier.Tie as tie
 returns : tie.Need-returns
 unfolding verifierFrom part
 returns c = λ i. record {
-  phase = c .before .before .before .before .before .before .before .before .verifier-phase .ensures i;
+  phase = c .before .before .before .before .before .before .before .before .phase-from .ensures i;
   parameters = c .before .before .before .before .before .before .before .read-parameters .ensures i;
   message1 = c .before .before .before .before .before .array64 .ensures i;
   message2 = c .before .before .before .array642 .ensures i;

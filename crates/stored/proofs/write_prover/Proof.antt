@@ -3,13 +3,14 @@ use mathlib.Core.Path.{sym, ap, _∙_}
 use native.Mathlib.Omega.{arith}
 use borrow.Author.Needs.{needs}
 use lib.ListN.{length, length-map}
+use Rattle.prover.specs.Held.{held}
 use Rattle.stored.specs.Prover.{proverBytes}
 use Rattle.stored.specs.Prover.Laws.{ProverLengths}
 use Rattle.stored.proofs.write_prover.Statement.{statement}
 use Rattle.stored.proofs.write_prover.Tie as tie
 
 -- a field that is an array has its length from what owning the session tells
-lengths : (c : tie.Start) → ProverLengths (c .args .s)
+lengths : (c : tie.Start) → ProverLengths (held (c .args .s))
 lengths c = record {
   x = sym (length-map (c .args .s .x) _) ∙ c .good .0 .1 .1 .1 .1 .0 .1 .0 .1;
   salt = sym (length-map (c .args .s .salt) _) ∙ c .good .0 .1 .1 .1 .1 .1 .0 .1 .0 .1;

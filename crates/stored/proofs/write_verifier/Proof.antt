@@ -3,13 +3,14 @@ use mathlib.Core.Path.{sym, ap, _∙_}
 use native.Mathlib.Omega.{arith}
 use borrow.Author.Needs.{needs}
 use lib.ListN.{length, length-map}
+use Rattle.verifier.specs.Held.{held}
 use Rattle.stored.specs.Verifier.{verifierBytes}
 use Rattle.stored.specs.Verifier.Laws.{VerifierLengths}
 use Rattle.stored.proofs.write_verifier.Statement.{statement}
 use Rattle.stored.proofs.write_verifier.Tie as tie
 
 -- a field that is an array has its length from what owning the session tells
-lengths : (c : tie.Start) → VerifierLengths (c .args .s)
+lengths : (c : tie.Start) → VerifierLengths (held (c .args .s))
 lengths c = record {
   message1 = sym (length-map (c .args .s .message1) _) ∙ c .good .0 .1 .1 .1 .1 .0 .1 .0 .1;
   message2 = sym (length-map (c .args .s .message2) _) ∙ c .good .0 .1 .1 .1 .1 .1 .0 .1 .0 .1;
@@ -21,7 +22,7 @@ write-parts-requires c κs = omega (arith, lengths (c .before .before .before .b
 
 returns : tie.Need-returns
 unfolding verifierBytes
-returns c = rw (c .before .before .write-parts .ensures, c .before .before .before .before .before .before .before .before .before .before .before .before .head .ensures, c .before .before .before .before .before .before .before .before .before .before .before .before .before .verifier-phase-byte .ensures)
+returns c = rw (c .before .before .write-parts .ensures, c .before .before .before .before .before .before .before .before .before .before .before .before .head .ensures, c .before .before .before .before .before .before .before .before .before .before .before .before .before .phase-byte .ensures)
 
 pub write-verifier-spec : {M : Type 1} → statement M
 write-verifier-spec =

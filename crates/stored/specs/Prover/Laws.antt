@@ -3,21 +3,20 @@
 -- ProverLengths s         the arrays of s have their lengths
 -- length-proverBytes      a session has `proverSize` bytes
 -- prover-back             what was written reads as the session again
--- prover-fresh            a session before its first begin is zeros
-use mathlib.Core.Path.{_≡_, refl, _∙_}
+-- fresh-small             each parameter of a session before its first begin is a byte
+use mathlib.Core.Path.{_≡_, refl, ap, _∙_}
 use Prim.Native.Nat.{ℕ, _+_}
 use native.Mathlib.Omega.{arith}
 use mathlib.Core.List.{_∷_, _++_}
-use lib.ListN.{length, replicate, length-append}
+use lib.ListN.{length, length-append}
 use Rattle.lists.specs.Part.{part}
 use Rattle.lists.specs.Part.Laws.{part-whole}
-use Rattle.prover_phase.specs.declared.Phase.{Phase}
-use Rattle.prover_phase.specs.declared.Phase.the-variants.{Fresh, Begun, Answered, Closed}
-use Rattle.prover.specs.declared.Prover.{Prover}
-use Rattle.prover.specs.Session.{fresh}
-use Rattle.stored.specs.Parameters.{parameterBytes}
+use Rattle.prover_phase.specs.Phases.{proverPhaseByte}
+use Rattle.prover_phase.specs.Phases.Laws.{phase-back}
+use Rattle.calls.specs.Prover.{Prover, fresh}
+use Rattle.stored.specs.Parameters.{Small, parameterBytes}
 use Rattle.stored.specs.Parts.{read-front, read-behind}
-use Rattle.stored.specs.Prover.{proverSize, proverPhaseByte, proverPhaseFrom, proverBytes, proverFrom}
+use Rattle.stored.specs.Prover.{proverSize, proverBytes, proverFrom}
 
 pub record ProverLengths (s : Prover) : Type 0 where
   pub x : length (s .x) ≡ 255
@@ -28,12 +27,6 @@ pub record ProverLengths (s : Prover) : Type 0 where
 pub length-proverBytes : (s : Prover) → ProverLengths s → length (proverBytes s) ≡ proverSize
 unfolding proverBytes
 length-proverBytes s h = simp length-append (omega arith)
-
-phase-back : (f : Phase) → proverPhaseFrom (proverPhaseByte f) ≡ f
-phase-back Fresh = refl
-phase-back Begun = refl
-phase-back Answered = refl
-phase-back Closed = refl
 
 pub prover-back : (s : Prover) → ProverLengths s → proverFrom (proverBytes s) ≡ s
 unfolding proverBytes proverFrom
@@ -51,6 +44,6 @@ prover-back s h = λ i. record {
     behind : (at n : ℕ) → part (proverBytes s) (6 + at) n ≡ part (s .x ++ (s .salt ++ (s .root ++ s .message2))) at n
     behind at n = read-behind (proverPhaseByte (s .phase) ∷ parameterBytes (s .parameters)) _ 6 at n refl
 
-pub prover-fresh : proverBytes fresh ≡ replicate proverSize 0
-unfolding proverBytes fresh
-prover-fresh = refl
+pub fresh-small : (s : Prover) → s ≡ fresh → Small (s .parameters)
+unfolding fresh
+fresh-small s e = rw (ap (λ (z : Prover). z .parameters) e) record { m = omega arith; k = omega arith; w = omega arith; d = omega arith; t = omega arith }

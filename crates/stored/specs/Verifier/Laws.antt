@@ -3,21 +3,20 @@
 -- VerifierLengths s        the arrays of s have their lengths
 -- length-verifierBytes     a session has `verifierSize` bytes
 -- verifier-back            what was written reads as the session again
--- verifier-fresh           a session before its first begin is zeros
+-- fresh-small              each parameter of a session before its first begin is a byte
 use mathlib.Core.Path.{_≡_, refl, sym, ap, _∙_}
 use Prim.Native.Nat.{ℕ, _+_}
 use native.Mathlib.Omega.{arith}
 use mathlib.Core.List.{List, [], _∷_, _++_}
-use lib.ListN.{length, replicate, getD, length-append}
+use lib.ListN.{length, getD, length-append}
 use Rattle.lists.specs.Part.{part}
 use Rattle.lists.specs.Part.Laws.{getD-part, part-whole}
-use Rattle.verifier.specs.declared.Phase.{Phase}
-use Rattle.verifier.specs.declared.Phase.the-variants.{Fresh, Begun, Pointed, Responded, Chosen, Closed}
-use Rattle.verifier.specs.declared.Verifier.{Verifier}
-use Rattle.verifier.specs.Session.{fresh}
-use Rattle.stored.specs.Parameters.{parameterBytes}
+use Rattle.verifier_phase.specs.Phases.{verifierPhaseByte}
+use Rattle.verifier_phase.specs.Phases.Laws.{phase-back}
+use Rattle.calls.specs.Verifier.{Verifier, fresh}
+use Rattle.stored.specs.Parameters.{Small, parameterBytes}
 use Rattle.stored.specs.Parts.{read-front, read-behind}
-use Rattle.stored.specs.Verifier.{verifierSize, verifierPhaseByte, verifierPhaseFrom, verifierBytes, verifierFrom}
+use Rattle.stored.specs.Verifier.{verifierSize, verifierBytes, verifierFrom}
 
 pub record VerifierLengths (s : Verifier) : Type 0 where
   pub message1 : length (s .message1) ≡ 64
@@ -27,14 +26,6 @@ pub record VerifierLengths (s : Verifier) : Type 0 where
 pub length-verifierBytes : (s : Verifier) → VerifierLengths s → length (verifierBytes s) ≡ verifierSize
 unfolding verifierBytes
 length-verifierBytes s h = simp length-append (omega arith)
-
-phase-back : (f : Phase) → verifierPhaseFrom (verifierPhaseByte f) ≡ f
-phase-back Fresh = refl
-phase-back Begun = refl
-phase-back Pointed = refl
-phase-back Responded = refl
-phase-back Chosen = refl
-phase-back Closed = refl
 
 pub verifier-back : (s : Verifier) → VerifierLengths s → verifierFrom (verifierBytes s) ≡ s
 unfolding verifierBytes verifierFrom
@@ -56,6 +47,6 @@ verifier-back s h = λ i. record {
     behind : (at n : ℕ) → part (verifierBytes s) (6 + at) n ≡ part (s .message1 ++ (s .message2 ++ (s .message3 ++ (s .leaf ∷ [])))) at n
     behind at n = read-behind (verifierPhaseByte (s .phase) ∷ parameterBytes (s .parameters)) _ 6 at n refl
 
-pub verifier-fresh : verifierBytes fresh ≡ replicate verifierSize 0
-unfolding verifierBytes fresh
-verifier-fresh = refl
+pub fresh-small : (s : Verifier) → s ≡ fresh → Small (s .parameters)
+unfolding fresh
+fresh-small s e = rw (ap (λ (z : Verifier). z .parameters) e) record { m = omega arith; k = omega arith; w = omega arith; d = omega arith; t = omega arith }

@@ -1,6 +1,6 @@
 -- The session is the definition's.
 use mathlib.Core.Path.{refl}
-use Rattle.verifier.specs.Session.{fresh}
+use Rattle.calls.specs.Verifier.{fresh}
 use Rattle.verifier.proofs.fresh.Statement.{statement}
 use Rattle.verifier.proofs.fresh.Tie as tie
 

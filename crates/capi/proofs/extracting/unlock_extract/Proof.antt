@@ -5,7 +5,7 @@ use Rattle.capi.proofs.extracting.unlock_extract.Statement.{statement}
 use Rattle.capi.proofs.extracting.unlock_extract.Tie as tie
 
 returns : tie.Need-returns
-returns c = extract-given _ _ _ _ _ (c .number .ensures) (c .before .before .before .before .before .extract .ensures)
+returns c = extract-given _ _ _ (c .before .before .before .before .before .extract .ensures) (c .number .ensures)
 
 pub unlock-extract-spec : {M : Type 1} → statement M
 unlock-extract-spec = tie.close (tie.spec (λ c κs. search needs) (λ c κs. search needs) (λ c. search needs) (λ c. search needs) returns)

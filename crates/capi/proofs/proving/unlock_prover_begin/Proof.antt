@@ -1,11 +1,12 @@
 -- The call on the session read, and its outcome kept (`call-kept`).
 use borrow.Author.Needs.{needs}
+use Rattle.prover.specs.Held.{held}
 use Rattle.capi.specs.Prover.Laws.{call-misfit, call-kept, kept-small, begin-within}
 use Rattle.capi.proofs.proving.unlock_prover_begin.Statement.{statement}
 use Rattle.capi.proofs.proving.unlock_prover_begin.Tie as tie
 
 returns : tie.Need-returns
-returns c = call-misfit _ _ _ _ (c .if1 .taken)
+returns c = call-misfit _ _ _ _ _ _ (c .misfit-number .ensures) (c .before .if1 .taken)
 
 keep-requires : tie.Need-keep-requires
 keep-requires c κs = (c .before .before .before .before .before .before .before .before .before .before .if1 .left, kept-small _ _ (c .before .before .before .before .before .begin .ensures) (begin-within _ _ _ _ _ _ _ _ _))
@@ -13,10 +14,10 @@ keep-requires c κs = (c .before .before .before .before .before .before .before
 returns-2 : tie.Need-returns-2
 returns-2 c =
     let q = c .before .before .before .before .before .before .before .before in
-    call-kept _ _ _ _ (q .before .before .before .read-prover .result) _ _ _ (q .before .before .before .before .before .if1 .left) (q .before .before .before .read-prover .ensures)
+    call-kept _ _ _ _ _ (held (q .before .before .before .read-prover .result)) _ _ _ (q .before .before .before .before .before .if1 .left) (q .before .before .before .read-prover .ensures)
     (q .begin .ensures) (c .before .before .keep .ensures)
 
 pub unlock-prover-begin-spec : {M : Type 1} → statement M
 unlock-prover-begin-spec =
     tie.close
-    (tie.spec returns (λ c κs. search needs) (λ c κs. search needs) keep-requires (λ c. search needs) (λ c. search needs) (λ c. search needs) returns-2)
+    (tie.spec (λ c κs. search needs) returns (λ c κs. search needs) (λ c κs. search needs) keep-requires (λ c. search needs) (λ c. search needs) (λ c. search needs) returns-2)

@@ -1,11 +1,12 @@
 -- The call on the session read, and its outcome kept (`call-kept`).
 use borrow.Author.Needs.{needs}
+use Rattle.verifier.specs.Held.{held}
 use Rattle.capi.specs.Verifier.Laws.{call-misfit, call-kept, kept-small, begin-within}
 use Rattle.capi.proofs.verifying.unlock_verifier_begin.Statement.{statement}
 use Rattle.capi.proofs.verifying.unlock_verifier_begin.Tie as tie
 
 returns : tie.Need-returns
-returns c = call-misfit _ _ (c .if1 .taken)
+returns c = call-misfit _ _ _ _ (c .misfit-number .ensures) (c .before .if1 .taken)
 
 keep-requires : tie.Need-keep-requires
 keep-requires c κs = (c .before .before .before .before .if1 .left, kept-small _ _ (c .before .begin .ensures) (begin-within _ _ _))
@@ -13,8 +14,8 @@ keep-requires c κs = (c .before .before .before .before .if1 .left, kept-small 
 returns-2 : tie.Need-returns-2
 returns-2 c =
     let q = c .before .before .before .before in
-    call-kept _ _ (q .before .read-verifier .result) _ _ _ (q .before .before .before .if1 .left) (q .before .read-verifier .ensures) (q .begin .ensures)
+    call-kept _ _ _ (held (q .before .read-verifier .result)) _ _ _ (q .before .before .before .if1 .left) (q .before .read-verifier .ensures) (q .begin .ensures)
     (c .before .before .keep .ensures)
 
 pub unlock-verifier-begin-spec : {M : Type 1} → statement M
-unlock-verifier-begin-spec = tie.close (tie.spec returns (λ c κs. search needs) (λ c κs. search needs) keep-requires (λ c. search needs) returns-2)
+unlock-verifier-begin-spec = tie.close (tie.spec (λ c κs. search needs) returns (λ c κs. search needs) (λ c κs. search needs) keep-requires (λ c. search needs) returns-2)

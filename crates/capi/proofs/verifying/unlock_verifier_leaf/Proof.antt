@@ -1,11 +1,13 @@
 -- The call on the session read, and its outcome kept (`call-kept`).
+use mathlib.Core.Path.{refl}
 use borrow.Author.Needs.{needs}
+use Rattle.verifier.specs.Held.{held}
 use Rattle.capi.specs.Verifier.Laws.{call-misfit, call-kept, kept-small, leaf-within}
 use Rattle.capi.proofs.verifying.unlock_verifier_leaf.Statement.{statement}
 use Rattle.capi.proofs.verifying.unlock_verifier_leaf.Tie as tie
 
 returns : tie.Need-returns
-returns c = call-misfit _ _ (c .if1 .taken)
+returns c = call-misfit _ _ _ _ refl (c .if1 .taken)
 
 keep-requires : tie.Need-keep-requires
 keep-requires c κs = (c .before .before .before .before .if1 .left, kept-small _ _ (c .before .leaf .ensures) (leaf-within _ _))
@@ -13,7 +15,7 @@ keep-requires c κs = (c .before .before .before .before .if1 .left, kept-small 
 returns-2 : tie.Need-returns-2
 returns-2 c =
     let q = c .before .before .before .before in
-    call-kept _ _ (q .before .read-verifier .result) _ _ _ (q .before .before .before .if1 .left) (q .before .read-verifier .ensures) (q .leaf .ensures)
+    call-kept _ _ _ (held (q .before .read-verifier .result)) _ _ _ (q .before .before .before .if1 .left) (q .before .read-verifier .ensures) (q .leaf .ensures)
     (c .before .before .keep .ensures)
 
 pub unlock-verifier-leaf-spec : {M : Type 1} → statement M

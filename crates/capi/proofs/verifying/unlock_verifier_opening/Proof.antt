@@ -1,5 +1,6 @@
 -- The opening on the session read, and its outcome kept (`opening-kept`).
 use borrow.Author.Needs.{needs}
+use Rattle.verifier.specs.Held.{held}
 use Rattle.capi.specs.Verifier.Laws.{opening-misfit, opening-kept, judged-small, opening-within}
 use Rattle.capi.proofs.verifying.unlock_verifier_opening.Statement.{statement}
 use Rattle.capi.proofs.verifying.unlock_verifier_opening.Tie as tie
@@ -13,7 +14,7 @@ keep-opening-requires c κs = (c .before .before .before .before .before .before
 returns-2 : tie.Need-returns-2
 returns-2 c =
     let q = c .before .before .before .before .before .before in
-    opening-kept _ _ _ _ (q .before .before .read-verifier .result) _ _ _ (q .before .before .before .before .if1 .left) (q .before .before .read-verifier .ensures)
+    opening-kept _ _ _ _ (held (q .before .before .read-verifier .result)) _ _ _ (q .before .before .before .before .if1 .left) (q .before .before .read-verifier .ensures)
     (q .opening .ensures) (c .before .before .keep-opening .ensures)
 
 pub unlock-verifier-opening-spec : {M : Type 1} → statement M

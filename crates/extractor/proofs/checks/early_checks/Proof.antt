@@ -5,7 +5,7 @@ use borrow.Author.Needs.{needs}
 use borrow.Author.Tests.{eq-eqb, ne-eqb, not-true, not-false}
 use Rattle.parameters.specs.Limits.{withinLimits}
 use Rattle.parameters.specs.Limits.Laws.{test-within}
-use Rattle.extractor.specs.Call.Laws.{early-row, row-1, row-2, row-3, row-4, row-5, row-6, row-7, row-done}
+use Rattle.extractor.specs.Early.{early-row, row-1, row-2, row-3, row-4, row-5, row-6, row-7, row-done}
 use Rattle.extractor.proofs.checks.early_checks.Statement.{statement}
 use Rattle.extractor.proofs.checks.early_checks.Tie as tie
 

@@ -8,9 +8,10 @@ use Rattle.shake256.specs.Fips.{SHAKE256}
 use Rattle.coefficients.specs.Coefficients.{keyOf}
 use Rattle.prover.specs.Facts.{isDone, Begins}
 use Rattle.prover.specs.Next.{begunWith}
-use Rattle.prover.specs.Session.Carried.{starting, begun-with}
+use Rattle.prover.specs.Carried.{starting, begun-with}
 use Rattle.arguments.specs.Arguments.Laws.{passed, failed}
-use Rattle.prover.specs.Session.Checks.{done-is, begin-refused, begin-done, begin-facts}
+use Rattle.prover.specs.Checks.{done-is, begin-refused, begin-done, begin-facts}
+use Rattle.prover.specs.Held.{held}
 use Rattle.prover.proofs.Prover.begin.Statement.{statement}
 use Rattle.prover.proofs.Prover.begin.Tie as tie
 
@@ -21,14 +22,14 @@ facts : (c : tie.Else1) → (let a = c .before .before .before .before .before .
 facts c =
     let called = c .before .before .before in
     let a = called .before .before .before .before .before .before .before .before .before .before .before .before .args in
-    begin-facts SHAKE256 (a .self) (a .work .now) (a .out .now) (keyOf (a .matrix .now) (a .y .now)) (a .p) (a .x-a .now) (a .salt .now) (a .root .now) _
+    begin-facts SHAKE256 (held (a .self)) (a .work .now) (a .out .now) (keyOf (a .matrix .now) (a .y .now)) (a .p) (a .x-a .now) (a .salt .now) (a .root .now) _
     (called .begin-checks .ensures .0) (done c)
 
 returns : tie.Need-returns
 returns c =
     let called = c .before .before .before in
     let a = called .before .before .before .before .before .before .before .before .before .before .before .before .args in
-    begin-refused SHAKE256 (a .self) (a .work .now) (a .out .now) (keyOf (a .matrix .now) (a .y .now)) _ (a .p) (a .x-a .now) (a .salt .now) (a .root .now)
+    begin-refused SHAKE256 (held (a .self)) (a .work .now) (a .out .now) (keyOf (a .matrix .now) (a .y .now)) _ (a .p) (a .x-a .now) (a .salt .now) (a .root .now)
     (called .begin-checks .ensures .0) (failed (c .before .is-done .ensures) (c .if1 .taken))
 
 begun-requires : tie.Need-begun-requires
@@ -36,7 +37,7 @@ begun-requires c κs =
     let e = c .before .before in
     let called = e .before .before .before in
     let a = called .before .before .before .before .before .before .before .before .before .before .before .before .args in
-    starting (a .self) (a .p) (a .x-a .now) (a .salt .now) (a .root .now) (keyOf (a .matrix .now) (a .y .now)) (a .work .now) (a .out .now) (facts e) _
+    starting (held (a .self)) (a .p) (a .x-a .now) (a .salt .now) (a .root .now) (keyOf (a .matrix .now) (a .y .now)) (a .work .now) (a .out .now) (facts e) _
     (called .begin-checks .ensures .1 (done-is _ (done e)))
 
 returns-2 : tie.Need-returns-2
@@ -48,8 +49,8 @@ returns-2 c =
     let key = keyOf (a .matrix .now) (a .y .now) in
     begun .begun .ensures
     ∙ ap (λ (x : List ℕ). begunWith (a .p) x (a .salt .now) (a .root .now) (a .work .now)) (called .begin-checks .ensures .1 (done-is _ (done e)))
-    ∙ begun-with (a .self) (a .p) (a .x-a .now) (a .salt .now) (a .root .now) key (a .work .now) (a .out .now) (facts e)
-    ∙ begin-done SHAKE256 (a .self) (a .work .now) (a .out .now) key _ (a .p) (a .x-a .now) (a .salt .now) (a .root .now) (called .begin-checks .ensures .0) (done e)
+    ∙ begun-with (held (a .self)) (a .p) (a .x-a .now) (a .salt .now) (a .root .now) key (a .work .now) (a .out .now) (facts e)
+    ∙ begin-done SHAKE256 (held (a .self)) (a .work .now) (a .out .now) key _ (a .p) (a .x-a .now) (a .salt .now) (a .root .now) (called .begin-checks .ensures .0) (done e)
 
 pub begin-spec : {M : Type 1} → statement M
 begin-spec =

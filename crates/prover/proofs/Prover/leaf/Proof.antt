@@ -4,7 +4,8 @@ use borrow.Author.Needs.{needs}
 use Rattle.shake256.specs.Fips.{SHAKE256}
 use Rattle.coefficients.specs.Coefficients.{keyOf}
 use Rattle.arguments.specs.Arguments.Laws.{passed, failed}
-use Rattle.prover.specs.Session.Checks.{leaf-refused, leaf-done, leaf-facts}
+use Rattle.prover.specs.Checks.{leaf-refused, leaf-done, leaf-facts}
+use Rattle.prover.specs.Held.{held}
 use Rattle.prover.proofs.Prover.leaf.Statement.{statement}
 use Rattle.prover.proofs.Prover.leaf.Tie as tie
 
@@ -12,7 +13,7 @@ returns : tie.Need-returns
 returns c =
     let called = c .before .before in
     let a = called .before .before .before .before .before .before .before .args in
-    leaf-refused SHAKE256 (a .self) (a .work .now) (a .out .now) (keyOf (a .matrix .now) (a .y .now)) _ (a .leaf) (called .leaf-checks .ensures)
+    leaf-refused SHAKE256 (held (a .self)) (a .work .now) (a .out .now) (keyOf (a .matrix .now) (a .y .now)) _ (a .leaf) (called .leaf-checks .ensures)
     (failed (c .before .is-done .ensures) (c .if1 .taken))
 
 opened-requires : tie.Need-opened-requires
@@ -20,7 +21,7 @@ opened-requires c κs =
     let e = c .before .before in
     let called = e .before .before in
     let a = called .before .before .before .before .before .before .before .args in
-    leaf-facts SHAKE256 (a .self) (a .work .now) (a .out .now) (keyOf (a .matrix .now) (a .y .now)) (a .leaf) _ (called .leaf-checks .ensures)
+    leaf-facts SHAKE256 (held (a .self)) (a .work .now) (a .out .now) (keyOf (a .matrix .now) (a .y .now)) (a .leaf) _ (called .leaf-checks .ensures)
     (passed (e .before .is-done .ensures) (e .if1 .left))
 
 returns-2 : tie.Need-returns-2
@@ -30,7 +31,7 @@ returns-2 c =
     let called = e .before .before in
     let a = called .before .before .before .before .before .before .before .args in
     done .opened .ensures
-    ∙ leaf-done SHAKE256 (a .self) (a .work .now) (a .out .now) (keyOf (a .matrix .now) (a .y .now)) _ (a .leaf) (called .leaf-checks .ensures)
+    ∙ leaf-done SHAKE256 (held (a .self)) (a .work .now) (a .out .now) (keyOf (a .matrix .now) (a .y .now)) _ (a .leaf) (called .leaf-checks .ensures)
     (passed (e .before .is-done .ensures) (e .if1 .left))
 
 pub leaf-spec : {M : Type 1} → statement M

@@ -4,7 +4,8 @@ use borrow.Author.Needs.{needs}
 use Rattle.shake256.specs.Fips.{SHAKE256}
 use Rattle.coefficients.specs.Coefficients.{keyOf}
 use Rattle.arguments.specs.Arguments.Laws.{passed, failed}
-use Rattle.prover.specs.Session.Checks.{points-refused, points-done, points-facts}
+use Rattle.prover.specs.Checks.{points-refused, points-done, points-facts}
+use Rattle.prover.specs.Held.{held}
 use Rattle.prover.proofs.Prover.points.Statement.{statement}
 use Rattle.prover.proofs.Prover.points.Tie as tie
 
@@ -12,7 +13,7 @@ returns : tie.Need-returns
 returns c =
     let called = c .before .before in
     let a = called .before .before .before .before .before .before .before .before .args in
-    points-refused SHAKE256 (a .self) (a .work .now) (a .out .now) (keyOf (a .matrix .now) (a .y .now)) _ (a .message2 .now) (called .points-checks .ensures)
+    points-refused SHAKE256 (held (a .self)) (a .work .now) (a .out .now) (keyOf (a .matrix .now) (a .y .now)) _ (a .message2 .now) (called .points-checks .ensures)
     (failed (c .before .is-done .ensures) (c .if1 .taken))
 
 answered-requires : tie.Need-answered-requires
@@ -20,7 +21,7 @@ answered-requires c κs =
     let e = c .before .before in
     let called = e .before .before in
     let a = called .before .before .before .before .before .before .before .before .args in
-    points-facts SHAKE256 (a .self) (a .work .now) (a .out .now) (keyOf (a .matrix .now) (a .y .now)) (a .message2 .now) _ (called .points-checks .ensures)
+    points-facts SHAKE256 (held (a .self)) (a .work .now) (a .out .now) (keyOf (a .matrix .now) (a .y .now)) (a .message2 .now) _ (called .points-checks .ensures)
     (passed (e .before .is-done .ensures) (e .if1 .left))
 
 returns-2 : tie.Need-returns-2
@@ -30,7 +31,7 @@ returns-2 c =
     let called = e .before .before in
     let a = called .before .before .before .before .before .before .before .before .args in
     done .answered .ensures
-    ∙ points-done SHAKE256 (a .self) (a .work .now) (a .out .now) (keyOf (a .matrix .now) (a .y .now)) _ (a .message2 .now) (called .points-checks .ensures)
+    ∙ points-done SHAKE256 (held (a .self)) (a .work .now) (a .out .now) (keyOf (a .matrix .now) (a .y .now)) _ (a .message2 .now) (called .points-checks .ensures)
     (passed (e .before .is-done .ensures) (e .if1 .left))
 
 pub points-spec : {M : Type 1} → statement M

@@ -1,11 +1,12 @@
 -- The arguments' checks first; past them 13 decides, and x holds the vector.
-use mathlib.Core.Path.{_≡_, sym, _∙_}
+use mathlib.Core.Path.{sym, _∙_}
 use mathlib.Core.Bool.{true, false}
 use borrow.Author.Needs.{needs}
 use Rattle.shake256.specs.Fips.{SHAKE256}
 use Rattle.answers.specs.Checks.Laws.{Done≢Refused}
 use Rattle.coefficients.specs.Coefficients.{keyOf}
-use Rattle.prover.specs.Session.Checks.{begin-late, begin-row}
+use Rattle.prover.specs.Checks.{begin-late, begin-row}
+use Rattle.prover.specs.Held.{held}
 use Rattle.prover.proofs.on_begin.begin_checks.Statement.{statement}
 use Rattle.prover.proofs.on_begin.begin_checks.Tie as tie
 
@@ -14,7 +15,7 @@ returns c =
     let told = c .enum-told2 .given in
     let first = c .before .before .before .before in
     let a = first .before .before .before .before .before .before .before .before .before .before .args in (
-      begin-late SHAKE256 (a .s) (a .work .now) (a .out .now) (a .p) (a .x-a .now) (a .salt .now) (a .root .now) (keyOf (a .matrix .now) (a .y .now)) _ _
+      begin-late SHAKE256 (held (a .s)) (a .work .now) (a .out .now) (a .p) (a .x-a .now) (a .salt .now) (a .root .now) (keyOf (a .matrix .now) (a .y .now)) _ _
           (first .begin-arguments .ensures .0) (told .1),
       λ e. absurd (Done≢Refused (sym e ∙ told .1)),
     )
@@ -23,7 +24,7 @@ returns-2 : tie.Need-returns-2
 returns-2 c =
     let first = c .before .before .before .before .before .before in
     let a = first .before .before .before .before .before .before .before .before .before .before .args in (
-      begin-row SHAKE256 (a .s) (a .work .now) (a .out .now) (a .p) (a .x-a .now) (a .salt .now) (a .root .now) (keyOf (a .matrix .now) (a .y .now)) _ true
+      begin-row SHAKE256 (held (a .s)) (a .work .now) (a .out .now) (a .p) (a .x-a .now) (a .salt .now) (a .root .now) (keyOf (a .matrix .now) (a .y .now)) _ true
           (first .begin-arguments .ensures .0) (c .before .before .enum-told .given .1) (sym (c .before .repeated .ensures) ∙ c .if1 .taken),
       λ e. absurd (Done≢Refused (sym e)),
     )
@@ -33,7 +34,7 @@ returns-3 c =
     let done = c .before .before .enum-told .given .1 in
     let first = c .before .before .before .before .before .before in
     let a = first .before .before .before .before .before .before .before .before .before .before .args in (
-      begin-row SHAKE256 (a .s) (a .work .now) (a .out .now) (a .p) (a .x-a .now) (a .salt .now) (a .root .now) (keyOf (a .matrix .now) (a .y .now)) _ false
+      begin-row SHAKE256 (held (a .s)) (a .work .now) (a .out .now) (a .p) (a .x-a .now) (a .salt .now) (a .root .now) (keyOf (a .matrix .now) (a .y .now)) _ false
           (first .begin-arguments .ensures .0) done (sym (c .before .repeated .ensures) ∙ c .if1 .left),
       λ e. first .begin-arguments .ensures .1 done,
     )

@@ -5,7 +5,7 @@ use lib.ListN.{length}
 use borrow.Author.Needs.{needs}
 use Rattle.prover_phase.specs.declared.Phase.{Phase}
 use Rattle.prover.specs.Next.{nextBegun}
-use Rattle.prover.specs.Session.Carried.{begun-made}
+use Rattle.prover.specs.Carried.{begun-made}
 use Rattle.prover.proofs.on_begin.begun.Statement.{statement}
 use Rattle.prover.proofs.on_begin.begun.Tie as tie
 

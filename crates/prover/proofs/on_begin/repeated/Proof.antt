@@ -1,8 +1,8 @@
--- The exchange held, and both comparisons.
-use mathlib.Core.Path.{_∙_, ap₂}
-use mathlib.Core.Bool.{_&&_}
+-- The phase, and both comparisons.
+use mathlib.Core.Path.{_∙_, ap, ap₂}
+use mathlib.Core.Bool.{_&&_, not}
 use borrow.Author.Needs.{needs}
-use Rattle.prover.specs.Session.{repeated}
+use Rattle.calls.specs.Prover.{repeated}
 use Rattle.prover.proofs.on_begin.repeated.Statement.{statement}
 use Rattle.prover.proofs.on_begin.repeated.Tie as tie
 
@@ -12,7 +12,7 @@ returns c =
     let both = c .before .before in
     let salt = both .before .before .before in
     c .both2 .ensures
-    ∙ ap₂ _&&_ (c .before .holds .ensures) (both .both .ensures ∙ ap₂ _&&_ (salt .equal .ensures) (both .before .equal2 .ensures))
+    ∙ ap₂ _&&_ (ap not (c .before .is-fresh .ensures)) (both .both .ensures ∙ ap₂ _&&_ (salt .equal .ensures) (both .before .equal2 .ensures))
 
 pub repeated-spec : {M : Type 1} → statement M
 repeated-spec =

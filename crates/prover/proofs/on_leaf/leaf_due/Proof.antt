@@ -1,14 +1,13 @@
--- The exchange held, and the phase.
-use mathlib.Core.Path.{_∙_, ap₂}
-use mathlib.Core.Bool.{_&&_}
+-- The phase that counts.
+use mathlib.Core.Path.{ap, _∙_}
 use borrow.Author.Needs.{needs}
-use Rattle.prover.specs.Session.{leafDue}
+use Rattle.calls.specs.Prover.{isAnswered, leafDue}
 use Rattle.prover.proofs.on_leaf.leaf_due.Statement.{statement}
 use Rattle.prover.proofs.on_leaf.leaf_due.Tie as tie
 
 returns : tie.Need-returns
 unfolding leafDue
-returns c = c .both .ensures ∙ ap₂ _&&_ (c .before .before .holds .ensures) (c .before .is-answered .ensures)
+returns c = c .is-answered .ensures ∙ ap isAnswered (c .before .standing .ensures)
 
 pub leaf-due-spec : {M : Type 1} → statement M
-leaf-due-spec = tie.close (tie.spec (λ c κs. search needs) (λ c κs. search needs) (λ c κs. search needs) returns)
+leaf-due-spec = tie.close (tie.spec (λ c κs. search needs) (λ c κs. search needs) returns)

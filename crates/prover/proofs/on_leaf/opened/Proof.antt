@@ -1,8 +1,9 @@
 -- Message 5 is made from what the session holds.
 use borrow.Author.Needs.{needs}
 use Rattle.coefficients.specs.Coefficients.{keyOf}
-use Rattle.prover.specs.Session.{heldX, heldMessage2}
-use Rattle.prover.specs.Session.Carried.{opened-made}
+use Rattle.calls.specs.Prover.{heldX, heldMessage2}
+use Rattle.prover.specs.Carried.{opened-made}
+use Rattle.prover.specs.Held.{held}
 use Rattle.prover.proofs.Arrays.{message2-length, held-arrays}
 use Rattle.prover.proofs.on_leaf.opened.Statement.{statement}
 use Rattle.prover.proofs.on_leaf.opened.Tie as tie
@@ -26,7 +27,7 @@ unfolding heldX heldMessage2
 returns c =
     let made = c .before .before .before .before .before in
     let a = made .before .before .before .before .before .before .before .before .before .before .before .before .before .before .before .before .args in
-    opened-made (a .s) (keyOf (a .matrix .now) (a .y .now)) (a .work .now) (a .out .now) (a .leaf) _ _ _ (c .ended .ensures) (made .message5 .ensures .0)
+    opened-made (held (a .s)) (keyOf (a .matrix .now) (a .y .now)) (a .work .now) (a .out .now) (a .leaf) _ _ _ (c .ended .ensures) (made .message5 .ensures .0)
     (made .message5 .ensures .1)
 
 pub opened-spec : {M : Type 1} → statement M

@@ -3,8 +3,9 @@ use mathlib.Core.Path.{ap, _∙_}
 use borrow.Author.Needs.{needs}
 use Rattle.coefficients.specs.Coefficients.{keyOf}
 use Rattle.prover.specs.Next.{nextAnswered}
-use Rattle.prover.specs.Session.{heldX}
-use Rattle.prover.specs.Session.Carried.{answered-made}
+use Rattle.calls.specs.Prover.{heldX}
+use Rattle.prover.specs.Carried.{answered-made}
+use Rattle.prover.specs.Held.{held}
 use Rattle.prover.proofs.Arrays.{held-arrays}
 use Rattle.prover.proofs.on_points.answered.Statement.{statement}
 use Rattle.prover.proofs.on_points.answered.Tie as tie
@@ -23,8 +24,8 @@ unfolding heldX
 returns c =
     let made = c .before .before .before .before .before .before in
     let a = made .before .before .before .before .before .before .before .before .before .before .before .before .before .before .before .args in
-    answered-made (a .s) (keyOf (a .matrix .now) (a .y .now)) (a .work .now) (a .out .now) (a .message2 .now) _ _ _
-    (c .responded .ensures ∙ ap (nextAnswered (a .s)) (c .before .padded64 .ensures)) (made .message3 .ensures .0) (made .message3 .ensures .1)
+    answered-made (held (a .s)) (keyOf (a .matrix .now) (a .y .now)) (a .work .now) (a .out .now) (a .message2 .now) _ _ _
+    (c .responded .ensures ∙ ap (nextAnswered (held (a .s))) (c .before .padded64 .ensures)) (made .message3 .ensures .0) (made .message3 .ensures .1)
 
 pub answered-spec : {M : Type 1} → statement M
 answered-spec =

@@ -1,8 +1,8 @@
 -- A refusal leaves the session; past the checks message 1 has 64 bytes and the new session is the definition's.
 use mathlib.Core.Path.{sym, _∙_}
 use borrow.Author.Needs.{needs}
-use Rattle.verifier.specs.Session.{begun, begin}
-use Rattle.verifier.specs.Session.Laws.{refused-call, done-call, begin-passed}
+use Rattle.calls.specs.Verifier.{begun, begin}
+use Rattle.verifier.specs.Laws.{refused-call, done-call, begin-passed}
 use Rattle.verifier.proofs.Verifier.begin.Statement.{statement}
 use Rattle.verifier.proofs.Verifier.begin.Tie as tie
 

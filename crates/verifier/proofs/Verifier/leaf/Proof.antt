@@ -1,7 +1,7 @@
 -- A refusal leaves the session; past the checks the session after it is the definition's.
 use borrow.Author.Needs.{needs}
-use Rattle.verifier.specs.Session.{chosen, leaf}
-use Rattle.verifier.specs.Session.Laws.{refused-call, done-call}
+use Rattle.calls.specs.Verifier.{chosen, leaf}
+use Rattle.verifier.specs.Laws.{refused-call, done-call}
 use Rattle.verifier.proofs.Verifier.leaf.Statement.{statement}
 use Rattle.verifier.proofs.Verifier.leaf.Tie as tie
 

@@ -1,8 +1,8 @@
 -- A refusal leaves session and work area; past the checks the verdict is the answer, and the session is closed.
 use mathlib.Core.Path.{sym, _∙_}
 use borrow.Author.Needs.{needs}
-use Rattle.verifier.specs.Session.{ended}
-use Rattle.verifier.specs.Session.Laws.{refused-opening, judged-opening, opening-passed}
+use Rattle.calls.specs.Verifier.{ended}
+use Rattle.verifier.specs.Laws.{refused-opening, judged-opening, opening-passed}
 use Rattle.verifier.proofs.Verifier.opening.Statement.{statement}
 use Rattle.verifier.proofs.Verifier.opening.Tie as tie
 

@@ -2,8 +2,8 @@
 use mathlib.Core.Path.{sym, _∙_}
 use native.Mathlib.Omega.{arith}
 use borrow.Author.Needs.{needs}
-use Rattle.verifier.specs.Session.{pointed, points}
-use Rattle.verifier.specs.Session.Laws.{refused-call, done-call, points-passed}
+use Rattle.calls.specs.Verifier.{pointed, points}
+use Rattle.verifier.specs.Laws.{refused-call, done-call, points-passed}
 use Rattle.verifier.proofs.Verifier.points.Statement.{statement}
 use Rattle.verifier.proofs.Verifier.points.Tie as tie
 

@@ -1,8 +1,8 @@
 -- A refusal leaves the session; past the checks message 3 has 32 bytes, and the session after it is the definition's.
 use mathlib.Core.Path.{sym, _∙_}
 use borrow.Author.Needs.{needs}
-use Rattle.verifier.specs.Session.{responded, response}
-use Rattle.verifier.specs.Session.Laws.{refused-call, done-call, response-passed}
+use Rattle.calls.specs.Verifier.{responded, response}
+use Rattle.verifier.specs.Laws.{refused-call, done-call, response-passed}
 use Rattle.verifier.proofs.Verifier.response.Statement.{statement}
 use Rattle.verifier.proofs.Verifier.response.Tie as tie
 

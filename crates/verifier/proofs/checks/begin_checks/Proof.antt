@@ -2,7 +2,7 @@
 use mathlib.Core.Path.{sym, _∙_}
 use borrow.Author.Needs.{needs}
 use borrow.Author.Tests.{eq-eqb, ne-eqb, not-true, not-false}
-use Rattle.verifier.specs.Session.{beginChecks}
+use Rattle.calls.specs.Verifier.{beginChecks}
 use Rattle.verifier.proofs.checks.begin_checks.Statement.{statement}
 use Rattle.verifier.proofs.checks.begin_checks.Tie as tie
 

@@ -1,9 +1,9 @@
 -- 12 and 11 first; past them the leaf's number decides.
-use mathlib.Core.Path.{sym, _∙_}
+use mathlib.Core.Path.{refl, sym, _∙_}
 use borrow.Author.Needs.{needs}
 use borrow.Author.Tests.{lt-ltb, le-ltb}
-use Rattle.verifier.specs.Session.{leafChecks}
-use Rattle.verifier.specs.Session.Laws.{state-refused, state-passed, due-holds, held-within}
+use Rattle.calls.specs.Verifier.{leafChecks}
+use Rattle.verifier.specs.Laws.{state-refused, state-passed, due-intact, held-within}
 use Rattle.verifier.proofs.checks.leaf_checks.Statement.{statement}
 use Rattle.verifier.proofs.checks.leaf_checks.Tie as tie
 
@@ -16,7 +16,7 @@ returns c =
 leaf-count-requires : tie.Need-leaf-count-requires
 leaf-count-requires c κs =
     let f = c .before in
-    held-within _ (due-holds _ _ _ (sym (f .before .before .state-checks .ensures) ∙ f .enum-told .given .1))
+    held-within _ (due-intact _ _ _ (sym (f .before .before .state-checks .ensures) ∙ f .enum-told .given .1) record { begun = refl; still = refl })
 
 returns-2 : tie.Need-returns-2
 unfolding leafChecks

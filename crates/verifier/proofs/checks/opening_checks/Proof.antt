@@ -1,9 +1,9 @@
 -- 12 and 11 first; past them the lengths decide.
-use mathlib.Core.Path.{sym, _∙_}
+use mathlib.Core.Path.{refl, sym, _∙_}
 use borrow.Author.Needs.{needs}
 use borrow.Author.Tests.{not-true, not-false}
-use Rattle.verifier.specs.Session.{openingChecks}
-use Rattle.verifier.specs.Session.Laws.{state-refused, state-passed, due-holds, held-within}
+use Rattle.calls.specs.Verifier.{openingChecks}
+use Rattle.verifier.specs.Laws.{state-refused, state-passed, due-intact, held-within}
 use Rattle.verifier.proofs.checks.opening_checks.Statement.{statement}
 use Rattle.verifier.proofs.checks.opening_checks.Tie as tie
 
@@ -14,7 +14,7 @@ returns c =
     told .1 ∙ sym (state-refused _ _ (told .0 .0) (sym (c .before .before .state-checks .ensures) ∙ told .1) _)
 
 opening-lengths-requires : tie.Need-opening-lengths-requires
-opening-lengths-requires c κs = held-within _ (due-holds _ _ _ (sym (c .before .before .state-checks .ensures) ∙ c .enum-told .given .1))
+opening-lengths-requires c κs = held-within _ (due-intact _ _ _ (sym (c .before .before .state-checks .ensures) ∙ c .enum-told .given .1) record { begun = refl; still = refl })
 
 returns-2 : tie.Need-returns-2
 unfolding openingChecks

@@ -1,9 +1,9 @@
 -- 12 and 11 first; past them the length decides.
-use mathlib.Core.Path.{sym, _∙_}
+use mathlib.Core.Path.{refl, sym, _∙_}
 use borrow.Author.Needs.{needs}
 use borrow.Author.Tests.{eq-eqb, ne-eqb}
-use Rattle.verifier.specs.Session.{pointsChecks}
-use Rattle.verifier.specs.Session.Laws.{state-refused, state-passed, due-holds, held-within}
+use Rattle.calls.specs.Verifier.{pointsChecks}
+use Rattle.verifier.specs.Laws.{state-refused, state-passed, due-intact, held-within}
 use Rattle.verifier.proofs.checks.points_checks.Statement.{statement}
 use Rattle.verifier.proofs.checks.points_checks.Tie as tie
 
@@ -16,7 +16,7 @@ returns c =
 message2-length-requires : tie.Need-message2-length-requires
 message2-length-requires c κs =
     let f = c .before in
-    held-within _ (due-holds _ _ _ (sym (f .before .before .state-checks .ensures) ∙ f .enum-told .given .1))
+    held-within _ (due-intact _ _ _ (sym (f .before .before .state-checks .ensures) ∙ f .enum-told .given .1) record { begun = refl; still = refl })
 
 returns-2 : tie.Need-returns-2
 unfolding pointsChecks

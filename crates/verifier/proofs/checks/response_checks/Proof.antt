@@ -2,8 +2,8 @@
 use mathlib.Core.Path.{sym, _∙_}
 use borrow.Author.Needs.{needs}
 use borrow.Author.Tests.{eq-eqb, ne-eqb}
-use Rattle.verifier.specs.Session.{responseChecks}
-use Rattle.verifier.specs.Session.Laws.{state-refused, state-passed}
+use Rattle.calls.specs.Verifier.{responseChecks}
+use Rattle.verifier.specs.Laws.{state-refused, state-passed}
 use Rattle.verifier.proofs.checks.response_checks.Statement.{statement}
 use Rattle.verifier.proofs.checks.response_checks.Tie as tie
 

@@ -1,6 +1,6 @@
 -- The session is the definition's.
 use mathlib.Core.Path.{refl}
-use Rattle.verifier.specs.Session.{ended}
+use Rattle.calls.specs.Verifier.{ended}
 use Rattle.verifier.proofs.judge.ended.Statement.{statement}
 use Rattle.verifier.proofs.judge.ended.Tie as tie
 

@@ -12,8 +12,8 @@ use Rattle.exchange.specs.Layout.{workLength}
 use Rattle.exchange.specs.Opening.{exchange, verdict}
 use Rattle.coefficients.specs.Coefficients.{keyOf}
 use Rattle.layout.specs.Lent.Laws.{leaves-most}
-use Rattle.verifier.specs.Session.{heldExchange}
-use Rattle.verifier.specs.Session.Laws.{rows-most}
+use Rattle.calls.specs.Verifier.{heldExchange}
+use Rattle.verifier.specs.Laws.{rows-most}
 use Rattle.verifier.proofs.judge.judge.Statement.{statement}
 use Rattle.verifier.proofs.judge.judge.Tie as tie
 

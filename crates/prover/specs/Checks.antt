@@ -1,0 +1,201 @@
+-- The checks of the prover's calls: from the values of the tests to the answer, and from the answer to what the call gives.
+--
+-- first-refused, first-passed            checks in a row, and others behind them
+-- begin-late, begin-row                  the checks of begin: those of its arguments, and 13 behind them
+-- points-row, leaf-row                   the checks of a call from the values of its tests
+-- settle-refused, done-is                what an answer says of the call
+-- begin-refused, points-refused, leaf-refused   a check failed: session, output and work area stay
+-- begin-done, points-done, leaf-done     no check failed: the call is carried out
+-- points-ready, leaf-ready               what a session says in which a call but begin is due
+-- begin-facts, points-facts, leaf-facts  what the checks that passed say
+use mathlib.Core.Path.{_≡_, refl, sym, _∙_}
+use mathlib.Core.Bool.{Bool, true, false, _||_, not, cond, true≢false, false≢true}
+use mathlib.Core.List.{List, [], _∷_, _++_}
+use Prim.Native.Nat.{ℕ}
+use lib.Dec.{eqb, leb, ltb}
+use lib.ListN.{length}
+use borrow.Author.Tests.{eqb-true, leb-true, ltb-true}
+use Rattle.lists.specs.Checks.{allTrue, all-at, and-left, and-right}
+use Rattle.answers.specs.declared.Answer.{Answer}
+use Rattle.answers.specs.declared.Answer.the-variants.{Done, Refused}
+use Rattle.answers.specs.declared.Refusal.the-variants.{Parameter, Length, Weight, Leaf, NotDue, Closed as ExchangeClosed, Repeated}
+use Rattle.answers.specs.declared.Refusal.{Refusal}
+use Rattle.answers.specs.Checks.{check, checks}
+use Rattle.answers.specs.Checks.Laws.{Done≢Refused, check-true, check-rest}
+use Rattle.parameters.specs.declared.Parameters.{Parameters}
+use Rattle.parameters.specs.Limits.{withinLimits}
+use Rattle.parameters.specs.Limits.Laws.{test-within}
+use Rattle.relation.specs.Key.{weightOf, vectorOf}
+use Rattle.exchange.specs.Layout.{leaves, message2Length, message5Length}
+use Rattle.exchange.specs.Values.{Key}
+use Rattle.layout.specs.Lent.{lent, Lent}
+use Rattle.layout.specs.Lent.Laws.{test-lent}
+use Rattle.arguments.specs.Arguments.{beginTests, argumentChecks}
+use Rattle.arguments.specs.Arguments.Laws.{begin-sized}
+use Rattle.prover_phase.specs.declared.Phase.{Phase}
+use Rattle.prover_phase.specs.declared.Phase.the-variants.{Fresh, Begun, Answered, Closed}
+use Rattle.calls.specs.Lengths.{keyLengths, beginLengths, pointsLengths, leafLengths}
+use Rattle.calls.specs.Prover.{Prover, Outcome, settle, isFresh, isBegun, isAnswered, heldX, intact, standing, closed, pointsDue, leafDue, repeated, beginChecks, begun, begin, pointsChecks, answered, points, leafChecks, opened, leaf}
+use Rattle.prover.specs.Facts.{isDone, outcomeOf, Ready, Begins, Answering, Opening}
+
+-- ---- checks behind others
+
+first-refused : (cs ds : List (Bool × Refusal)) (r : Refusal) → checks cs ≡ Refused r → checks (cs ++ ds) ≡ Refused r
+first-refused [] ds r e = absurd (Done≢Refused e)
+first-refused ((true, q) ∷ cs) ds r e = first-refused cs ds r e
+first-refused ((false, q) ∷ cs) ds r e = e
+
+first-passed : (cs ds : List (Bool × Refusal)) → checks cs ≡ Done → checks (cs ++ ds) ≡ checks ds
+first-passed [] ds e = refl
+first-passed ((true, q) ∷ cs) ds e = first-passed cs ds e
+first-passed ((false, q) ∷ cs) ds e = absurd (Done≢Refused (sym e))
+
+-- ---- the checks as rows
+
+module _ (hash : List ℕ → ℕ → List ℕ) (s : Prover) (work out : List ℕ) where
+  module _ (p : Parameters) (xA salt root : List ℕ) (key : Key) where
+    abbrev of-arguments : List (Bool × Refusal)
+    of-arguments = argumentChecks p xA salt root (key .matrix) (key .y) work out
+
+    joined : checks (of-arguments ++ ((not (repeated s salt root), Repeated) ∷ [])) ≡ beginChecks hash s p xA salt root key work out
+    unfolding argumentChecks beginTests beginChecks
+    joined = refl
+
+    pub begin-late : (a : Answer) (r : Refusal) → a ≡ checks of-arguments → a ≡ Refused r → a ≡ beginChecks hash s p xA salt root key work out
+    begin-late a r e f = f ∙ sym (first-refused of-arguments ((not (repeated s salt root), Repeated) ∷ []) r (sym e ∙ f)) ∙ joined
+
+    pub begin-row : (a : Answer) (again : Bool) → a ≡ checks of-arguments → a ≡ Done → repeated s salt root ≡ again
+        → check (not again) Repeated Done ≡ beginChecks hash s p xA salt root key work out
+    begin-row a again e f g = rw (← g) (sym (first-passed of-arguments ((not (repeated s salt root), Repeated) ∷ []) (sym e ∙ f)) ∙ joined)
+
+  module _ (m2 : List ℕ) (key : Key) where
+    pub points-row : (ended due lengths : Bool) → closed s ≡ ended → pointsDue s ≡ due
+        → allTrue (pointsLengths (s .parameters) m2 key work out) ≡ lengths
+        → check (not ended) ExchangeClosed (check due NotDue (check lengths Length Done)) ≡ pointsChecks hash s m2 key work out
+    unfolding pointsChecks
+    points-row ended due lengths e f g = rw (← e, ← f, ← g)
+
+  module _ (i : ℕ) (key : Key) where
+    pub leaf-row : (ended due lengths below : Bool) → closed s ≡ ended → leafDue s ≡ due
+        → allTrue (leafLengths (s .parameters) i key work out) ≡ lengths
+        → ltb i (leaves (s .parameters)) ≡ below
+        → check (not ended) ExchangeClosed (check due NotDue (check lengths Length (check below Leaf Done))) ≡ leafChecks hash s i key work out
+    unfolding leafChecks
+    leaf-row ended due lengths below e f g h = rw (← e, ← f, ← g, ← h)
+
+-- ---- refused, or carried out
+
+settle-refused : (a : Answer) (s : Prover) (out work : List ℕ) (done : Outcome) → isDone a ≡ false
+    → outcomeOf a s out work ≡ settle a s out work done
+settle-refused Done s out work done e = absurd (true≢false e)
+settle-refused (Refused r) s out work done e = refl
+
+pub done-is : (a : Answer) → isDone a ≡ true → a ≡ Done
+done-is Done e = refl
+done-is (Refused r) e = absurd (false≢true e)
+
+module _ (hash : List ℕ → ℕ → List ℕ) (s : Prover) (work out : List ℕ) (key : Key) (a : Answer) where
+  module _ (p : Parameters) (xA salt root : List ℕ) (e : a ≡ beginChecks hash s p xA salt root key work out) where
+    pub begin-refused : isDone a ≡ false → outcomeOf a s out work ≡ begin hash s p xA salt root key work out
+    unfolding begin
+    begin-refused h = rw (← e) (settle-refused a s out work (begun hash s p xA salt root key work out) h)
+
+    pub begin-done : isDone a ≡ true → begun hash s p xA salt root key work out ≡ begin hash s p xA salt root key work out
+    unfolding begin
+    begin-done h = rw (← e, done-is a h)
+
+  module _ (m2 : List ℕ) (e : a ≡ pointsChecks hash s m2 key work out) where
+    pub points-refused : isDone a ≡ false → outcomeOf a s out work ≡ points hash s m2 key work out
+    unfolding points
+    points-refused h = rw (← e) (settle-refused a s out work (answered hash s m2 key work out) h)
+
+    pub points-done : isDone a ≡ true → answered hash s m2 key work out ≡ points hash s m2 key work out
+    unfolding points
+    points-done h = rw (← e, done-is a h)
+
+  module _ (i : ℕ) (e : a ≡ leafChecks hash s i key work out) where
+    pub leaf-refused : isDone a ≡ false → outcomeOf a s out work ≡ leaf hash s i key work out
+    unfolding leaf
+    leaf-refused h = rw (← e) (settle-refused a s out work (opened hash s i key work out) h)
+
+    pub leaf-done : isDone a ≡ true → opened hash s i key work out ≡ leaf hash s i key work out
+    unfolding leaf
+    leaf-done h = rw (← e, done-is a h)
+
+-- ---- what the checks that passed say
+
+intact-ready : (s : Prover) → intact s ≡ true → Ready s
+unfolding intact
+intact-ready s e = record {
+  within = test-within (s .parameters) (and-left (withinLimits (s .parameters)) (leb (weightOf (heldX s)) (s .parameters .w)) e);
+  light = leb-true (weightOf (heldX s)) (s .parameters .w) (and-right (withinLimits (s .parameters)) (leb (weightOf (heldX s)) (s .parameters .w)) e);
+}
+
+-- where a call but begin is due, the session is intact
+due-intact : (due : Phase → Bool) → due Fresh ≡ false → due Closed ≡ false → (f : Phase) (whole : Bool)
+    → due (cond (isFresh f || whole) f Closed) ≡ true → whole ≡ true
+due-intact due e g f true h = refl
+due-intact due e g Fresh false h = absurd (true≢false (sym h ∙ e))
+due-intact due e g Begun false h = absurd (true≢false (sym h ∙ g))
+due-intact due e g Answered false h = absurd (true≢false (sym h ∙ g))
+due-intact due e g Closed false h = absurd (true≢false (sym h ∙ g))
+
+pub points-ready : (s : Prover) → pointsDue s ≡ true → Ready s
+unfolding pointsDue standing
+points-ready s e = intact-ready s (due-intact isBegun refl refl (s .phase) (intact s) e)
+
+pub leaf-ready : (s : Prover) → leafDue s ≡ true → Ready s
+unfolding leafDue standing
+leaf-ready s e = intact-ready s (due-intact isAnswered refl refl (s .phase) (intact s) e)
+
+lent-facts : (p : Parameters) (key : Key) (work : List ℕ) → allTrue (keyLengths p key work) ≡ true
+    → Lent p (length (key .matrix)) (length (key .y)) (length work)
+unfolding lent
+lent-facts p key work e = test-lent p (length (key .matrix)) (length (key .y)) (length work) e
+
+module _ (hash : List ℕ → ℕ → List ℕ) (s : Prover) (work out : List ℕ) (key : Key) where
+  module _ (p : Parameters) (xA salt root : List ℕ) where
+    pub begin-facts : (a : Answer) → a ≡ beginChecks hash s p xA salt root key work out → isDone a ≡ true → Begins p xA salt root (key .matrix) (key .y) work out
+    unfolding beginChecks beginTests
+    begin-facts a f h =
+        let e = sym f ∙ done-is a h in
+        let late = check-rest (withinLimits p) Parameter _ e in
+        record {
+          within = test-within p (check-true (withinLimits p) Parameter _ e);
+          sized = begin-sized p xA salt root (key .matrix) (key .y) work out (check-true (allTrue (beginLengths p xA salt root key work out)) Length _ late);
+          light =
+              leb-true _ (p .w)
+              (check-true (leb (weightOf (vectorOf (key .matrix) (key .y) xA)) (p .w)) Weight _
+              (check-rest (allTrue (beginLengths p xA salt root key work out)) Length _ late));
+        }
+
+  pub points-facts : (m2 : List ℕ) (a : Answer) → a ≡ pointsChecks hash s m2 key work out → isDone a ≡ true → Answering s m2 (key .matrix) (key .y) work out
+  unfolding pointsChecks
+  points-facts m2 a f h =
+      let e = sym f ∙ done-is a h in
+      let tests = pointsLengths (s .parameters) m2 key work out in
+      let due = check-rest (not (closed s)) ExchangeClosed _ e in
+      let sized = check-true (allTrue tests) Length Done (check-rest (pointsDue s) NotDue _ due) in
+      record {
+        ready = points-ready s (check-true (pointsDue s) NotDue _ due);
+        m2-is = eqb-true (length m2) (message2Length (s .parameters)) (all-at tests sized 0);
+        out-is = eqb-true (length out) 32 (all-at tests sized 1);
+        lent =
+            lent-facts (s .parameters) key work
+            (and-right (eqb (length out) 32) _ (and-right (eqb (length m2) (message2Length (s .parameters))) _ sized));
+      }
+
+  pub leaf-facts : (i : ℕ) (a : Answer) → a ≡ leafChecks hash s i key work out → isDone a ≡ true → Opening s i (key .matrix) (key .y) work out
+  unfolding leafChecks
+  leaf-facts i a f h =
+      let e = sym f ∙ done-is a h in
+      let tests = leafLengths (s .parameters) i key work out in
+      let due = check-rest (not (closed s)) ExchangeClosed _ e in
+      let late = check-rest (leafDue s) NotDue _ due in
+      let sized = check-true (allTrue tests) Length _ late in
+      record {
+        ready = leaf-ready s (check-true (leafDue s) NotDue _ due);
+        below = ltb-true i (leaves (s .parameters)) (check-true (ltb i (leaves (s .parameters))) Leaf Done (check-rest (allTrue tests) Length _ late));
+        out-is = eqb-true (length out) (message5Length (s .parameters) i) (all-at tests sized 0);
+        lent = lent-facts (s .parameters) key work (and-right (eqb (length out) (message5Length (s .parameters) i)) _ sized);
+      }

@@ -1,0 +1,24 @@
+-- Each return has the tests that the definition is made of.
+use mathlib.Core.Path.{sym, _∙_}
+use borrow.Author.Needs.{needs}
+use borrow.Author.Tests.{not-true, not-false}
+use Rattle.parameters.specs.Limits.Laws.{test-within}
+use Rattle.calls.specs.Verifier.{intact}
+use Rattle.verifier.proofs.checks.intact.Statement.{statement}
+use Rattle.verifier.proofs.checks.intact.Tie as tie
+
+returns : tie.Need-returns
+unfolding intact
+returns c = rw (sym (c .before .within-limits .ensures) ∙ not-true _ (c .if1 .taken))
+
+leaf-count-requires : tie.Need-leaf-count-requires
+leaf-count-requires c κs = test-within _ (sym (c .before .before .within-limits .ensures) ∙ not-false _ (c .before .if1 .left))
+
+returns-2 : tie.Need-returns-2
+unfolding intact
+returns-2 c =
+    let f = c .before .before in
+    rw (sym (f .before .within-limits .ensures) ∙ not-false _ (f .if1 .left), c .leaf-count .ensures)
+
+pub intact-spec : {M : Type 1} → statement M
+intact-spec = tie.close (tie.spec (λ c κs. search needs) returns (λ c. search needs) leaf-count-requires returns-2)
