@@ -15,7 +15,7 @@ static size_t m, k, w, d, t, n;
 static uint8_t *matrix, *y, *work, *states;
 static uint8_t x_a[255], x[255], salt[32], root[16], message1[64], message2[64], message3[32];
 static uint8_t *opening[2];
-static uint8_t prover[512], verifier[512];
+static uint8_t prover[512], answered[512], verifier[512];
 static uint8_t leaf[2] = { 77, 1 };
 static size_t prover_size, verifier_size, work_size;
 static uint32_t answer;
@@ -142,9 +142,10 @@ int main(int words, char **word) {
     fill("salt", salt, 32), fill("root", root, 16), fill("points", message2, 8 * t);
     unlock_prover_new(prover, prover_size);
     for (int i = 0; i < 5; i++) {
+        if (i == 2) memcpy(answered, prover, prover_size);
         if (i == 3) open_verifier(), check("verifier", 0);
         if (i == 4) {
-            prover[0] = 2; /* the same commitment answered again: what the extractor is for */
+            memcpy(prover, answered, prover_size); /* the same commitment opened again: what the extractor is for */
             open_leaf(1), check("leaf", 0);
         }
         if (!strcmp(word[6], "stack")) use_of_stack(names[i], calls[i]);
