@@ -1,4 +1,6 @@
 //! The checks of an opening, numbers 5, 6 and 7, and the strings hashed in making them.
+//!
+//! Number 6 is retired by request 05: it is still checked here, and no call ever answers it.
 
 use crate::challenge::Challenge;
 use crate::key::PublicKey;
@@ -80,13 +82,24 @@ pub fn recompute(parameters: &Parameters, key: PublicKey, messages: &Messages) -
     Recomputed { leaves, axes, strings }
 }
 
-/// Recomputes an opening and refuses it with 5, 6 or 7 unless it is accepted.
+/// Whether the sums of α, β and v over both parties agree on all axes.
+pub fn sums_agree(axes: &[Axis]) -> bool {
+    axes.iter().all(|axis| axis.sums() == axes[0].sums())
+}
+
+/// Document 01's three checks in their order: 5, the retired 6, 7.
+pub fn require_accepted(recomputed: &Recomputed, messages: &Messages) -> Result<(), Number> {
+    let strings = &recomputed.strings;
+    require(digest(&strings.commitments) == messages.h(), COMMITMENT_DIFFERS)?;
+    require(sums_agree(&recomputed.axes), SUMS_DIFFER)?;
+    require(digest(&strings.response) == messages.message_3, RESPONSE_DIFFERS)
+}
+
+/// Recomputes an opening and refuses it with 5 or 7 unless it is accepted. That its sums agree is asserted also where h
+/// differs.
 pub fn check(parameters: &Parameters, key: PublicKey, messages: &Messages) -> Result<Recomputed, Number> {
     let recomputed = recompute(parameters, key, messages);
-    let strings = &recomputed.strings;
-    let sums_agree = recomputed.axes.iter().all(|axis| axis.sums() == recomputed.axes[0].sums());
-    require(digest(&strings.commitments) == messages.h(), COMMITMENT_DIFFERS)?;
-    require(sums_agree, SUMS_DIFFER)?;
-    require(digest(&strings.response) == messages.message_3, RESPONSE_DIFFERS)?;
+    assert!(sums_agree(&recomputed.axes), "the sums of α, β and v agree on all axes");
+    require_accepted(&recomputed, messages)?;
     Ok(recomputed)
 }

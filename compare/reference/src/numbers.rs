@@ -15,7 +15,7 @@ pub const OVERWEIGHT: Number = 3;
 pub const LEAF_NOT_BELOW_N: Number = 4;
 /// The recomputed h differs from message 1's.
 pub const COMMITMENT_DIFFERS: Number = 5;
-/// The sums of α, β or v differ between axes.
+/// The sums of α, β or v differ between axes. Unused since request 05: they never do, and no call answers it.
 pub const SUMS_DIFFER: Number = 6;
 /// The recomputed h' differs from message 3's.
 pub const RESPONSE_DIFFERS: Number = 7;

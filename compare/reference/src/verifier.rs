@@ -81,7 +81,7 @@ impl Verifier {
         number_of(self.try_leaf(leaf))
     }
 
-    /// Takes message 5 and closes with accepted, 5, 6 or 7.
+    /// Takes message 5 and closes with accepted, 5 or 7.
     pub fn opening(&mut self, message_5: &[u8], lent: Lent) -> Number {
         number_of(self.try_opening(message_5, lent))
     }

@@ -69,13 +69,13 @@ fn verifier_scripts() {
             *counts.entry(effect.number).or_default() += 1;
             match &call {
                 VerifierCall::Begin { parameters: begun, .. } if effect.number == 0 => parameters = Some(*begun),
-                VerifierCall::Opening { lent, .. } if [0, 5, 6, 7].contains(&effect.number) => {
+                VerifierCall::Opening { lent, .. } if [0, 5, 7].contains(&effect.number) => {
                     assert_eq!(effect.work, cleared(&lent.work, &parameters.expect("begun")));
                 }
                 VerifierCall::Opening { lent, .. } => assert_eq!(effect.work, lent.work),
                 _ => (),
             }
-            if ![0, 5, 6, 7].contains(&effect.number) {
+            if ![0, 5, 7].contains(&effect.number) {
                 assert_eq!(verifier, before);
             }
         }
@@ -99,7 +99,7 @@ fn extractor_calls() {
             Answer::Unequal { .. } => panic!("two strings with one digest: {call:?}"),
         };
         *counts.entry(number).or_default() += 1;
-        let used = [0, 5, 6, 7].contains(&number);
+        let used = [0, 5, 7].contains(&number);
         let expected = if used { cleared(&call.lent.work, &call.parameters) } else { call.lent.work.clone() };
         assert_eq!(work, expected);
         assert_eq!(output == call.output, number != CARRIED_OUT);

@@ -1,5 +1,6 @@
 //! Passed and failed comparisons, and how often each number was answered.
 
+use reference::numbers::SUMS_DIFFER;
 use std::collections::BTreeMap;
 
 /// The counts of a run.
@@ -35,6 +36,14 @@ impl Count {
     /// How many calls were made of those whose name starts so.
     pub fn calls(&self, start: &str) -> usize {
         self.numbers.iter().filter(|(answer, _)| answer.starts_with(start)).map(|(_, times)| times).sum()
+    }
+
+    /// Settles that no call of any kind answered 6, the number that request 05 retired.
+    pub fn settle_number_6(&mut self) {
+        let retired = format!(" {SUMS_DIFFER}");
+        let answered: Vec<&String> = self.numbers.keys().filter(|answer| answer.ends_with(&retired)).collect();
+        let outcome = if answered.is_empty() { Ok(()) } else { Err(format!("answered: {answered:?}")) };
+        self.settle("number 6", outcome);
     }
 
     /// Prints how often each call answered each number.

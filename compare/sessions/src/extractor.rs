@@ -3,6 +3,7 @@
 use crate::count::Count;
 use crate::effects::{answer_number, make_extractor};
 use crate::size;
+use reference::extractor::Answer;
 use reference::sampling::calls::{ExtractorCall, LentBytes};
 use reference::sampling::exchanges::{honest_exchange, Exchange, Start};
 use reference::sampling::keys::{valid_key, Key};
@@ -11,7 +12,8 @@ use reference::sampling::scripts::extractor_call;
 use reference::sampling::Random;
 use std::ops::Range;
 
-fn compare(call: &ExtractorCall, count: &mut Count) -> Result<(), String> {
+/// Makes a call of both implementations; the answer.
+pub fn compare(call: &ExtractorCall, count: &mut Count) -> Result<Answer, String> {
     let (answer, work, output) = call.make();
     count.answer("extractor", answer_number(answer));
     let found = make_extractor(call);
@@ -24,7 +26,7 @@ fn compare(call: &ExtractorCall, count: &mut Count) -> Result<(), String> {
     if found.2 != output {
         return Err("another output".to_string());
     }
-    Ok(())
+    Ok(answer)
 }
 
 /// Random calls: honest and simulated exchanges, undamaged and damaged.
@@ -32,7 +34,7 @@ pub fn calls(seed: u64, numbers: Range<u64>, count: &mut Count) {
     for number in numbers {
         let mut random = Random::new(seed.wrapping_mul(1_000_081).wrapping_add(number));
         let outcome = compare(&extractor_call(&mut random, size(number)), count);
-        count.settle(&format!("extractor call {number}"), outcome);
+        count.settle(&format!("extractor call {number}"), outcome.map(|_| ()));
     }
 }
 
@@ -56,7 +58,7 @@ pub fn pairs(seed: u64, sets: usize, count: &mut Count) {
             let [one, other] = [first, second].map(|leaf| honest_exchange(&key, &start, leaf as u8));
             let call = call(&mut random, &key, one, other);
             let outcome = compare(&call, count);
-            count.settle(&format!("leaves {first} and {second} at {set:?}"), outcome);
+            count.settle(&format!("leaves {first} and {second} at {set:?}"), outcome.map(|_| ()));
         }
     }
 }

@@ -19,7 +19,7 @@ fn labelled(label: &str, length: usize) -> Vec<u8> {
 fn key(matrix: &[u8]) -> (Vec<u8>, Vec<u8>) {
     let mut x_a = labelled("x_A", 40);
     x_a.resize(SHIPPED.k, 0);
-    let image = PublicKey { matrix, y: &vec![0; SHIPPED.m - SHIPPED.k] }.matrix_times(&x_a);
+    let image = PublicKey { matrix, y: &[0; SHIPPED.m - SHIPPED.k] }.matrix_times(&x_a);
     let mut y = image;
     for (place, byte) in labelled("x_B", 39).into_iter().enumerate() {
         y[place] ^= byte;

@@ -6,6 +6,7 @@ pub mod damaged;
 pub mod effects;
 pub mod extractor;
 pub mod fixed;
+pub mod made_up;
 pub mod prover;
 pub mod verifier;
 

@@ -3,7 +3,7 @@
 //! sessions_comparison SEED     what the gate runs; the last line is 'N passed, M failed'
 
 use sessions_comparison::count::Count;
-use sessions_comparison::{damaged, extractor, fixed, prover, verifier};
+use sessions_comparison::{damaged, extractor, fixed, made_up, prover, verifier};
 
 fn main() {
     let seed = match std::env::args().nth(1).map(|word| word.parse()) {
@@ -27,5 +27,8 @@ fn main() {
     damaged::verifiers(seed, 6, &mut count);
     extractor::pairs(seed, 12, &mut count);
     extractor::calls(seed, 0..400, &mut count);
+    made_up::openings(seed, &mut count);
+    made_up::pairs(seed, &mut count);
+    count.settle_number_6();
     std::process::exit(count.finish());
 }

@@ -37,7 +37,7 @@ pub fn compare_one(
     let effect = call.make(expected);
     count.answer(name(call), effect.number);
     same(&effect, &make_verifier(call, found))?;
-    if ![0, 5, 6, 7].contains(&effect.number) {
+    if ![0, 5, 7].contains(&effect.number) {
         require(*found == before, "refused, but another session")?;
     } else {
         require(found.bytes() == expected.to_bytes(), "another session")?;
@@ -46,7 +46,7 @@ pub fn compare_one(
 }
 
 /// Makes the calls of both implementations, from one session; the numbers answered.
-fn compare(
+pub fn compare(
     calls: &[VerifierCall],
     mut found: unlock::verifier::Verifier,
     count: &mut Count,

@@ -14,7 +14,7 @@ use std::process::exit;
 const FAMILY: u64 = 0x50a4;
 
 /// A session's script, twenty of a prover's and twenty of a verifier's in turn, and a call of the extractor; to one in ten
-/// scripts also an exchange damaged in each of its fields.
+/// scripts also an exchange damaged in each of its fields. A call that answers 6 counts as a difference.
 fn script(seed: u64, count: &mut Count) {
     let number = seed..seed + 1;
     match seed / 20 % 2 {
@@ -25,6 +25,7 @@ fn script(seed: u64, count: &mut Count) {
     if seed.is_multiple_of(10) {
         verifier::damaged(seed, 1, count);
     }
+    count.settle_number_6();
 }
 
 fn summary(scripts: u64, count: &Count) -> String {

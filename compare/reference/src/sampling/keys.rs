@@ -1,4 +1,4 @@
-//! Keys: valid ones of every weight, and overweight ones.
+//! Keys: valid ones of every weight, overweight ones, and any bytes.
 
 use crate::key::PublicKey;
 use crate::parameters::Parameters;
@@ -56,6 +56,13 @@ pub fn key_of_vector(random: &mut Random, parameters: &Parameters, x: &[u8]) -> 
     // y = H'x_A + x_B is x_B + H'x_A, the vector's second part under y = x_B.
     let y = PublicKey { matrix: &matrix, y: x_b }.vector(x_a).split_off(parameters.k);
     Key { parameters: *parameters, matrix, y, x_a: x_a.to_vec() }
+}
+
+/// A key of any bytes: x has any weight.
+pub fn any_key(random: &mut Random, parameters: &Parameters) -> Key {
+    let matrix = random.bytes(parameters.matrix_bytes());
+    let y = random.bytes(parameters.syndrome_bytes());
+    Key { parameters: *parameters, matrix, y, x_a: random.bytes(parameters.k) }
 }
 
 /// A valid key: weight at most w, often exactly w.

@@ -34,6 +34,12 @@ pub fn random_set(random: &mut Random, greatest_m: usize, greatest_axes: usize) 
     Parameters::new(m, k, w, often_extreme(random, 1, greatest_axes), often_extreme(random, 1, 8))
 }
 
+/// For every D and every t a set with m at most this.
+pub fn sets_of_every_shape(random: &mut Random, greatest_m: usize) -> Vec<Parameters> {
+    let shapes = (1..=8).flat_map(|axes| (1..=8).map(move |t| (axes, t)));
+    shapes.map(|(axes, t)| Parameters { axes, t, ..random_set(random, greatest_m, 1) }).collect()
+}
+
 /// A set of which at least one parameter is outside its limits.
 pub fn outside_set(random: &mut Random) -> Parameters {
     let mut set = random_set(random, 255, 8);

@@ -17,13 +17,18 @@ use crate::tree::Tree;
 
 /// An exchange that is accepted for one leaf chosen beforehand: message 5 is random, h and h' are what follows from it.
 pub fn leaf_first(random: &mut Random, parameters: &Parameters, key: PublicKey, leaf: u8) -> Exchange {
-    let mut exchange = Exchange {
+    let exchange = Exchange {
         message_1: random.bytes(Parameters::MESSAGE_1_BYTES),
         message_2: random_message_2(random, parameters),
         message_3: random.bytes(Parameters::MESSAGE_3_BYTES),
         leaf,
         message_5: random.bytes(parameters.message_5_bytes(usize::from(leaf))),
     };
+    fitted(parameters, key, exchange)
+}
+
+/// An exchange with the h and the h' that follow from the rest of it, so that it is accepted.
+pub fn fitted(parameters: &Parameters, key: PublicKey, mut exchange: Exchange) -> Exchange {
     let strings = recompute(parameters, key, &exchange.messages()).strings;
     exchange.message_1 = message_1(&exchange.messages().salt(), &digest(&strings.commitments));
     exchange.message_3 = digest(&strings.response).to_vec();
