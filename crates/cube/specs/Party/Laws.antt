@@ -4,16 +4,16 @@
 --   party-ext                 a party is the same for two families that agree on its leaves
 --   disclosed-all             a party that does not hold the hidden leaf has all its leaves disclosed
 --   disclosed-replaced        the disclosed leaves and the value given for the hidden one are the party of the replaced family
+--   disclosed-sum             so the sum over the parties does not depend on the axis, even where no leaf has the hidden one's number
 --   balanced-zero             the balanced family sums to zero
 --   balanced-same             a family that sums to zero is balanced as it stands
 --   balanced-other            nothing but the value at h is changed
 --   balanced-ext              the value that stood at h does not count
 --   party-pairs               a party of pairs goes part by part
-use mathlib.Core.Path.{_≡_, sym, ap, ap₂, _∙_}
-use mathlib.Core.Bool.{Bool, true, false, _&&_, not, cond, and-true, and-false}
+use mathlib.Core.Path.{_≡_, refl, sym, ap, ap₂, _∙_}
+use mathlib.Core.Bool.{Bool, true, false, _&&_, not, cond}
 use Prim.Native.Nat.{ℕ, _<_}
 use native.Mathlib.Decide.{ℕ-discrete}
-use borrow.Author.Tests.{eq-eqb, ne-eqb}
 use lib.Dec.{eqb}
 use Rattle.cube.specs.Group.{Group2, zero-add, equal-of-sum, pairs}
 use Rattle.cube.specs.Sum.{sum}
@@ -100,69 +100,64 @@ module _ {A : Type 0} (G : Group2 A) where
         ∙ sum-single G (λ c. k) 0 (X .parties) (X .some))
         (sum-partition G (X .partyOf) f (X .parties) (X .leaves) (X .within))
 
-    pub party-ext : (k : A) (f g : ℕ → A) (c : ℕ) → ((i : ℕ) → i < X .leaves → X .partyOf i ≡ c → f i ≡ g i)
-        → party G X k f c ≡ party G X k g c
-    unfolding party memberSum
-    party-ext k f g c h =
-        ap (λ (x : A). cond (eqb c 0) k 𝟘 + x)
-        (sum-ext G (λ i. cond (eqb (X .partyOf i) c) (f i) 𝟘) (λ i. cond (eqb (X .partyOf i) c) (g i) 𝟘) (X .leaves)
-        (λ i l. go i l (ℕ-discrete (X .partyOf i) c)))
+    member-ext : (f g : ℕ → A) (c : ℕ) → ((i : ℕ) → i < X .leaves → X .partyOf i ≡ c → f i ≡ g i) → memberSum G X f c ≡ memberSum G X g c
+    unfolding memberSum
+    member-ext f g c h =
+        sum-ext G (λ i. cond (eqb (X .partyOf i) c) (f i) 𝟘) (λ i. cond (eqb (X .partyOf i) c) (g i) 𝟘) (X .leaves)
+        (λ i l. go i l (ℕ-discrete (X .partyOf i) c))
       where
         go : (i : ℕ) → i < X .leaves → Dec (X .partyOf i ≡ c)
             → cond (eqb (X .partyOf i) c) (f i) 𝟘 ≡ cond (eqb (X .partyOf i) c) (g i) 𝟘
         go i l (yes e) = ap (λ (x : A). cond (eqb (X .partyOf i) c) x 𝟘) (h i l e)
         go i l (no e) = cond-ne (X .partyOf i) c (f i) 𝟘 e ∙ sym (cond-ne (X .partyOf i) c (g i) 𝟘 e)
 
+    pub party-ext : (k : A) (f g : ℕ → A) (c : ℕ) → ((i : ℕ) → i < X .leaves → X .partyOf i ≡ c → f i ≡ g i)
+        → party G X k f c ≡ party G X k g c
+    unfolding party
+    party-ext k f g c h = ap (λ (x : A). cond (eqb c 0) k 𝟘 + x) (member-ext f g c h)
+
     -- ---- the hidden leaf
 
-    module _ (u : ℕ) (f : ℕ → A) (c : ℕ) where
-      hidden-term : (i : ℕ) → i ≡ u → cond (eqb (X .partyOf i) c && not (eqb i u)) (f i) 𝟘 ≡ 𝟘
-      hidden-term i q =
-          ap (λ (t : Bool). cond (eqb (X .partyOf i) c && not t) (f i) 𝟘) (eq-eqb i u q)
-          ∙ ap (λ (t : Bool). cond t (f i) 𝟘) (and-false (eqb (X .partyOf i) c))
-
-      other-term : (i : ℕ) → (i ≡ u → ⊥)
-          → cond (eqb (X .partyOf i) c && not (eqb i u)) (f i) 𝟘 ≡ cond (eqb (X .partyOf i) c) (f i) 𝟘
-      other-term i q =
-          ap (λ (t : Bool). cond (eqb (X .partyOf i) c && not t) (f i) 𝟘) (ne-eqb i u q)
-          ∙ ap (λ (t : Bool). cond t (f i) 𝟘) (and-true (eqb (X .partyOf i) c))
-
-      pub disclosed-all : (c ≡ X .partyOf u → ⊥) → disclosedSum G X u f c ≡ memberSum G X f c
-      unfolding disclosedSum memberSum
-      disclosed-all e =
-          sum-ext G (λ i. cond (eqb (X .partyOf i) c && not (eqb i u)) (f i) 𝟘) (λ i. cond (eqb (X .partyOf i) c) (f i) 𝟘) (X .leaves)
-          (λ i l. go i (ℕ-discrete i u))
+    module _ (u : ℕ) (f : ℕ → A) where
+      disclosed-member : (c : ℕ) → disclosedSum G X u f c ≡ memberSum G X (replaced u f 𝟘) c
+      unfolding disclosedSum memberSum replaced
+      disclosed-member c =
+          sum-ext G (λ i. cond (eqb (X .partyOf i) c && not (eqb i u)) (f i) 𝟘) _ (X .leaves) (λ i l. go (eqb (X .partyOf i) c) (eqb i u) (f i))
         where
-          go : (i : ℕ) → Dec (i ≡ u)
-              → cond (eqb (X .partyOf i) c && not (eqb i u)) (f i) 𝟘 ≡ cond (eqb (X .partyOf i) c) (f i) 𝟘
-          go i (yes q) = hidden-term i q ∙ sym (cond-ne (X .partyOf i) c (f i) 𝟘 (λ z. e (sym z ∙ ap (X .partyOf) q)))
-          go i (no q) = other-term i q
+          go : (a b : Bool) (x : A) → cond (a && not b) x 𝟘 ≡ cond a (cond b 𝟘 x) 𝟘
+          go true true x = refl
+          go true false x = refl
+          go false b x = refl
 
-      replaced-term : (x : A) (i : ℕ) → cond (eqb (X .partyOf i) c) (replaced u f x i) 𝟘
-          ≡ cond (eqb u i) (cond (eqb (X .partyOf i) c) x 𝟘) 𝟘 + cond (eqb (X .partyOf i) c && not (eqb i u)) (f i) 𝟘
+      pub disclosed-all : (c : ℕ) → (c ≡ X .partyOf u → ⊥) → disclosedSum G X u f c ≡ memberSum G X f c
       unfolding replaced
-      replaced-term x i = go (ℕ-discrete i u)
-        where
-          go : Dec (i ≡ u) → cond (eqb (X .partyOf i) c) (cond (eqb i u) x (f i)) 𝟘
-              ≡ cond (eqb u i) (cond (eqb (X .partyOf i) c) x 𝟘) 𝟘 + cond (eqb (X .partyOf i) c && not (eqb i u)) (f i) 𝟘
-          go (yes q) =
-              ap (λ (y : A). cond (eqb (X .partyOf i) c) y 𝟘) (cond-eq i u x (f i) q)
-              ∙ sym (ap₂ _+_ (cond-eq u i _ 𝟘 (sym q)) (hidden-term i q) ∙ G .add-zero _)
-          go (no q) =
-              ap (λ (y : A). cond (eqb (X .partyOf i) c) y 𝟘) (cond-ne i u x (f i) q)
-              ∙ sym (ap₂ _+_ (cond-ne u i _ 𝟘 (λ z. q (sym z))) (other-term i q) ∙ zero-add G _)
+      disclosed-all c e = disclosed-member c ∙ member-ext (replaced u f 𝟘) f c (λ i l q. cond-ne i u 𝟘 (f i) (λ z. e (sym q ∙ ap (X .partyOf) z)))
 
-      pub disclosed-replaced : (x : A) → u < X .leaves
+      pub disclosed-replaced : (c : ℕ) (x : A) → u < X .leaves
           → disclosedSum G X u f c + cond (eqb c (X .partyOf u)) x 𝟘 ≡ memberSum G X (replaced u f x) c
-      unfolding disclosedSum memberSum
-      disclosed-replaced x l =
-          G .add-comm _ _
-          ∙ ap (λ (y : A). y + disclosedSum G X u f c)
-          (ap (λ (t : Bool). cond t x 𝟘) (eqb-comm c (X .partyOf u))
-          ∙ sym (sum-single G (λ i. cond (eqb (X .partyOf i) c) x 𝟘) u (X .leaves) l))
-          ∙ sym (sum-add G (λ i. cond (eqb u i) (cond (eqb (X .partyOf i) c) x 𝟘) 𝟘)
-          (λ i. cond (eqb (X .partyOf i) c && not (eqb i u)) (f i) 𝟘) (X .leaves))
-          ∙ sym (sum-ext G (λ i. cond (eqb (X .partyOf i) c) (replaced u f x i) 𝟘) _ (X .leaves) (λ i h. replaced-term x i))
+      unfolding memberSum replaced
+      disclosed-replaced c x l =
+          ap₂ _+_ (disclosed-member c)
+          (ap (λ (t : Bool). cond t x 𝟘) (eqb-comm c (X .partyOf u)) ∙ sym (sum-single G (λ i. cond (eqb (X .partyOf i) c) x 𝟘) u (X .leaves) l))
+          ∙ sym (sum-add G (λ i. cond (eqb (X .partyOf i) c) (cond (eqb i u) 𝟘 (f i)) 𝟘) (λ i. cond (eqb u i) (cond (eqb (X .partyOf i) c) x 𝟘) 𝟘) (X .leaves))
+          ∙ sum-ext G _ (λ i. cond (eqb (X .partyOf i) c) (cond (eqb i u) x (f i)) 𝟘) (X .leaves)
+          (λ i h. rw (eqb-comm u i) (go (eqb (X .partyOf i) c) (eqb i u) (f i)))
+        where
+          go : (a b : Bool) (y : A) → cond a (cond b 𝟘 y) 𝟘 + cond b (cond a x 𝟘) 𝟘 ≡ cond a (cond b x y) 𝟘
+          go true true y = zero-add G x
+          go true false y = G .add-zero y
+          go false true y = G .add-zero 𝟘
+          go false false y = G .add-zero 𝟘
+
+      pub disclosed-sum : (k x : A) → X .partyOf u < X .parties
+          → sum G (λ c. (cond (eqb c 0) k 𝟘 + disclosedSum G X u f c) + cond (eqb c (X .partyOf u)) x 𝟘) (X .parties)
+          ≡ (k + sum G (replaced u f 𝟘) (X .leaves)) + x
+      unfolding party
+      disclosed-sum k x l =
+          sum-ext G _ (λ c. party G X k (replaced u f 𝟘) c + cond (eqb (X .partyOf u) c) x 𝟘) (X .parties)
+          (λ c h. ap₂ (λ (y : A) (t : Bool). (cond (eqb c 0) k 𝟘 + y) + cond t x 𝟘) (disclosed-member c) (eqb-comm c (X .partyOf u)))
+          ∙ sum-add G (party G X k (replaced u f 𝟘)) _ (X .parties)
+          ∙ ap₂ _+_ (party-sum k (replaced u f 𝟘)) (sum-single G (λ c. x) (X .partyOf u) (X .parties) l)
 
 -- ---- pairs
 
