@@ -7,7 +7,7 @@
  *
  * Sessions. A session lives in a buffer that the caller lends, of UNLOCK_PROVER_SIZE or UNLOCK_VERIFIER_SIZE bytes; a buffer of
  * another length gives UNLOCK_LENGTH. A refused call leaves the buffer as it was; of the
- * verifier's opening, UNLOCK_COMMITMENT, UNLOCK_SUMS and UNLOCK_RESPONSE close the exchange. Any bytes are some session, and a
+ * verifier's opening, UNLOCK_COMMITMENT and UNLOCK_RESPONSE close the exchange. Any bytes are some session, and a
  * damaged one is closed: it answers UNLOCK_CLOSED to every call but begin where its phase is none, or where it was begun and its
  * parameters are outside their limits, its x is too heavy or its leaf not below n. Its salt and root still give UNLOCK_REPEATED.
  *
@@ -36,8 +36,9 @@ extern "C" {
 #endif
 
 /*
- * What a call answers. A call that several refusals would fit gives the first of 12, 11, 1, 2, 3, 4, 13, 8, 9, 5, 6, 7. Without a
- * session 12 and 11 cannot be told: a session buffer of wrong length gives 2 before them, but at begin 1 before 2.
+ * What a call answers. A call that several refusals would fit gives the first of 12, 11, 1, 2, 3, 4, 13, 8, 9, 5, 7. Without a
+ * session 12 and 11 cannot be told: a session buffer of wrong length gives 2 before them, but at begin 1 before 2. No call answers
+ * 6, nor 10, which is the programs'.
  */
 enum {
     UNLOCK_DONE = 0,        /* carried out; of an opening: accepted */
@@ -46,7 +47,7 @@ enum {
     UNLOCK_WEIGHT = 3,      /* x has more than w nonzero entries */
     UNLOCK_LEAF = 4,        /* leaf number not below n */
     UNLOCK_COMMITMENT = 5,  /* the recomputed h differs */
-    UNLOCK_SUMS = 6,        /* sums of alpha, beta or v differ between axes */
+    UNLOCK_SUMS = 6,        /* unused: the sums of alpha, beta and v agree on all axes of every opening */
     UNLOCK_RESPONSE = 7,    /* the recomputed h' differs */
     UNLOCK_EXCHANGE = 8,    /* extractor: salt, h, points, multipliers or h' differ */
     UNLOCK_SAME_LEAF = 9,   /* extractor: same hidden leaf */

@@ -14,6 +14,7 @@ mod layout;
 mod messages;
 mod prover;
 mod sample;
+mod sums;
 mod verifier;
 
 use antt::Module;
@@ -46,7 +47,11 @@ fn crates() -> [Crate; 5] {
         one_axis_findings,
     ];
     let title = "m 5, k 3, w 2, D 2, t 1; x has one nonzero entry, so E is filled.";
-    let trial_axes = vec![messages::module("TwoAxes", title, &two_axes, 1, Extent::Messages), two_axes_findings];
+    let trial_axes = vec![
+        messages::module("TwoAxes", title, &two_axes, 1, Extent::Messages),
+        sums::module("Sums", "m 2, k 1, w 1, D 2, t 1.", &small_square, 10, 1),
+        two_axes_findings,
+    ];
     let calls = |name, module| Crate { name, given: &["Definitions"], modules: vec![module] };
     [
         Crate { name: "trial", given: &[], modules: trial },

@@ -72,7 +72,8 @@ fn message_facts(module: &mut Module, exchanges: &[Exchange; 2]) {
     }
 }
 
-fn verdict_fact(module: &mut Module, sample: &Sample, name: &str, exchange: &Exchange) {
+/// States the verdict of an exchange, which gets this name.
+pub fn verdict_fact(module: &mut Module, sample: &Sample, name: &str, exchange: &Exchange) {
     let term = module.exchange(exchange);
     module.value(name, "Exchange", &term);
     let number = verdict(&sample.key.parameters, sample.key.public(), exchange);

@@ -1,10 +1,10 @@
 -- Document 01's numbers of refusals and answers.
 --
--- refusalNumber r      'Numbers caused by the input' (1 to 10), 'Numbers caused by the state' (11 to 13)
+-- refusalNumber r      'Numbers caused by the input' (1 to 10), 'Numbers caused by the state' (11 to 13); 6 is unused
 -- answerNumber a       the number of the refusal, 0 where the call was carried out
 use Prim.Native.Nat.{ℕ}
 use Rattle.answers.specs.declared.Refusal.{Refusal}
-use Rattle.answers.specs.declared.Refusal.the-variants.{Parameter, Length, Weight, Leaf, Commitment, Sums, Response, Exchange, SameLeaf, Malformed, NotDue, Closed, Repeated}
+use Rattle.answers.specs.declared.Refusal.the-variants.{Parameter, Length, Weight, Leaf, Commitment, Response, Exchange, SameLeaf, Malformed, NotDue, Closed, Repeated}
 use Rattle.answers.specs.declared.Answer.{Answer}
 use Rattle.answers.specs.declared.Answer.the-variants.{Done, Refused}
 pub mod Laws
@@ -15,7 +15,6 @@ refusalNumber Length = 2
 refusalNumber Weight = 3
 refusalNumber Leaf = 4
 refusalNumber Commitment = 5
-refusalNumber Sums = 6
 refusalNumber Response = 7
 refusalNumber Exchange = 8
 refusalNumber SameLeaf = 9

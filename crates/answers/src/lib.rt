@@ -14,8 +14,7 @@ pub enum Refusal {
     Leaf,
     // 5: the recomputed h differs
     Commitment,
-    // 6: sums of α, β or v differ between axes
-    Sums,
+    // 6 is unused: the sums of α, β and v agree on all axes of every opening
     // 7: the recomputed h' differs
     Response,
     // 8, extractor: salt, h, points, multipliers or h' differ
@@ -48,7 +47,6 @@ pub fn refusal_number(r: Refusal) -> u8
         Refusal::Weight => 3,
         Refusal::Leaf => 4,
         Refusal::Commitment => 5,
-        Refusal::Sums => 6,
         Refusal::Response => 7,
         Refusal::Exchange => 8,
         Refusal::SameLeaf => 9,

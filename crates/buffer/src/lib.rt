@@ -12,8 +12,5 @@ pub fn is_judged(n: u8) -> bool
     if n == 5 {
         return true;
     }
-    if n == 6 {
-        return true;
-    }
     n == 7
 }

@@ -107,7 +107,7 @@ fn keep_opening(called: Called, session: &mut [u8]) -> u8
     n
 }
 
-// Judges message 5 and closes the exchange: 0 where the opening is accepted, else 5, 6 or 7.
+// Judges message 5 and closes the exchange: 0 where the opening is accepted, else 5 or 7.
 #[no_mangle]
 pub extern "C" fn unlock_verifier_opening(
     session: &mut [u8],

@@ -7,3 +7,4 @@ pub mod Acceptance
 pub mod Completeness
 pub mod Demand2
 pub mod Demand3
+pub mod Request05

@@ -13,19 +13,19 @@
 -- partyV               '.. and takes the v that makes the axis sum zero'
 -- announced j          what the parties of axis j announce
 -- responseString       layer 7's string
--- verdict              `Done` where the opening is accepted; else 5, 6 or 7, in this order
+-- verdict              `Done` where the opening is accepted; else 5 or 7, in this order. The sums agree on all axes of every opening (`sums-agree`)
 -- Accepted             'An opening is accepted exactly when the recomputed h is message 1's, the sums of α, β and v agree on all
 --                      axes, and the recomputed h' is message 3's'
 use mathlib.Core.Path.{_≡_}
-use mathlib.Core.Bool.{Bool, true, _&&_, not, cond}
+use mathlib.Core.Bool.{_&&_, not, cond}
 use mathlib.Core.List.{List, [], _∷_}
-use Prim.Native.Nat.{ℕ, zero, suc, _+_, _*_, _<_}
+use Prim.Native.Nat.{ℕ, _+_, _*_, _<_}
 use lib.Dec.{eqb}
 use lib.ListN.{getD, take, drop}
 use Rattle.lists.specs.Equal.{eqList}
 use Rattle.tower.specs.Field.{Point}
 use Rattle.answers.specs.declared.Answer.{Answer}
-use Rattle.answers.specs.declared.Refusal.the-variants.{Commitment, Sums, Response}
+use Rattle.answers.specs.declared.Refusal.the-variants.{Commitment, Response}
 use Rattle.answers.specs.Checks.{checks}
 use Rattle.parameters.specs.declared.Parameters.{Parameters}
 use Rattle.exchange.specs.Layout.{side, levels, leaves, digit, isLast}
@@ -116,16 +116,10 @@ module _ (hash : List ℕ → ℕ → List ℕ) (p : Parameters) (e : Exchange) 
     unfoldable pub responseString : List ℕ
     responseString = string7 (e .prefix) (λ j. hash (axisString p (e .prefix) j (announced key j)) 32) (p .d)
 
-    -- the sums on each axis below n are those on the first axis
-    unfoldable pub sumsAgree : ℕ → Bool
-    sumsAgree zero = true
-    sumsAgree (suc n) = sumsAgree n && eqList (sumsOf p (announced key n)) (sumsOf p (announced key 0))
-
     unfoldable pub verdict : Answer
     verdict =
         checks (
         (eqList (hash commitmentString 32) (e .h), Commitment)
-        ∷ (sumsAgree (p .d), Sums)
         ∷ (eqList (hash responseString 32) (e .message3), Response)
         ∷ []
         )

@@ -54,8 +54,7 @@ fn recompute(
     );
 }
 
-// The answer: 5 where the recomputed h differs from message 1's, 7 where the recomputed h' differs from message 3. Number 6
-// never occurs.
+// The answer: 5 where the recomputed h differs from message 1's, 7 where the recomputed h' differs from message 3.
 fn judge(
     p: Parameters,
     m1: &[u8],

@@ -29,7 +29,7 @@ use Rattle.exchange.specs.Leaf.{state, share, commitment}
 use Rattle.exchange.specs.Values.{xAOf, QOf, POf, aOf, bOf, cOf, pointOf, multiplierOf, F, imageOf, xOf, SOf, alpha, beta, partV}
 use Rattle.exchange.specs.Parties.{total, partyOf, announcedBytes, axisString, sumsOf}
 use Rattle.exchange.specs.Messages.{ownState, drawn, wanted, ownAux, ownShare, ownCommitment, message1, ownParty, ownAlpha, ownBeta, ownAnnounced, message3, message5}
-use Rattle.exchange.specs.Opening.{exchange, pathOf, commitmentOf, alphaOf, betaOf, auxOf, openedState, openedShare, leafString, leafCommitment, commitmentString, disclosed, partyAlpha, partyBeta, formulaV, partyV, announced, responseString, sumsAgree, verdict}
+use Rattle.exchange.specs.Opening.{exchange, pathOf, commitmentOf, alphaOf, betaOf, auxOf, openedState, openedShare, leafString, leafCommitment, commitmentString, disclosed, partyAlpha, partyBeta, formulaV, partyV, announced, responseString, verdict}
 use Rattle.exchange.specs.Extractor.{Finding, unequal, states, openedInBoth, compared, axis, auxFrom, stateFrom, output, stringAt, unequalAt, finding, extract}
 use Rattle.standin.specs.StandIn.{hex, absorb, emitted, standIn, weak, weakLeaves}
 
@@ -44,7 +44,7 @@ unfolding _⊕_ xorList eqList putAt zeroed eval plus scale times expand product
     total partyOf announcedBytes axisString sumsOf
     ownState drawn wanted ownAux ownShare ownCommitment message1 ownParty ownAlpha ownBeta ownAnnounced message3 message5
     exchange pathOf commitmentOf alphaOf betaOf auxOf openedState openedShare leafString leafCommitment commitmentString
-    disclosed partyAlpha partyBeta formulaV partyV announced responseString sumsAgree verdict
+    disclosed partyAlpha partyBeta formulaV partyV announced responseString verdict
     openedInBoth compared axis auxFrom stateFrom output stringAt unequalAt finding extract
     hex absorb emitted standIn weak weakLeaves
 definitions = 0

@@ -1,2 +1,3 @@
 pub mod TwoAxes
+pub mod Sums
 pub mod TwoAxesFindings

@@ -8,15 +8,17 @@
 -- noneOf ns f        no condition of ns holds
 -- none-first         the answer is 0 where no condition of ns holds
 -- First ns f n       n is one of ns, its condition holds, and none before it does
--- first-zero         the answer is 0 only where no condition of ns holds
+-- first-none         a number that is not one of ns is the answer only where it is 0 and no condition of ns holds
 -- first-is           any other answer is the first of ns whose condition holds
 -- answer-carried     so by document 01's order: 0 exactly when no condition holds
+-- six-unanswered     6 is never the answer
 -- answer-first       any other answer is the first number of the order whose condition holds
 use mathlib.Core.Path.{_≡_, refl, sym, ap, _∙_}
 use mathlib.Core.Bool.{Bool, true, false, _&&_, _||_, not, cond, false≢true, and-false}
 use mathlib.Core.List.{List, [], _∷_, _++_}
 use mathlib.Core.Logic.{_↔_}
 use Prim.Native.Nat.{ℕ}
+use native.Mathlib.Omega.{arith}
 use lib.Dec.{eqb}
 use borrow.Author.Tests.{eqb-true, eq-eqb}
 use Rattle.answers.specs.declared.Refusal.{Refusal}
@@ -72,14 +74,14 @@ pub record First (ns : List ℕ) (f : ℕ → Bool) (n : ℕ) : Type 0 where
   pub holds-here : f n ≡ true
   pub none-before : noneOf before f ≡ true
 
-pub first-zero : (ns : List ℕ) (f : ℕ → Bool) → noneOf ns (λ n. eqb n 0) ≡ true → firstOf ns f ≡ 0 → noneOf ns f ≡ true
+pub first-none : (ns : List ℕ) (f : ℕ → Bool) (m : ℕ) → noneOf ns (λ n. eqb n m) ≡ true → firstOf ns f ≡ m → (m ≡ 0) × (noneOf ns f ≡ true)
 unfolding firstOf noneOf
-first-zero [] f p e = refl
-first-zero (n ∷ ns) f p e = go (f n) refl (first-zero ns f (both-right (not (eqb n 0)) _ p)) e
+first-none [] f m p e = (sym e, refl)
+first-none (n ∷ ns) f m p e = go (f n) (first-none ns f m (both-right (not (eqb n m)) _ p)) e
   where
-    go : (b : Bool) → f n ≡ b → (firstOf ns f ≡ 0 → noneOf ns f ≡ true) → cond b n (firstOf ns f) ≡ 0 → (not b && noneOf ns f) ≡ true
-    go true q ih z = absurd (false≢true (sym (ap not (eq-eqb n 0 z)) ∙ both-left (not (eqb n 0)) _ p))
-    go false q ih z = ih z
+    go : (b : Bool) → (firstOf ns f ≡ m → (m ≡ 0) × (noneOf ns f ≡ true)) → cond b n (firstOf ns f) ≡ m → (m ≡ 0) × ((not b && noneOf ns f) ≡ true)
+    go true ih z = absurd (false≢true (sym (ap not (eq-eqb n m z)) ∙ both-left (not (eqb n m)) _ p))
+    go false ih z = ih z
 
 pub first-is : (ns : List ℕ) (f : ℕ → Bool) → (firstOf ns f ≡ 0 → ⊥) → First ns f (firstOf ns f)
 unfolding firstOf noneOf
@@ -144,7 +146,11 @@ picked-order cs e = picked-first order cs e
 
 pub answer-carried : (cs : Conditions) → answerOf cs ≡ 0 ↔ noneOf order (holds cs) ≡ true
 unfolding answerOf noneOf firstOf
-answer-carried cs = (first-zero order (holds cs) refl, none-first order (holds cs))
+answer-carried cs = (λ e. first-none order (holds cs) 0 refl e .1, none-first order (holds cs))
+
+pub six-unanswered : (cs : Conditions) → answerOf cs ≡ 6 → ⊥
+unfolding answerOf noneOf
+six-unanswered cs e = let z : _≡_ {A = ℕ} 6 0 = first-none order (holds cs) 6 refl e .0 in omega arith
 
 pub answer-first : (cs : Conditions) → (answerOf cs ≡ 0 → ⊥) → First order (holds cs) (answerOf cs)
 unfolding answerOf

@@ -8,7 +8,7 @@
 -- carriedOut m           the number is 0
 -- lastBegin h            the last begin carried out
 -- pointsSince, responseSince, leafSince   message 2, message 3 and the leaf of the call of that kind carried out since then
--- openedSince h          was an opening judged since then? Accepted, 5, 6 and 7 'close the verifier'
+-- openedSince h          was an opening judged since then? Accepted, 5 and 7 'close the verifier'
 -- ofExchange h m5 d f    f of the last begin's parameters and of the exchange that these calls' messages and message 5 are
 -- conditions h c         the conditions of document 01's numbers; the parameters are those of the last begin
 -- area h                 the named length of the work area

@@ -12,26 +12,25 @@ use native.Mathlib.Omega.{arith}
 use lib.ListN.{length, replicate}
 use Rattle.lists.specs.Checks.{allTrue}
 use Rattle.lists.specs.Part.Laws.{length-part, length-putAt}
-use Rattle.lists.specs.Equal.{eqList}
-use Rattle.answers.specs.Number.{answerNumber, refusalNumber}
+use Rattle.answers.specs.Number.{refusalNumber}
 use Rattle.answers.specs.Number.Laws.{refused-not-0}
 use Rattle.answers.specs.declared.Answer.{Answer}
 use Rattle.answers.specs.declared.Answer.the-variants.{Done, Refused}
-use Rattle.answers.specs.declared.Refusal.the-variants.{Length, Commitment, Sums, Response, NotDue, Closed as ExchangeClosed}
+use Rattle.answers.specs.declared.Refusal.the-variants.{Length, NotDue, Closed as ExchangeClosed}
 use Rattle.answers.specs.Checks.{check}
 use Rattle.parameters.specs.declared.Parameters.{Parameters}
 use Rattle.shake256.specs.Fips.{SHAKE256}
 use Rattle.exchange.specs.Values.{Key}
-use Rattle.exchange.specs.Opening.{Exchange, commitmentString, responseString, sumsAgree, verdict}
 use Rattle.verifier_phase.specs.declared.Phase.the-variants.{Chosen}
 use Rattle.calls.specs.Lengths.{openingLengths}
+use Rattle.calls.specs.Judging.Laws.{verdict-judged}
 use Rattle.verifier.specs.Laws.{begin-passed, points-passed, response-passed}
 use Rattle.calls.specs.Verifier.{Verifier, Outcome as Called, Judged as Opened, fresh, settle, closed, due, heldExchange, begin, beginChecks, begun, points, pointsChecks, pointed, response, responseChecks, responded, leaf, leafChecks, chosen, opening, openingChecks, judge, ended}
 use Rattle.stored.specs.Verifier.{verifierSize, verifierBytes, verifierFrom}
 use Rattle.stored.specs.Verifier.Laws.{VerifierLengths, length-verifierBytes, verifier-back}
 use Rattle.capi.specs.Session.{Kept, verifierNew}
 use Rattle.buffer.specs.Buffer.Laws.{fits-so, refused-stays}
-use Rattle.capi.specs.Verifier.{verifierAfter, verifierCall, verifierBegin, verifierPoints, verifierResponse, verifierLeaf, Judged, judges, openingAfter, verifierOpening}
+use Rattle.capi.specs.Verifier.{verifierAfter, verifierCall, verifierBegin, verifierPoints, verifierResponse, verifierLeaf, Judged, openingAfter, verifierOpening}
 
 pub record Follows (r : Kept) (o : Called) : Type 0 where
   pub number : r .number ≡ o .answer
@@ -43,17 +42,6 @@ pub record FollowsJudged (r : Judged) (o : Opened) : Type 0 where
   pub session : verifierFrom (r .session) ≡ o .verifier
   pub size : length (r .session) ≡ verifierSize
   pub work : r .work ≡ o .work
-
--- a verdict is 0, 5, 6 or 7
-verdict-judges : (hash : List ℕ → ℕ → List ℕ) (p : Parameters) (e : Exchange) (key : Key) → judges (answerNumber (verdict hash p e key)) ≡ true
-unfolding verdict
-verdict-judges hash p e key = go (eqList (hash (commitmentString hash p e) 32) (e .h)) (sumsAgree hash p e key (p .d)) (eqList (hash (responseString hash p e key) 32) (e .message3))
-  where
-    go : (x y z : Bool) → judges (answerNumber (check x Commitment (check y Sums (check z Response Done)))) ≡ true
-    go true true true = refl
-    go true true false = refl
-    go true false z = refl
-    go false y z = refl
 
 module _ (b : List ℕ) (size : length b ≡ verifierSize) where
   abbrev s : Verifier
@@ -146,7 +134,7 @@ module _ (b : List ℕ) (size : length b ≡ verifierSize) where
         (judge SHAKE256 s m5 key work (check x ExchangeClosed (check y NotDue (check z Length Done))))
     unfolding judge openingAfter
     judge-follows true true true =
-        let judged = verdict-judges SHAKE256 (s .parameters) (heldExchange s m5) key in
+        let judged = verdict-judged SHAKE256 (s .parameters) (heldExchange s m5) key in
         record {
           number = refl;
           session = rw judged (verifier-back (ended s) ended-lengths);

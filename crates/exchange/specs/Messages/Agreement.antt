@@ -173,7 +173,7 @@ module _ (hash : List ℕ → ℕ → List ℕ) (hash-length : (s : List ℕ) (n
   honest-accepted =
       accepted-when hash p e key (record {
         commitment = ap (λ (s : List ℕ). hash s 32) (commitmentString-is hash p x salt root key m2 u hash-length inside);
-        sums-same = λ j h. sums-agree hash p e key inside j 0;
+        sums-same = λ j h. sums-agree hash p e key j 0;
         response = response-is;
       })
 

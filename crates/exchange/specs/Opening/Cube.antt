@@ -5,7 +5,7 @@
 -- hats j                   α̂ and β̂ on axis j
 -- opened-announced         the verifier's α and β on an axis are those of the parties of the cube
 -- opened-totals            so are α̂ and β̂
--- opened-all               they are the sums over all leaves and the constants, on every axis
+-- opened-hats              on every axis they are the constants, the sums over the disclosed leaves, and the hidden leaf's, whatever message 4 holds
 -- opened-v-zero            v sums to zero on every axis
 -- opened-verified          the verifier's v is that of the cube
 use mathlib.Core.Path.{_≡_, refl, sym, ap, _∙_}
@@ -17,9 +17,8 @@ use Rattle.cube.specs.Group.{pair-path}
 use Rattle.cube.specs.Sum.{sum}
 use Rattle.cube.specs.Sum.Laws.{sum-ext, sum-pairs}
 use Rattle.cube.specs.Party.{party, memberSum, disclosedSum, replaced, balanced}
-use Rattle.cube.specs.Party.Laws.{party-pairs, disclosed-replaced, disclosed-all, balanced-ext, balanced-zero}
+use Rattle.cube.specs.Party.Laws.{party-pairs, disclosed-replaced, disclosed-all, disclosed-sum, balanced-ext, balanced-zero}
 use Rattle.cube.specs.Opening as cube
-use Rattle.cube.specs.Opening.Laws.{totals-all}
 use Rattle.tower.specs.Field.{Point}
 use Rattle.parameters.specs.declared.Parameters.{Parameters}
 use Rattle.exchange.specs.Layout.{side, leaves, digit}
@@ -75,11 +74,21 @@ module _ (hash : List ℕ → ℕ → List ℕ) (p : Parameters) (e : Exchange) 
         ∙ sum-ext GG (λ c. (partyAlpha hash p e key j c l, partyBeta hash p e key j c l)) (cube.announced GG G (axisPartition p j) kW kV openedW)
         (side p) (λ c h. opened-announced c)
 
-    -- the same on every axis
-    pub opened-all : hats j ≡ GG .add kW (sum GG openedW (leaves p))
-    opened-all = opened-totals ∙ totals-all GG G (axisPartition p j) kW kV openedW
+  abbrev disclosedAll : (Point × Point → Point) → Point
+  disclosedAll f = f kW ⊞ sum G (replaced (e .leaf) (λ i. f (leafW p key (e .message2) l (openedShare hash p e) i)) 𝟎) (leaves p)
 
   module _ (j : ℕ) where
+    pub opened-hats : hats j ≡ (disclosedAll (λ z. z .0) ⊞ alphaOf p e l, disclosedAll (λ z. z .1) ⊞ betaOf p e l)
+    unfolding partyAlpha partyBeta disclosed partyOf disclosedSum
+    opened-hats =
+        pair-path
+        (sum-ext G _ _ (side p) (λ c h. ap (λ (x : Point). x ⊞ cond (eqb c (digit p j (e .leaf))) (alphaOf p e l) 𝟎)
+        (alpha-total p key (e .message2) l (eqb c 0) (λ i. partyOf p j c i && not (eqb i (e .leaf))) (openedShare hash p e) (leaves p)))
+        ∙ disclosed-sum G (axisPartition p j) (e .leaf) _ (kW .0) (alphaOf p e l) (digit-lt p j (e .leaf)))
+        (sum-ext G _ _ (side p) (λ c h. ap (λ (x : Point). x ⊞ cond (eqb c (digit p j (e .leaf))) (betaOf p e l) 𝟎)
+        (beta-total p key (e .message2) l (eqb c 0) (λ i. partyOf p j c i && not (eqb i (e .leaf))) (openedShare hash p e) (leaves p)))
+        ∙ disclosed-sum G (axisPartition p j) (e .leaf) _ (kW .1) (betaOf p e l) (digit-lt p j (e .leaf)))
+
     partyV-balanced : (c : ℕ) → partyV hash p e key j c l ≡ balanced G (side p) (digit p j (e .leaf)) (λ c. formulaV hash p e key j c l) c
     unfolding partyV balanced
     partyV-balanced c = refl

@@ -31,7 +31,6 @@ use Rattle.exchange.specs.Values.{Key}
 use Rattle.exchange.specs.Parties.{total, partyOf}
 use Rattle.exchange.specs.Parties.Laws.{total-ext}
 use Rattle.exchange.specs.Opening.{Exchange, exchange, pathOf, commitmentOf, auxOf, openedState, openedShare, disclosed, commitmentString, responseString, verdict}
-use Rattle.exchange.specs.Opening.Laws.{verdict-is}
 use Rattle.leaves.specs.States.{stateAt}
 use Rattle.commitments.specs.Commitments.Laws.{commitments-string}
 use Rattle.parties.specs.Totals.{disclosedOf}
@@ -109,7 +108,6 @@ module _ (p : Parameters) (m1 m2 m3 : List ℕ) (leaf : ℕ) (m5 : List ℕ) whe
 
       pub verdict-made : judged p m1 m3 leaf (commitmentIn p m5) (auxIn p m5) (openedStates p (exchange m1 m2 m3 leaf m5)) (openedRows p (exchange m1 m2 m3 leaf m5) key)
           ≡ verdict SHAKE256 p (exchange m1 m2 m3 leaf m5) key
-      unfolding judged exchange
+      unfolding judged exchange verdict
       verdict-made =
           ap₂ (λ (h h′ : List ℕ). checks ((eqList h (drop 32 m1), Commitment) ∷ (eqList h′ m3, Response) ∷ [])) made-commitment (made-response key)
-          ∙ sym (verdict-is SHAKE256 p e key below)
