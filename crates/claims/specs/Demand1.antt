@@ -2,7 +2,7 @@
 -- two starts of a prover's exchange. Every other call gets the one number that the order of checks sets, and leaves session, output and work
 -- area as document 01 lays down.' That each method is its call's function on values, and ends, is the contracts of the methods.
 --
--- ByTheOrder    an answer by the order is the first number of document 01's one list whose condition holds, 0 exactly when none does
+-- ByTheOrder    an answer by the order is the first number of the one list (document 01's, 6 left out) whose condition holds, 0 exactly when none does
 -- Prover        the prover's calls, after any calls from a fresh session and told by these calls; what is left to them; and of any session
 -- Verifier      the verifier's calls likewise
 -- Extractor     the extractor's call

@@ -10,7 +10,7 @@
 -- answerWith6 cs         the answer by that order
 -- SameAnswers hash       'no verdict changes': every verdict, every opening of the verifier after any calls and every call of the extractor has
 --                        the number that it has with the check in its place
--- Unused hash            'the number stays unused': it is no refusal's, and no call of a session or of the extractor answers it
+-- Unused hash            'the number stays unused': it is no answer's, and no call answers it, of any session or of the extractor
 -- Request05              all of it
 -- request05              it holds
 use mathlib.Core.Path.{_≡_, refl, sym, ap, ap₂, _∙_}
@@ -22,9 +22,10 @@ use lib.Dec.{eqb}
 use Rattle.lists.specs.Equal.{eqList}
 use Rattle.lists.specs.Equal.Laws.{eqList-of}
 use Rattle.shake256.specs.Fips.{SHAKE256}
-use Rattle.answers.specs.declared.Refusal.{Refusal}
-use Rattle.answers.specs.Number.{refusalNumber, answerNumber}
-use Rattle.answers.specs.Number.Laws as numbers
+use Rattle.answers.specs.declared.Answer.{Answer}
+use Rattle.answers.specs.declared.Answer.the-variants.{Done, Refused}
+use Rattle.answers.specs.Number.{answerNumber}
+use Rattle.answers.specs.Number.Laws.{six-unused}
 use Rattle.answers.specs.Order.{Conditions, order, holds, firstOf, answerOf}
 use Rattle.answers.specs.Order.Laws.{six-unanswered}
 use Rattle.parameters.specs.declared.Parameters.{Parameters}
@@ -35,11 +36,12 @@ use Rattle.exchange.specs.Opening.Laws.{sums-agree}
 use Rattle.calls.specs.Held.{told}
 use Rattle.calls.specs.Judging.{openingConditions}
 use Rattle.calls.specs.Judging.Laws.{verdict-told}
+use Rattle.calls.specs.Prover.{Prover}
 use Rattle.calls.specs.Prover.History as prover
-use Rattle.calls.specs.Prover.Told.{number-told}
-use Rattle.calls.specs.Verifier.History as verifier
-use Rattle.calls.specs.Verifier.History.{Made, Call, openingCall, outcome, after, made, lastBegin, pointsSince, responseSince, leafSince, ofExchange, conditions, Seen}
-use Rattle.calls.specs.Verifier.Told.{told-by-calls}
+use Rattle.calls.specs.Prover.Settled.{checksOf, number-of}
+use Rattle.calls.specs.Verifier.{Verifier, settle, heldExchange, beginChecks, begin, pointsChecks, points, responseChecks, response, leafChecks, leaf, openingChecks, judge, opening}
+use Rattle.calls.specs.Verifier.History.{Made, Call, beginCall, pointsCall, responseCall, leafCall, openingCall, outcome, after, made, lastBegin, pointsSince, responseSince, leafSince, ofExchange, conditions}
+use Rattle.calls.specs.Verifier.Told.{number-told}
 use Rattle.calls.specs.Extractor.{Transcript, exchangeOf, extraction, numberOf}
 use Rattle.calls.specs.Extractor.Expected.{orThen, earlyConditions, expectedNumber}
 use Rattle.calls.specs.Extractor.Told as extractor
@@ -95,9 +97,9 @@ pub record SameAnswers (hash : List ℕ → ℕ → List ℕ) : Type 0 where
       (answerWith6 ((6, sumsDiffer hash p (exchangeOf t′) key) ∷ openingConditions hash p (exchangeOf t′) key))
 
 pub record Unused (hash : List ℕ → ℕ → List ℕ) : Type 0 where
-  pub refusal : (r : Refusal) → refusalNumber r ≡ 6 → ⊥
-  pub prover : (cs : List prover.Call) (c : prover.Call) → prover.outcome hash (prover.after hash cs) c .answer ≡ 6 → ⊥
-  pub verifier : (cs : List Call) (c : Call) → outcome hash (after hash cs) c .answer ≡ 6 → ⊥
+  pub answer : (a : Answer) → answerNumber a ≡ 6 → ⊥
+  pub prover : (s : Prover) (c : prover.Call) → prover.outcome hash s c .answer ≡ 6 → ⊥
+  pub verifier : (s : Verifier) (c : Call) → outcome hash s c .answer ≡ 6 → ⊥
   pub extractor : (p : Parameters) (t t′ : Transcript) (key : Key) (work out : List ℕ) → numberOf (extraction hash p t t′ key work out .answer) ≡ 6 → ⊥
 
 pub record Request05 : Type 0 where
@@ -141,16 +143,12 @@ module _ (hash : List ℕ → ℕ → List ℕ) where
   unfolding conditions holds openingConditions
   no-other h m5 key work = exchange-by (λ (cs : Conditions). holds cs 6 ≡ false) h m5 [] _ refl (λ p e. refl)
 
-  number : (cs : List Call) (c : Call) → outcome hash (after hash cs) c .answer ≡ answerOf (conditions hash (made hash cs) c)
-  unfolding verifier.expected
-  number cs c = ap (λ (o : Seen). o .number) (told-by-calls hash cs c)
-
   same-answers : SameAnswers hash
   unfolding openingConditions earlyConditions expectedNumber holds
   same-answers = record {
     verdicts = λ p e key. verdict-told hash p e key ∙ with-6 _ _ (never p e key) refl;
     verifier = λ cs m5 key work.
-        number cs (openingCall m5 key work) ∙ with-6 _ _ (never-since (made hash cs) m5 key) (no-other (made hash cs) m5 key work);
+        number-told hash cs (openingCall m5 key work) ∙ with-6 _ _ (never-since (made hash cs) m5 key) (no-other (made hash cs) m5 key work);
     extractor = λ p t t′ key work out.
         extractor.number-told hash p t t′ key work out
         ∙ ap₂ orThen (with-6 _ _ (never p (exchangeOf t) key) refl) (with-6 _ _ (never p (exchangeOf t′) key) refl);
@@ -163,12 +161,29 @@ module _ (hash : List ℕ → ℕ → List ℕ) where
       go true = g
       go false = f
 
+  settle-not : (a : Answer) (s next : Verifier) → settle a s next .answer ≡ 6 → ⊥
+  settle-not Done s next = six-unused Done
+  settle-not (Refused r) s next = six-unused (Refused r)
+
+  judge-not : (s : Verifier) (m5 : List ℕ) (key : Key) (work : List ℕ) (a : Answer) → judge hash s m5 key work a .answer ≡ 6 → ⊥
+  unfolding judge
+  judge-not s m5 key work Done = six-unused (verdict hash (s .parameters) (heldExchange s m5) key)
+  judge-not s m5 key work (Refused r) = six-unused (Refused r)
+
+  verifier-not : (s : Verifier) (c : Call) → outcome hash s c .answer ≡ 6 → ⊥
+  unfolding outcome begin points response leaf opening
+  verifier-not s (beginCall b) = settle-not (beginChecks (b .parameters) (b .message1)) s _
+  verifier-not s (pointsCall m2) = settle-not (pointsChecks s m2) s _
+  verifier-not s (responseCall m3) = settle-not (responseChecks s m3) s _
+  verifier-not s (leafCall i) = settle-not (leafChecks s i) s _
+  verifier-not s (openingCall m5 key work) = judge-not s m5 key work (openingChecks hash s m5 key work)
+
   unused : Unused hash
   unfolding expectedNumber
   unused = record {
-    refusal = numbers.six-unused;
-    prover = λ cs c e. six-unanswered _ (sym (number-told hash cs c) ∙ e);
-    verifier = λ cs c e. six-unanswered _ (sym (number cs c) ∙ e);
+    answer = six-unused;
+    prover = λ s c e. six-unused (checksOf hash s c) (sym (number-of hash s c) ∙ e);
+    verifier = verifier-not;
     extractor = λ p t t′ key work out e.
         not-then _ _ (six-unanswered _) (six-unanswered _) (sym (extractor.number-told hash p t t′ key work out) ∙ e);
   }

@@ -28,7 +28,7 @@ use Rattle.answers.specs.declared.Answer.{Answer}
 use Rattle.answers.specs.declared.Refusal.the-variants.{Commitment, Response}
 use Rattle.answers.specs.Checks.{checks}
 use Rattle.parameters.specs.declared.Parameters.{Parameters}
-use Rattle.exchange.specs.Layout.{side, levels, leaves, digit, isLast}
+use Rattle.exchange.specs.Layout.{side, levels, leaves, digit}
 use Rattle.exchange.specs.Strings.{string4, string5, string7}
 use Rattle.exchange.specs.Tree.{openedSeeds}
 use Rattle.exchange.specs.Leaf.{state, share}

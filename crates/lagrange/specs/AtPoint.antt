@@ -14,11 +14,9 @@ use Prim.Native.Nat.{ℕ, suc, _+_, _-_}
 use lib.ListN.{getD}
 use Rattle.lists.specs.Xor.{_⊕_}
 use Rattle.algebra.specs.Ring.{ops}
-use Rattle.algebra.specs.Polynomial.{pow, product}
-use Rattle.cube.specs.Sum.{sum}
+use Rattle.algebra.specs.Polynomial.{pow}
 use Rattle.bytefield.specs.Product.{byteOps}
 use Rattle.bytefield.specs.Inverse.{inverse}
-use Rattle.bytefield.specs.Byte.{byte}
 use Rattle.tower.specs.Point.{lone}
 use Rattle.tower.specs.Field.{Point, point}
 use Rattle.exchange.specs.Reading.{points, _⊞_, _⊠_}

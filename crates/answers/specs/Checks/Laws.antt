@@ -3,7 +3,6 @@
 -- Done≢Refused              a call is not both carried out and refused
 -- check-true, check-rest    where a row of checks passes, its first check does, and the rest does
 -- check-passed              a check that holds leaves what the rest says
--- check-failed              a check that fails gives its refusal
 use mathlib.Core.Path.{_≡_, refl, sym}
 use mathlib.Core.Bool.{Bool, true, false}
 use Prim.Native.Nat.{ℕ}
@@ -26,6 +25,3 @@ check-rest false r rest e = absurd (Done≢Refused (sym e))
 
 pub check-passed : (b : Bool) (r : Refusal) (rest : Answer) → b ≡ true → check b r rest ≡ rest
 check-passed b r rest e = rw e
-
-pub check-failed : (b : Bool) (r : Refusal) (rest : Answer) → b ≡ false → check b r rest ≡ Refused r
-check-failed b r rest e = rw e

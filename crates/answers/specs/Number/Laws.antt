@@ -4,7 +4,8 @@
 -- refusal-back, answer-back     the number of an answer gives the answer again
 -- refusals-apart, answers-apart different answers have different numbers
 -- number-from                   the number of a refusal is that of the refusal of the number
--- refused-not-0, six-unused     a refusal's number is not 0, and not 6
+-- refused-not-0                 a refusal's number is not 0
+-- six-unused                    no answer has the number 6
 use mathlib.Core.Path.{_≡_, refl, sym, ap, _∙_}
 use mathlib.Core.Bool.{cond}
 use Prim.Native.Nat.{ℕ}
@@ -57,8 +58,9 @@ number-from r n e = ap (λ (m : ℕ). refusalNumber (refusalFrom m)) (sym e) ∙
 pub refused-not-0 : (r : Refusal) → refusalNumber r ≡ 0 → ⊥
 refused-not-0 r e = let z : _≡_ {A = ℕ} 13 0 = number-from r 0 e in omega arith
 
-pub six-unused : (r : Refusal) → refusalNumber r ≡ 6 → ⊥
-six-unused r e = let z : _≡_ {A = ℕ} 13 6 = number-from r 6 e in omega arith
+pub six-unused : (a : Answer) → answerNumber a ≡ 6 → ⊥
+six-unused Done e = omega arith
+six-unused (Refused r) e = let z : _≡_ {A = ℕ} 13 6 = number-from r 6 e in omega arith
 
 answer-back : (a : Answer) → answerFrom (answerNumber a) ≡ a
 answer-back Done = refl

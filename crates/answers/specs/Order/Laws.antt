@@ -21,6 +21,7 @@ use Prim.Native.Nat.{ℕ}
 use native.Mathlib.Omega.{arith}
 use lib.Dec.{eqb}
 use borrow.Author.Tests.{eqb-true, eq-eqb}
+use Rattle.lists.specs.Checks.{and-left, and-right}
 use Rattle.answers.specs.declared.Refusal.{Refusal}
 use Rattle.answers.specs.Number.{refusalNumber, answerNumber}
 use Rattle.answers.specs.Checks.{checks}
@@ -38,14 +39,6 @@ unfoldable pub picked : List ℕ → List (Bool × Refusal) → Bool
 picked ns [] = true
 picked [] (c ∷ cs) = false
 picked (n ∷ ns) (c ∷ cs) = absent n cs && cond (eqb n (refusalNumber (c .1))) (picked ns cs) (picked ns (c ∷ cs))
-
-both-left : (a b : Bool) → (a && b) ≡ true → a ≡ true
-both-left true b e = refl
-both-left false b e = e
-
-both-right : (a b : Bool) → (a && b) ≡ true → b ≡ true
-both-right true b e = e
-both-right false b e = absurd (false≢true e)
 
 -- ---- the first number
 
@@ -77,10 +70,10 @@ pub record First (ns : List ℕ) (f : ℕ → Bool) (n : ℕ) : Type 0 where
 pub first-none : (ns : List ℕ) (f : ℕ → Bool) (m : ℕ) → noneOf ns (λ n. eqb n m) ≡ true → firstOf ns f ≡ m → (m ≡ 0) × (noneOf ns f ≡ true)
 unfolding firstOf noneOf
 first-none [] f m p e = (sym e, refl)
-first-none (n ∷ ns) f m p e = go (f n) (first-none ns f m (both-right (not (eqb n m)) _ p)) e
+first-none (n ∷ ns) f m p e = go (f n) (first-none ns f m (and-right (not (eqb n m)) _ p)) e
   where
     go : (b : Bool) → (firstOf ns f ≡ m → (m ≡ 0) × (noneOf ns f ≡ true)) → cond b n (firstOf ns f) ≡ m → (m ≡ 0) × ((not b && noneOf ns f) ≡ true)
-    go true ih z = absurd (false≢true (sym (ap not (eq-eqb n m z)) ∙ both-left (not (eqb n m)) _ p))
+    go true ih z = absurd (false≢true (sym (ap not (eq-eqb n m z)) ∙ and-left (not (eqb n m)) _ p))
     go false ih z = ih z
 
 pub first-is : (ns : List ℕ) (f : ℕ → Bool) → (firstOf ns f ≡ 0 → ⊥) → First ns f (firstOf ns f)
@@ -136,7 +129,7 @@ picked-first [] [] e = sym (none-first [] (holds []) (none-empty []))
 picked-first (n ∷ ns) [] e = sym (none-first (n ∷ ns) (holds []) (none-empty (n ∷ ns)))
 picked-first [] (c ∷ cs) e = absurd (false≢true e)
 picked-first (n ∷ ns) ((b, r) ∷ cs) e =
-    step n ns r cs (both-left (absent n cs) _ e) (eqb n (refusalNumber r)) b refl (both-right (absent n cs) _ e) (picked-first ns cs) (picked-first ns ((b, r) ∷ cs))
+    step n ns r cs (and-left (absent n cs) _ e) (eqb n (refusalNumber r)) b refl (and-right (absent n cs) _ e) (picked-first ns cs) (picked-first ns ((b, r) ∷ cs))
 
 pub picked-order : (cs : List (Bool × Refusal)) → picked order cs ≡ true → answerNumber (checks cs) ≡ answerOf (told cs)
 unfolding answerOf

@@ -7,7 +7,7 @@
 --                      the axis
 -- expected             'A refused call writes no output'; 'Once all checks that stand before 5 in the order are past, the named length of the work
 --                      area ends as zeros, accepted or not; before that it is untouched'
-use mathlib.Core.Bool.{Bool, _&&_, not, cond}
+use mathlib.Core.Bool.{_&&_, not, cond}
 use mathlib.Core.List.{List, [], _∷_, _++_}
 use Prim.Native.Nat.{ℕ}
 use lib.Dec.{eqb, ltb}

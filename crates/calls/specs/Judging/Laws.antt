@@ -10,7 +10,7 @@ use Rattle.lists.specs.Equal.{eqList}
 use Rattle.answers.specs.declared.Refusal.the-variants.{Commitment, Response}
 use Rattle.answers.specs.Number.{answerNumber}
 use Rattle.answers.specs.Checks.{checks}
-use Rattle.answers.specs.Order.{order, answerOf}
+use Rattle.answers.specs.Order.{answerOf}
 use Rattle.answers.specs.Order.Laws.{told, absent, picked, picked-order}
 use Rattle.parameters.specs.declared.Parameters.{Parameters}
 use Rattle.exchange.specs.Values.{Key}

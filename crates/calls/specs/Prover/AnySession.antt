@@ -9,7 +9,7 @@
 -- damaged, damaged-closed     a session that is neither fresh nor intact counts as closed and answers every other call with 12
 -- held-repeats                13 wherever the session is not fresh, damaged or not
 use mathlib.Core.Path.{_≡_, refl, sym, ap, _∙_}
-use mathlib.Core.Bool.{Bool, true, false, _&&_, not, cond, false≢true, true≢false}
+use mathlib.Core.Bool.{Bool, true, false, _&&_, cond, false≢true, true≢false}
 use mathlib.Core.List.{List, [], _∷_}
 use Prim.Native.Nat.{ℕ, _+_, _≤_}
 use native.Mathlib.Omega.{arith}

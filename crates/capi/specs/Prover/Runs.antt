@@ -16,7 +16,7 @@ use native.Mathlib.Omega.{arith}
 use lib.Dec.{eqb}
 use lib.ListN.{length}
 use Rattle.shake256.specs.Fips.{SHAKE256}
-use Rattle.calls.specs.Prover.{Prover, Outcome as Called}
+use Rattle.calls.specs.Prover.{Prover}
 use Rattle.calls.specs.Prover.History.{Call, beginCall, pointsCall, leafCall, outcome, after, made, Seen, seen, expected}
 use Rattle.calls.specs.Prover.Told.{told-by-calls}
 use Rattle.calls.specs.Prover.AnySession.{isBegin, isPoints, isLeaf, carriedIn, at-most-one}

@@ -23,7 +23,7 @@ use Rattle.calls.specs.Verifier.Runs.{AcceptedAfter, accepted-exactly}
 use Rattle.stored.specs.Verifier.{verifierSize, verifierFrom}
 use Rattle.capi.specs.Session.{Kept, verifierNew}
 use Rattle.capi.specs.Verifier.{verifierBegin, verifierPoints, verifierResponse, verifierLeaf, Judged, judged, verifierOpening}
-use Rattle.capi.specs.Verifier.Follows.{Follows, FollowsJudged, new-follows, new-size, begin-follows, points-follows, response-follows, leaf-follows, opening-follows}
+use Rattle.capi.specs.Verifier.Follows.{Follows, new-follows, new-size, begin-follows, points-follows, response-follows, leaf-follows, opening-follows}
 
 abbrev plain : Kept → Judged
 plain r = judged (r .number) (r .session) []

@@ -26,7 +26,7 @@ use Rattle.relation.specs.Key.{vectorOf}
 use Rattle.exchange.specs.Layout.{side, leaves}
 use Rattle.exchange.specs.Sequences.Laws.{joined-ext}
 use Rattle.exchange.specs.Strings.{string, string6, string7}
-use Rattle.exchange.specs.Reading.{points, _⊞_, 𝟎}
+use Rattle.exchange.specs.Reading.{_⊞_, 𝟎}
 use Rattle.exchange.specs.Reading.Laws.{encode-ext}
 use Rattle.exchange.specs.Values.{Key, alpha, beta, partV}
 use Rattle.exchange.specs.Values.Relation.{totalV, totalV-zero}

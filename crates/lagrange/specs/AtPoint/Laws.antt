@@ -22,8 +22,8 @@ use Rattle.bytefield.specs.Product.{_⊗_, byteOps}
 use Rattle.bytefield.specs.Product.Laws.{bytefield, one-⊗}
 use Rattle.bytefield.specs.Inverse.{squares, inverse}
 use Rattle.bytefield.specs.Inverse.Laws.{⊗-inverse, inverse-lt}
-use Rattle.bytefield.specs.Byte.{byte, byteInverse, byte-inverse}
-use Rattle.tower.specs.Field.{Point, point, point-lone, loneOf}
+use Rattle.bytefield.specs.Byte.{byteInverse, byte-inverse}
+use Rattle.tower.specs.Field.{Point, point-lone, loneOf}
 use Rattle.polynomial.specs.Interpolant.{ascending, interpolantOf, vanishingOf}
 use Rattle.exchange.specs.Reading.{points, value, _⊞_, _⊠_}
 use Rattle.exchange.specs.Reading.Laws.{lone-homomorphism}

@@ -6,7 +6,7 @@
 -- made-rows            what the parties of every axis announce
 -- made-response        the digest of layer 7
 -- verdict-made         the verdict, from the comparisons of the two digests
-use mathlib.Core.Path.{_≡_, refl, sym, ap, ap₂, _∙_}
+use mathlib.Core.Path.{_≡_, refl, ap, ap₂, _∙_}
 use mathlib.Core.Bool.{not}
 use mathlib.Core.List.{List, [], _∷_}
 use Prim.Native.Nat.{ℕ, zero, suc, _+_, _-_, _*_, _<_}

@@ -8,7 +8,7 @@
 -- moves              every call at every stage
 -- opening-told, opening-refused   the opening's number after a leaf was chosen, where the lengths pass, and where they do not
 use mathlib.Core.Path.{_≡_, refl, sym, ap, _∙_}
-use mathlib.Core.Bool.{Bool, true, false, not, and-false, true≢false}
+use mathlib.Core.Bool.{Bool, true, false, and-false, true≢false}
 use mathlib.Core.List.{List, [], _∷_}
 use Prim.Native.Nat.{ℕ}
 use lib.Dec.{eqb, ltb}
@@ -31,7 +31,7 @@ use Rattle.calls.specs.Judging.{openingConditions, judged}
 use Rattle.calls.specs.Judging.Laws.{verdict-told, verdict-judged}
 use Rattle.calls.specs.Verifier as verifier
 use Rattle.calls.specs.Verifier.{fresh, intact, standing, closed, due, heldExchange, judge}
-use Rattle.calls.specs.Verifier.History.{Begin, Call, beginCall, pointsCall, responseCall, leafCall, openingCall, lentWork, openingIn, Called, Made, outcome, after, made, begun, pointed, responded, chosen, opened, lastBegin, pointsSince, responseSince, leafSince, openedSince, conditions, ofExchange, seen, expected, area}
+use Rattle.calls.specs.Verifier.History.{Begin, Call, beginCall, pointsCall, responseCall, leafCall, openingCall, lentWork, openingIn, Called, Made, outcome, begun, pointed, responded, chosen, opened, lastBegin, pointsSince, responseSince, leafSince, openedSince, conditions, ofExchange, seen, expected, area}
 use Rattle.calls.specs.Verifier.Since.{counted, since}
 use Rattle.calls.specs.Verifier.Reached.{Telling, telling, next, session, Passed, Stage, unbegun, atBegin, atPoints, atResponse, atLeaf, atOpening, at}
 
