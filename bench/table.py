@@ -3,6 +3,7 @@
 ratio         what, against what, ratio of the times
 time          set, call, ratio of the times to the second implementation
 instructions  set, call, instructions, those of the permutation, permutations
+products      set, call, products of the points field that its evaluations make
 stack         set, call, bytes
 size          set, what a caller lends, bytes
 code          bytes of code and constants, bytes of variables
@@ -10,7 +11,7 @@ code          bytes of code and constants, bytes of variables
 import sys
 
 CALLS = ["begin", "points", "leaf", "opening", "extract"]
-HEAD = ["call", "time to reference", "instructions", "outside permutation", "permutations", "stack"]
+HEAD = ["call", "time to reference", "instructions", "outside permutation", "permutations", "products", "stack"]
 
 
 def print_rows(rows):
@@ -24,9 +25,9 @@ def number(word):
 
 
 def call_row(call, figures):
-    time, (total, inside, times), stack = (figures[kind, call] for kind in ("time", "instructions", "stack"))
+    time, (total, inside, times), products, stack = (figures[kind, call] for kind in ("time", "instructions", "products", "stack"))
     outside = 100 * (int(total) - int(inside)) / int(inside)
-    return [call, time[0], number(total), f"{outside:.1f} %", number(times), number(stack[0])]
+    return [call, time[0], number(total), f"{outside:.1f} %", number(times), number(products[0]), number(stack[0])]
 
 
 lines = [line.rstrip("\n").split("\t") for line in sys.stdin]

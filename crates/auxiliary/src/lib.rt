@@ -17,10 +17,10 @@ fn products(p: Parameters, drawn: &[u8], out: &mut [u8], log: &[u8; 256], pow: &
 {
     let mut l = 0;
     while l < p.t {
-        let a = lagrange::point_at(drawn, 4 * l);
-        let b = lagrange::point_at(drawn, 4 * p.t + 4 * l);
+        let a = encoding::point_at(drawn, 4 * l);
+        let b = encoding::point_at(drawn, 4 * p.t + 4 * l);
         let c = points::product(a, b, log, pow);
-        lagrange::put_point(out, 4 * l, c);
+        encoding::put_point(out, 4 * l, c);
         l += 1;
     }
 }

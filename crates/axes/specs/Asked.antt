@@ -2,9 +2,9 @@
 --
 -- RowsAsked          all that the rows of all axes take: D + 1 shares, message 2, the key, α and β of the hidden leaf, room for the rows
 -- AxisAsked          what the rows of an axis take: that of a share (RowAsked of crate partyrows), also the row of the sum of all disclosed leaves, and α and β of the hidden leaf
--- TotalAsked         the D + 1 shares with their blocks, the constants, and α and β of the hidden leaf
+-- TotalAsked         the D + 1 shares with their blocks, and α and β of the hidden leaf
 -- AxesAsked          the same with α̂ and β̂, and the row of the sum of all disclosed leaves
--- EvaluateAsked      the D + 1 shares, message 2 and the key, and room for the constants and the blocks
+-- EvaluateAsked      the D + 1 shares, message 2 and the key, and room for the blocks
 -- RoomAsked          room for what is made once for all axes
 use mathlib.Core.Path.{_≡_}
 use mathlib.Core.List.{List}
@@ -25,34 +25,31 @@ pub record RowsAsked (p : Parameters) (parts m2 matrix y hidden rows : List ℕ)
   pub sized-hidden : length hidden ≡ 8 * p .t
   pub sized-rows : length rows ≡ p .d * (24 * p .t)
 
-pub record AxisAsked (p : Parameters) (s block constants sums total hidden : List ℕ) : Type 0 where
-  pub row : RowAsked p s block constants sums
+pub record AxisAsked (p : Parameters) (s block sums total hidden : List ℕ) : Type 0 where
+  pub row : RowAsked p s block sums
   pub sized-total : length total ≡ 12 * p .t
   pub sized-hidden : length hidden ≡ 8 * p .t
 
-pub record TotalAsked (p : Parameters) (parts blocks constants hidden : List ℕ) : Type 0 where
+pub record TotalAsked (p : Parameters) (parts blocks hidden : List ℕ) : Type 0 where
   pub within : Within p
   pub sized-parts : length parts ≡ (p .d + 1) * shareLength p
   pub sized-blocks : length blocks ≡ (p .d + 1) * (12 * p .t)
-  pub sized-constants : length constants ≡ 8 * p .t
   pub sized-hidden : length hidden ≡ 8 * p .t
 
-pub record AxesAsked (p : Parameters) (parts blocks constants sums total hidden : List ℕ) : Type 0 where
-  pub of : TotalAsked p parts blocks constants hidden
+pub record AxesAsked (p : Parameters) (parts blocks sums total hidden : List ℕ) : Type 0 where
+  pub of : TotalAsked p parts blocks hidden
   pub sized-sums : length sums ≡ 8 * p .t
   pub sized-total : length total ≡ 12 * p .t
 
-pub record EvaluateAsked (p : Parameters) (parts m2 matrix y constants blocks : List ℕ) : Type 0 where
+pub record EvaluateAsked (p : Parameters) (parts m2 matrix y blocks : List ℕ) : Type 0 where
   pub within : Within p
   pub sized-parts : length parts ≡ (p .d + 1) * shareLength p
   pub sized-m2 : length m2 ≡ message2Length p
   pub sized-matrix : length matrix ≡ (p .m - p .k) * p .k
   pub sized-y : length y ≡ p .m - p .k
-  pub sized-constants : length constants ≡ 8 * p .t
   pub sized-blocks : length blocks ≡ (p .d + 1) * (12 * p .t)
 
-pub record RoomAsked (p : Parameters) (constants blocks sums total : List ℕ) : Type 0 where
-  pub sized-constants : length constants ≡ 8 * p .t
+pub record RoomAsked (p : Parameters) (blocks sums total : List ℕ) : Type 0 where
   pub sized-blocks : length blocks ≡ (p .d + 1) * (12 * p .t)
   pub sized-sums : length sums ≡ 8 * p .t
   pub sized-total : length total ≡ 12 * p .t

@@ -1,6 +1,6 @@
 -- What the code makes of all axes is what their parties announce.
 --
--- Evaluated p key m2 parts blocks constants   the blocks of the D + 1 shares, and the constants
+-- Evaluated p key m2 parts blocks   the blocks of the D + 1 shares, with the constants
 -- points-of                  bytes are the points that are read from them
 -- hidden-some, hidden-most   a party holds the hidden leaf exactly where one is hidden
 -- axis-made                  an axis
@@ -26,18 +26,18 @@ use Rattle.exchange.specs.Sequences.Laws.{joined-ext}
 use Rattle.exchange.specs.Reading.{points, bytesAt, pointAt, encode}
 use Rattle.exchange.specs.Reading.Laws.{bytesAt-part, length-encode, encode-ext}
 use Rattle.exchange.specs.Values.{Key, alpha, beta}
-use Rattle.values.specs.Announced.{announcedOf, constantsOf}
+use Rattle.values.specs.Announced.{announcedOf}
 use Rattle.values.specs.Filled.{filled-block}
-use Rattle.values.specs.Shares.{shareOf, blockOf}
+use Rattle.sidebyside.specs.Shares.{shareOf}
+use Rattle.values.specs.Shares.{blockOf}
 use Rattle.partyrows.specs.Difference.{encode-xor, shareRow}
-use Rattle.partyrows.specs.Row.{withConstants, rowBy, hiddenParty, withHidden, sumsBy, axisBy}
-use Rattle.partyrows.specs.Row.Laws.{withConstants-is, rowBy-is}
+use Rattle.partyrows.specs.Row.{frontBy, rowBy, hiddenParty, withHidden, sumsBy, axisBy}
+use Rattle.partyrows.specs.Row.Laws.{frontBy-is, rowBy-is}
 use Rattle.axes.specs.Announcing.{partyFrom, rowOf}
 use Rattle.axes.specs.Parties.{hatAlpha, hatBeta, row-made}
 
-pub record Evaluated (p : Parameters) (key : Key) (m2 parts blocks constants : List ℕ) : Type 0 where
-  pub announcements : (i : ℕ) → i < p .d + 1 → blockOf p blocks i ≡ announcedOf p key m2 (shareOf p parts i)
-  pub party-one : constants ≡ constantsOf p key m2
+pub record Evaluated (p : Parameters) (key : Key) (m2 parts blocks : List ℕ) : Type 0 where
+  pub announcements : (i : ℕ) → i < p .d + 1 → blockOf p blocks i ≡ announcedOf p key m2 true (shareOf p parts i)
 
 -- ---- bytes read as points
 
@@ -80,10 +80,10 @@ module _ (p : Parameters) (leaf j : ℕ) where
 
 -- ---- the axes
 
-module _ (p : Parameters) (key : Key) (m2 parts : List ℕ) (leaf : ℕ) (hidden blocks constants sums total : List ℕ)
-    (given : Evaluated p key m2 parts blocks constants) (sized : length hidden ≡ 8 * p .t) (bytes : (i : ℕ) → getD hidden i 0 < 256)
-    (es : sums ≡ sumsBy p leaf (blockOf p blocks (p .d)) constants hidden)
-    (et : total ≡ rowBy p (shareOf p parts (p .d)) (blockOf p blocks (p .d)) constants sums) where
+module _ (p : Parameters) (key : Key) (m2 parts : List ℕ) (leaf : ℕ) (hidden blocks sums total : List ℕ)
+    (given : Evaluated p key m2 parts blocks) (sized : length hidden ≡ 8 * p .t) (bytes : (i : ℕ) → getD hidden i 0 < 256)
+    (es : sums ≡ sumsBy p leaf (blockOf p blocks (p .d)) hidden)
+    (et : total ≡ rowBy p (shareOf p parts (p .d)) (blockOf p blocks (p .d)) sums) where
   α⋆ : ℕ → Point
   α⋆ l = pointAt hidden (4 * l)
 
@@ -103,16 +103,16 @@ module _ (p : Parameters) (key : Key) (m2 parts : List ℕ) (leaf : ℕ) (hidden
   unfolding α⋆ β⋆
   hidden-is = points-of hidden (p .t) sized bytes
 
-  all-is : withConstants p (blockOf p blocks (p .d)) constants ≡ encode (alpha p key m2 true all) (p .t) ++ encode (beta p key m2 true all) (p .t)
+  all-is : frontBy p (blockOf p blocks (p .d)) ≡ encode (alpha p key m2 true all) (p .t) ++ encode (beta p key m2 true all) (p .t)
   unfolding all
-  all-is = withConstants-is p key m2 (shareOf p parts (p .d)) _ _ (given .announcements (p .d) (omega arith)) (given .party-one)
+  all-is = frontBy-is p key m2 (shareOf p parts (p .d)) _ (given .announcements (p .d) (omega arith))
 
   sums-is : sums ≡ encode α̂ (p .t) ++ encode β̂ (p .t)
   unfolding sumsBy withHidden α̂ β̂ hatAlpha hatBeta
   sums-is = es ∙ go (ltb leaf (leaves p))
     where
       go : (b : Bool)
-          → cond b (xorList (withConstants p (blockOf p blocks (p .d)) constants) hidden) (withConstants p (blockOf p blocks (p .d)) constants)
+          → cond b (xorList (frontBy p (blockOf p blocks (p .d))) hidden) (frontBy p (blockOf p blocks (p .d)))
           ≡ encode (hatAlpha p key m2 all α⋆ b) (p .t) ++ encode (hatBeta p key m2 all β⋆ b) (p .t)
       go true =
           ap₂ xorList all-is hidden-is
@@ -124,15 +124,15 @@ module _ (p : Parameters) (key : Key) (m2 parts : List ℕ) (leaf : ℕ) (hidden
           ∙ ap₂ _++_ (encode-ext _ _ (p .t) (λ l h. sym (points .base .add-zero _))) (encode-ext _ _ (p .t) (λ l h. sym (points .base .add-zero _)))
 
   -- the row of share i of the D + 1
-  share-is : (i : ℕ) → i < p .d + 1 → rowBy p (shareOf p parts i) (blockOf p blocks i) constants sums ≡ shareRow p key m2 true (shareOf p parts i) α̂ β̂
-  share-is i h = rowBy-is p key m2 (shareOf p parts i) _ _ _ α̂ β̂ (given .announcements i h) (given .party-one) sums-is
+  share-is : (i : ℕ) → i < p .d + 1 → rowBy p (shareOf p parts i) (blockOf p blocks i) sums ≡ shareRow p key m2 true (shareOf p parts i) α̂ β̂
+  share-is i h = rowBy-is p key m2 (shareOf p parts i) _ _ α̂ β̂ (given .announcements i h) sums-is
 
   pub axis-made : (j : ℕ) → j < p .d
-      → axisBy p (shareOf p parts j) (blockOf p blocks j) constants sums total (hiddenParty p leaf j) hidden ≡ rowOf p key m2 parts leaf hidden j
+      → axisBy p (shareOf p parts j) (blockOf p blocks j) sums total (hiddenParty p leaf j) hidden ≡ rowOf p key m2 parts leaf hidden j
   unfolding axisBy rowOf partyFrom α̂ β̂ α⋆ β⋆ all
   axis-made j h =
       sym (row-made p key m2 (partyFrom p parts j) all refl α⋆ β⋆ hidden hidden-is (hiddenParty p leaf j)
-      (rowBy p (shareOf p parts j) (blockOf p blocks j) constants sums) total (hidden-most p leaf j)
+      (rowBy p (shareOf p parts j) (blockOf p blocks j) sums) total (hidden-most p leaf j)
       (share-is j (omega arith) ∙ hats (shareOf p parts j))
       (et ∙ share-is (p .d) (omega arith) ∙ hats (shareOf p parts (p .d))))
     where
@@ -141,6 +141,6 @@ module _ (p : Parameters) (key : Key) (m2 parts : List ℕ) (leaf : ℕ) (hidden
       hats s =
           ap (λ (b : Bool). shareRow p key m2 true s (hatAlpha p key m2 all α⋆ b) (hatBeta p key m2 all β⋆ b)) (sym (hidden-some p leaf j))
 
-  pub rows-made : joined (λ j. axisBy p (shareOf p parts j) (blockOf p blocks j) constants sums total (hiddenParty p leaf j) hidden) (p .d)
+  pub rows-made : joined (λ j. axisBy p (shareOf p parts j) (blockOf p blocks j) sums total (hiddenParty p leaf j) hidden) (p .d)
       ≡ joined (rowOf p key m2 parts leaf hidden) (p .d)
   rows-made = joined-ext _ _ (p .d) axis-made

@@ -9,7 +9,8 @@ ghost use Prim.Native.Nat.{_+_, _*_, _<_};
 ghost use lib.ListN.{length};
 ghost use Rattle.bytefield.specs.Tables.{logs, powers};
 ghost use Rattle.lists.specs.Sum.{xorList};
-ghost use Rattle.values.specs.Shares.{shareOf, blockOf};
+ghost use Rattle.sidebyside.specs.Shares.{shareOf};
+ghost use Rattle.values.specs.Shares.{blockOf};
 ghost use Rattle.partyrows.specs.Row.{hiddenParty, rowBy, axisBy};
 ghost use Rattle.partyrows.specs.Asked.{RowAsked};
 ghost use Rattle.axes.specs.Asked.{AxisAsked, AxesAsked};
@@ -19,7 +20,6 @@ fn formula_rows(
     p: Parameters,
     s: &[u8],
     block: &[u8],
-    constants: &[u8],
     sums: &[u8],
     total: &[u8],
     first: &mut [u8],
@@ -27,10 +27,10 @@ fn formula_rows(
     log: &[u8; 256],
     pow: &[u8; 256],
 )
-    requires { ⌜ RowAsked p (now s) (now block) (now constants) (now sums) × (length (now total) ≡ 12 * p .t) × (length (now first) ≡ 12 * p .t) × (length (now second) ≡ 12 * p .t) × (now log ≡ logs) × (now pow ≡ powers) ⌝ }
-    ensures { λ _. ⌜ (now (first .exit) ≡ rowBy p (now (s .entry)) (now (block .entry)) (now (constants .entry)) (now (sums .entry))) × (now (second .exit) ≡ xorList (now (total .entry)) (rowBy p (now (s .entry)) (now (block .entry)) (now (constants .entry)) (now (sums .entry)))) ⌝ }
+    requires { ⌜ RowAsked p (now s) (now block) (now sums) × (length (now total) ≡ 12 * p .t) × (length (now first) ≡ 12 * p .t) × (length (now second) ≡ 12 * p .t) × (now log ≡ logs) × (now pow ≡ powers) ⌝ }
+    ensures { λ _. ⌜ (now (first .exit) ≡ rowBy p (now (s .entry)) (now (block .entry)) (now (sums .entry))) × (now (second .exit) ≡ xorList (now (total .entry)) (rowBy p (now (s .entry)) (now (block .entry)) (now (sums .entry)))) ⌝ }
 {
-    put_row(p, s, block, constants, sums, first, log, pow);
+    put_row(p, s, block, sums, first, log, pow);
     lists::copy(second, total);
     lists::xor_into(second, first);
 }
@@ -49,7 +49,6 @@ fn axis_row_with(
     p: Parameters,
     s: &[u8],
     block: &[u8],
-    constants: &[u8],
     sums: &[u8],
     total: &[u8],
     party: usize,
@@ -60,10 +59,10 @@ fn axis_row_with(
     log: &[u8; 256],
     pow: &[u8; 256],
 )
-    requires { ⌜ AxisAsked p (now s) (now block) (now constants) (now sums) (now total) (now hidden) × (length (now first) ≡ 12 * p .t) × (length (now second) ≡ 12 * p .t) × (length (now row) ≡ 24 * p .t) × (now log ≡ logs) × (now pow ≡ powers) ⌝ }
-    ensures { λ _. ⌜ now (row .exit) ≡ axisBy p (now (s .entry)) (now (block .entry)) (now (constants .entry)) (now (sums .entry)) (now (total .entry)) party (now (hidden .entry)) ⌝ }
+    requires { ⌜ AxisAsked p (now s) (now block) (now sums) (now total) (now hidden) × (length (now first) ≡ 12 * p .t) × (length (now second) ≡ 12 * p .t) × (length (now row) ≡ 24 * p .t) × (now log ≡ logs) × (now pow ≡ powers) ⌝ }
+    ensures { λ _. ⌜ now (row .exit) ≡ axisBy p (now (s .entry)) (now (block .entry)) (now (sums .entry)) (now (total .entry)) party (now (hidden .entry)) ⌝ }
 {
-    formula_rows(p, s, block, constants, sums, total, first, second, log, pow);
+    formula_rows(p, s, block, sums, total, first, second, log, pow);
     hide_leaf(p, party, hidden, first, second);
     join(row, first, second);
 }
@@ -73,7 +72,6 @@ fn axis_row(
     p: Parameters,
     s: &[u8],
     block: &[u8],
-    constants: &[u8],
     sums: &[u8],
     total: &[u8],
     party: usize,
@@ -82,8 +80,8 @@ fn axis_row(
     log: &[u8; 256],
     pow: &[u8; 256],
 )
-    requires { ⌜ AxisAsked p (now s) (now block) (now constants) (now sums) (now total) (now hidden) × (length (now row) ≡ 24 * p .t) × (now log ≡ logs) × (now pow ≡ powers) ⌝ }
-    ensures { λ _. ⌜ now (row .exit) ≡ axisBy p (now (s .entry)) (now (block .entry)) (now (constants .entry)) (now (sums .entry)) (now (total .entry)) party (now (hidden .entry)) ⌝ }
+    requires { ⌜ AxisAsked p (now s) (now block) (now sums) (now total) (now hidden) × (length (now row) ≡ 24 * p .t) × (now log ≡ logs) × (now pow ≡ powers) ⌝ }
+    ensures { λ _. ⌜ now (row .exit) ≡ axisBy p (now (s .entry)) (now (block .entry)) (now (sums .entry)) (now (total .entry)) party (now (hidden .entry)) ⌝ }
 {
     let mut first = [0u8; 96];
     let mut second = [0u8; 96];
@@ -92,7 +90,6 @@ fn axis_row(
         p,
         s,
         block,
-        constants,
         sums,
         total,
         party,
@@ -111,7 +108,6 @@ pub fn put_axis(
     axis: usize,
     parts: &[u8],
     blocks: &[u8],
-    constants: &[u8],
     sums: &[u8],
     total: &[u8],
     leaf: usize,
@@ -120,8 +116,8 @@ pub fn put_axis(
     log: &[u8; 256],
     pow: &[u8; 256],
 )
-    requires { ⌜ AxesAsked p (now parts) (now blocks) (now constants) (now sums) (now total) (now hidden) × (axis < p .d) × (length (now row) ≡ 24 * p .t) × (now log ≡ logs) × (now pow ≡ powers) ⌝ }
-    ensures { λ _. ⌜ now (row .exit) ≡ axisBy p (shareOf p (now (parts .entry)) axis) (blockOf p (now (blocks .entry)) axis) (now (constants .entry)) (now (sums .entry)) (now (total .entry)) (hiddenParty p leaf axis) (now (hidden .entry)) ⌝ }
+    requires { ⌜ AxesAsked p (now parts) (now blocks) (now sums) (now total) (now hidden) × (axis < p .d) × (length (now row) ≡ 24 * p .t) × (now log ≡ logs) × (now pow ≡ powers) ⌝ }
+    ensures { λ _. ⌜ now (row .exit) ≡ axisBy p (shareOf p (now (parts .entry)) axis) (blockOf p (now (blocks .entry)) axis) (now (sums .entry)) (now (total .entry)) (hiddenParty p leaf axis) (now (hidden .entry)) ⌝ }
 {
     let size = 8 * p.t + (p.k + 2 * p.w + 4 * p.t);
     let a = axis * size;
@@ -133,7 +129,6 @@ pub fn put_axis(
         p,
         &parts[a..e],
         &blocks[b..f],
-        constants,
         sums,
         total,
         party,

@@ -8,12 +8,15 @@ use parameters::Parameters;
 ghost use mathlib.Core.Path.{_≡_};
 ghost use Rattle.bytefield.specs.Tables.{logs, powers};
 ghost use Rattle.exchange.specs.Sequences.{joined};
-ghost use Rattle.coefficients.specs.Coefficients.{keyOf};
+ghost use Prim.Native.Nat.{_+_};
+ghost use Rattle.exchange.specs.Values.{keyOf};
+ghost use Rattle.values.specs.Products.{productsOf};
 ghost use Rattle.axes.specs.Announcing.{rowOf};
 ghost use Rattle.axes.specs.Asked.{RowsAsked};
 
 // rows becomes what the parties of all axes announce, from the first parties' shares and the sum of all disclosed leaves.
 // A leaf not below n hides none; hidden is α and β of the hidden leaf.
+// Answers how many products of the points field the evaluation made.
 pub fn axis_rows(
     p: Parameters,
     parts: &[u8],
@@ -25,11 +28,10 @@ pub fn axis_rows(
     rows: &mut [u8],
     log: &[u8; 256],
     pow: &[u8; 256],
-)
+) -> usize
     requires { ⌜ RowsAsked p (now parts) (now m2) (now matrix) (now y) (now hidden) (now rows) × (now log ≡ logs) × (now pow ≡ powers) ⌝ }
-    ensures { λ _. ⌜ now (rows .exit) ≡ joined (rowOf p (keyOf (now (matrix .entry)) (now (y .entry))) (now (m2 .entry)) (now (parts .entry)) leaf (now (hidden .entry))) (p .d) ⌝ }
+    ensures { λ c. ⌜ (now (rows .exit) ≡ joined (rowOf p (keyOf (now (matrix .entry)) (now (y .entry))) (now (m2 .entry)) (now (parts .entry)) leaf (now (hidden .entry))) (p .d)) × (c ≡ productsOf p (p .d + 1)) ⌝ }
 {
-    let mut constants = [0u8; 64];
     let mut blocks = [0u8; 864];
     let mut sums = [0u8; 64];
     let mut total = [0u8; 96];
@@ -44,12 +46,11 @@ pub fn axis_rows(
         y,
         leaf,
         hidden,
-        &mut constants[..c],
         &mut blocks[..b],
         &mut sums[..c],
         &mut total[..t],
         rows,
         log,
         pow,
-    );
+    )
 }

@@ -4,12 +4,14 @@ use crate::total::evaluate;
 use crate::total::total_row;
 use parameters::Parameters;
 ghost use mathlib.Core.Path.{_≡_};
-ghost use Prim.Native.Nat.{_*_};
+ghost use Prim.Native.Nat.{_+_, _*_};
 ghost use lib.ListN.{length};
 ghost use Rattle.bytefield.specs.Tables.{logs, powers};
 ghost use Rattle.exchange.specs.Sequences.{joined};
-ghost use Rattle.coefficients.specs.Coefficients.{keyOf};
-ghost use Rattle.values.specs.Shares.{shareOf, blockOf};
+ghost use Rattle.exchange.specs.Values.{keyOf};
+ghost use Rattle.sidebyside.specs.Shares.{shareOf};
+ghost use Rattle.values.specs.Shares.{blockOf};
+ghost use Rattle.values.specs.Products.{productsOf};
 ghost use Rattle.partyrows.specs.Row.{hiddenParty, axisBy};
 ghost use Rattle.axes.specs.Announcing.{rowOf};
 ghost use Rattle.axes.specs.Asked.{RowsAsked, RoomAsked, AxesAsked};
@@ -19,7 +21,6 @@ fn put_rows(
     p: Parameters,
     parts: &[u8],
     blocks: &[u8],
-    constants: &[u8],
     sums: &[u8],
     total: &[u8],
     leaf: usize,
@@ -28,8 +29,8 @@ fn put_rows(
     log: &[u8; 256],
     pow: &[u8; 256],
 )
-    requires { ⌜ AxesAsked p (now parts) (now blocks) (now constants) (now sums) (now total) (now hidden) × (length (now rows) ≡ p .d * (24 * p .t)) × (now log ≡ logs) × (now pow ≡ powers) ⌝ }
-    ensures { λ _. ⌜ now (rows .exit) ≡ joined (λ j. axisBy p (shareOf p (now (parts .entry)) j) (blockOf p (now (blocks .entry)) j) (now (constants .entry)) (now (sums .entry)) (now (total .entry)) (hiddenParty p leaf j) (now (hidden .entry))) (p .d) ⌝ }
+    requires { ⌜ AxesAsked p (now parts) (now blocks) (now sums) (now total) (now hidden) × (length (now rows) ≡ p .d * (24 * p .t)) × (now log ≡ logs) × (now pow ≡ powers) ⌝ }
+    ensures { λ _. ⌜ now (rows .exit) ≡ joined (λ j. axisBy p (shareOf p (now (parts .entry)) j) (blockOf p (now (blocks .entry)) j) (now (sums .entry)) (now (total .entry)) (hiddenParty p leaf j) (now (hidden .entry))) (p .d) ⌝ }
 {
     let width = 24 * p.t;
     let mut b = 0;
@@ -41,7 +42,6 @@ fn put_rows(
             j,
             parts,
             blocks,
-            constants,
             sums,
             total,
             leaf,
@@ -55,7 +55,8 @@ fn put_rows(
     }
 }
 
-// rows becomes the rows of all axes; constants, blocks, sums and total hold what is made once for all of them.
+// rows becomes the rows of all axes; blocks, sums and total hold what is made once for all of them.
+// Answers how many products of the points field the evaluation made.
 pub fn axis_rows_with(
     p: Parameters,
     parts: &[u8],
@@ -64,41 +65,18 @@ pub fn axis_rows_with(
     y: &[u8],
     leaf: usize,
     hidden: &[u8],
-    constants: &mut [u8],
     blocks: &mut [u8],
     sums: &mut [u8],
     total: &mut [u8],
     rows: &mut [u8],
     log: &[u8; 256],
     pow: &[u8; 256],
-)
-    requires { ⌜ RowsAsked p (now parts) (now m2) (now matrix) (now y) (now hidden) (now rows) × RoomAsked p (now constants) (now blocks) (now sums) (now total) × (now log ≡ logs) × (now pow ≡ powers) ⌝ }
-    ensures { λ _. ⌜ now (rows .exit) ≡ joined (rowOf p (keyOf (now (matrix .entry)) (now (y .entry))) (now (m2 .entry)) (now (parts .entry)) leaf (now (hidden .entry))) (p .d) ⌝ }
+) -> usize
+    requires { ⌜ RowsAsked p (now parts) (now m2) (now matrix) (now y) (now hidden) (now rows) × RoomAsked p (now blocks) (now sums) (now total) × (now log ≡ logs) × (now pow ≡ powers) ⌝ }
+    ensures { λ c. ⌜ (now (rows .exit) ≡ joined (rowOf p (keyOf (now (matrix .entry)) (now (y .entry))) (now (m2 .entry)) (now (parts .entry)) leaf (now (hidden .entry))) (p .d)) × (c ≡ productsOf p (p .d + 1)) ⌝ }
 {
-    evaluate(p, parts, m2, matrix, y, constants, blocks, log, pow);
-    total_row(
-        p,
-        parts,
-        blocks,
-        constants,
-        leaf,
-        hidden,
-        sums,
-        total,
-        log,
-        pow,
-    );
-    put_rows(
-        p,
-        parts,
-        blocks,
-        constants,
-        sums,
-        total,
-        leaf,
-        hidden,
-        rows,
-        log,
-        pow,
-    );
+    let made = evaluate(p, parts, m2, matrix, y, blocks, log, pow);
+    total_row(p, parts, blocks, leaf, hidden, sums, total, log, pow);
+    put_rows(p, parts, blocks, sums, total, leaf, hidden, rows, log, pow);
+    made
 }

@@ -1,82 +1,65 @@
-// What is made once for all axes: the blocks of the D + 1 shares and the constants, α̂ and β̂, and the row of the sum of all disclosed leaves.
+// What is made once for all axes: the blocks of the D + 1 shares, α̂ and β̂, and the row of the sum of all disclosed leaves.
 use parameters::Parameters;
 use partyrows::total::total_row_with;
 ghost use mathlib.Core.Path.{_≡_};
-ghost use Prim.Native.Nat.{_*_};
+ghost use Prim.Native.Nat.{_+_, _*_};
 ghost use lib.ListN.{length};
 ghost use Rattle.bytefield.specs.Tables.{logs, powers};
-ghost use Rattle.coefficients.specs.Coefficients.{keyOf, coefficientsLength};
-ghost use Rattle.values.specs.Shares.{shareOf, blockOf};
+ghost use Rattle.exchange.specs.Values.{keyOf};
+ghost use Rattle.sidebyside.specs.Shares.{shareOf};
+ghost use Rattle.values.specs.Shares.{blockOf};
+ghost use Rattle.values.specs.Products.{productsOf};
 ghost use Rattle.partyrows.specs.Row.{rowBy, sumsBy};
 ghost use Rattle.axes.specs.Axes.{Evaluated};
 ghost use Rattle.axes.specs.Asked.{EvaluateAsked, AxesAsked};
 
-// constants and blocks become the constants and the blocks of the D + 1 shares; weights and table hold what is made on the way.
+// blocks becomes the blocks of the D + 1 shares, with the constants; rows holds S of each.
 fn evaluate_with(
     p: Parameters,
     parts: &[u8],
     m2: &[u8],
     matrix: &[u8],
     y: &[u8],
-    weights: &mut [u8],
-    table: &mut [u8],
-    constants: &mut [u8],
+    rows: &mut [u8],
     blocks: &mut [u8],
     log: &[u8; 256],
     pow: &[u8; 256],
-)
-    requires { ⌜ EvaluateAsked p (now parts) (now m2) (now matrix) (now y) (now constants) (now blocks) × (length (now weights) ≡ p .m) × (length (now table) ≡ coefficientsLength p) × (now log ≡ logs) × (now pow ≡ powers) ⌝ }
-    ensures { λ _. ⌜ Evaluated p (keyOf (now (matrix .entry)) (now (y .entry))) (now (m2 .entry)) (now (parts .entry)) (now (blocks .exit)) (now (constants .exit)) ⌝ }
+) -> usize
+    requires { ⌜ EvaluateAsked p (now parts) (now m2) (now matrix) (now y) (now blocks) × (length (now rows) ≡ (p .d + 1) * p .m) × (now log ≡ logs) × (now pow ≡ powers) ⌝ }
+    ensures { λ c. ⌜ Evaluated p (keyOf (now (matrix .entry)) (now (y .entry))) (now (m2 .entry)) (now (parts .entry)) (now (blocks .exit)) × (c ≡ productsOf p (p .d + 1)) ⌝ }
 {
-    lagrange::weights(weights, log, pow);
-    values::announce_each(
-        p,
-        p.d + 1,
-        parts,
-        m2,
-        matrix,
-        y,
-        weights,
-        table,
-        constants,
-        blocks,
-        log,
-        pow,
-    );
+    let n = p.d + 1;
+    coefficients::interpolate_each(p, n, parts, matrix, y, true, rows, log, pow);
+    values::announce_each(p, n, parts, rows, m2, true, blocks, log, pow)
 }
 
-// constants and blocks become the constants and the blocks of the D + 1 shares.
+// blocks becomes the blocks of the D + 1 shares, with the constants. Answers how many products of the points field were made.
 pub fn evaluate(
     p: Parameters,
     parts: &[u8],
     m2: &[u8],
     matrix: &[u8],
     y: &[u8],
-    constants: &mut [u8],
     blocks: &mut [u8],
     log: &[u8; 256],
     pow: &[u8; 256],
-)
-    requires { ⌜ EvaluateAsked p (now parts) (now m2) (now matrix) (now y) (now constants) (now blocks) × (now log ≡ logs) × (now pow ≡ powers) ⌝ }
-    ensures { λ _. ⌜ Evaluated p (keyOf (now (matrix .entry)) (now (y .entry))) (now (m2 .entry)) (now (parts .entry)) (now (blocks .exit)) (now (constants .exit)) ⌝ }
+) -> usize
+    requires { ⌜ EvaluateAsked p (now parts) (now m2) (now matrix) (now y) (now blocks) × (now log ≡ logs) × (now pow ≡ powers) ⌝ }
+    ensures { λ c. ⌜ Evaluated p (keyOf (now (matrix .entry)) (now (y .entry))) (now (m2 .entry)) (now (parts .entry)) (now (blocks .exit)) × (c ≡ productsOf p (p .d + 1)) ⌝ }
 {
-    let mut weights = [0u8; 255];
-    let mut table = [0u8; 3064];
-    let m = p.m;
-    let n = 4 * p.k + 8 * p.w + 8;
+    let mut rows = [0u8; 2295];
+    let e = (p.d + 1) * p.m;
     evaluate_with(
         p,
         parts,
         m2,
         matrix,
         y,
-        &mut weights[..m],
-        &mut table[..n],
-        constants,
+        &mut rows[..e],
         blocks,
         log,
         pow,
-    );
+    )
 }
 
 // sums and total become α̂ and β̂, and the row of the last of the D + 1 shares, which is the sum of all disclosed leaves.
@@ -84,7 +67,6 @@ pub fn total_row(
     p: Parameters,
     parts: &[u8],
     blocks: &[u8],
-    constants: &[u8],
     leaf: usize,
     hidden: &[u8],
     sums: &mut [u8],
@@ -92,8 +74,8 @@ pub fn total_row(
     log: &[u8; 256],
     pow: &[u8; 256],
 )
-    requires { ⌜ AxesAsked p (now parts) (now blocks) (now constants) (now sums) (now total) (now hidden) × (now log ≡ logs) × (now pow ≡ powers) ⌝ }
-    ensures { λ _. ⌜ (now (sums .exit) ≡ sumsBy p leaf (blockOf p (now (blocks .entry)) (p .d)) (now (constants .entry)) (now (hidden .entry))) × (now (total .exit) ≡ rowBy p (shareOf p (now (parts .entry)) (p .d)) (blockOf p (now (blocks .entry)) (p .d)) (now (constants .entry)) (now (sums .exit))) ⌝ }
+    requires { ⌜ AxesAsked p (now parts) (now blocks) (now sums) (now total) (now hidden) × (now log ≡ logs) × (now pow ≡ powers) ⌝ }
+    ensures { λ _. ⌜ (now (sums .exit) ≡ sumsBy p leaf (blockOf p (now (blocks .entry)) (p .d)) (now (hidden .entry))) × (now (total .exit) ≡ rowBy p (shareOf p (now (parts .entry)) (p .d)) (blockOf p (now (blocks .entry)) (p .d)) (now (sums .exit))) ⌝ }
 {
     let size = 8 * p.t + (p.k + 2 * p.w + 4 * p.t);
     let a = p.d * size;
@@ -104,7 +86,6 @@ pub fn total_row(
         p,
         &parts[a..e],
         &blocks[b..f],
-        constants,
         leaf,
         hidden,
         sums,

@@ -2,7 +2,7 @@
 use findings::Extraction;
 use parameters::Parameters;
 ghost use mathlib.Core.Path.{_≡_};
-ghost use Rattle.coefficients.specs.Coefficients.{keyOf};
+ghost use Rattle.exchange.specs.Values.{keyOf};
 ghost use Rattle.capi.specs.Sizes.{parametersOf};
 ghost use Rattle.calls.specs.Extractor.{transcript};
 ghost use Rattle.findings.specs.Answer.{extractionAnswer};

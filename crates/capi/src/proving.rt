@@ -6,7 +6,7 @@ use prover::Called;
 ghost use mathlib.Core.Path.{_≡_};
 ghost use lib.ListN.{length};
 ghost use Rattle.answers.specs.Number.{answerNumber};
-ghost use Rattle.coefficients.specs.Coefficients.{keyOf};
+ghost use Rattle.exchange.specs.Values.{keyOf};
 ghost use Rattle.prover.specs.Held.{held};
 ghost use Rattle.stored.specs.Parameters.{Small};
 ghost use Rattle.stored.specs.Prover.{proverSize, proverBytes};

@@ -8,7 +8,7 @@ ghost use mathlib.Core.Path.{_≡_};
 ghost use mathlib.Core.Bool.{true, cond};
 ghost use lib.ListN.{length};
 ghost use Rattle.answers.specs.Number.{answerNumber};
-ghost use Rattle.coefficients.specs.Coefficients.{keyOf};
+ghost use Rattle.exchange.specs.Values.{keyOf};
 ghost use Rattle.verifier.specs.Held.{held};
 ghost use Rattle.stored.specs.Parameters.{Small};
 ghost use Rattle.stored.specs.Verifier.{verifierSize, verifierBytes};

@@ -1,5 +1,3 @@
-pub mod Folded
-pub mod Weighed
-pub mod Coefficients
 pub mod Asked
-pub mod Loops
+pub mod Fronts
+pub mod Groups

@@ -1,7 +1,7 @@
 -- What a share announces: α, β and v at each position. Every one is linear in the share, but for the constants.
 -- 'Constants (y in S, the leading term of Q, α̂·β̂ in v) go to party 1 alone, never to a leaf': they enter where `first` is true.
 --
--- Key                  matrix H' and y, as lent
+-- Key, keyOf           matrix H' and y, as lent
 -- xAOf, QOf, POf s     x_A, Q and P of the share s; Q with its leading coefficient, 1 where `first`, else 0
 -- aOf, bOf, cOf s l    a, b and c of s at position l
 -- pointOf, multiplierOf m2 l   r and ε of message 2 at position l: 't points r, t multipliers ε'
@@ -28,6 +28,9 @@ pub mod Relation
 pub record Key : Type 0 where
   pub matrix : List ℕ
   pub y : List ℕ
+
+abbrev pub keyOf : List ℕ → List ℕ → Key
+keyOf matrix y = record { matrix = matrix; y = y }
 
 -- ---- the parts of a share, and of message 2
 

@@ -19,7 +19,7 @@ ghost use Rattle.lists.specs.Equal.{eqList};
 ghost use Rattle.parameters.specs.Limits.{Within};
 ghost use Rattle.shake256.specs.Fips.{SHAKE256};
 ghost use Rattle.exchange.specs.Layout.{leaves, outputLength};
-ghost use Rattle.coefficients.specs.Coefficients.{keyOf};
+ghost use Rattle.exchange.specs.Values.{keyOf};
 ghost use Rattle.layout.specs.Lent.{lentTests};
 ghost use Rattle.calls.specs.Extractor as spec;
 

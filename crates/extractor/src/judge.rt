@@ -5,7 +5,7 @@ use leaves::leaf_count;
 use openings::check_opening;
 use parameters::Parameters;
 ghost use lib.ListN.{length};
-ghost use Rattle.coefficients.specs.Coefficients.{keyOf};
+ghost use Rattle.exchange.specs.Values.{keyOf};
 ghost use Rattle.calls.specs.Extractor.{transcript};
 ghost use Rattle.extractor.specs.Judged.{Judging, Judged};
 

@@ -11,7 +11,7 @@ use judge::judge;
 use parameters::Parameters;
 ghost use mathlib.Core.Path.{_≡_};
 ghost use Rattle.shake256.specs.Fips.{SHAKE256};
-ghost use Rattle.coefficients.specs.Coefficients.{keyOf};
+ghost use Rattle.exchange.specs.Values.{keyOf};
 ghost use Rattle.calls.specs.Extractor as spec;
 ghost use Rattle.extractor.specs.Given.{given};
 

@@ -10,7 +10,7 @@ use Rattle.parameters.specs.declared.Parameters.{Parameters}
 use Rattle.exchange.specs.Layout.{isLast}
 use Rattle.exchange.specs.Tree.{siblingSeeds}
 use Rattle.exchange.specs.Leaf.{share, commitment}
-use Rattle.leafvalues.specs.Leaf.{leafValues}
+use Rattle.values.specs.Leaf.{leafValues}
 pub mod Laws
 
 unfoldable pub leafBytes : Parameters → List ℕ → List ℕ → ℕ → List ℕ → List ℕ → List ℕ → List ℕ

@@ -15,7 +15,7 @@ ghost use lib.ListN.{length, replicate};
 ghost use Rattle.shake256.specs.Fips.{SHAKE256};
 ghost use Rattle.exchange.specs.Layout.{leaves, workLength, message5Length};
 ghost use Rattle.exchange.specs.Messages as spec;
-ghost use Rattle.coefficients.specs.Coefficients.{keyOf};
+ghost use Rattle.exchange.specs.Values.{keyOf};
 ghost use Rattle.ownleaves.specs.Asked.{Held, Keyed};
 
 // out becomes message 1, and the area ends as zeros.

@@ -1,7 +1,6 @@
 // Message 5: the siblings of the leaf, what the leaf itself gives, and aux unless it is leaf n−1.
 use bytefield::log_table;
 use bytefield::power_table;
-use leafvalues::announce_leaf;
 use leaves::COMMITMENTS;
 use leaves::SHARES;
 use leaves::is_last;
@@ -13,6 +12,7 @@ use ownleaves::share_length;
 use parameters::Parameters;
 use seedtree::sibling_seeds;
 use strings::begin;
+use values::announce_leaf;
 ghost use mathlib.Core.Path.{_≡_};
 ghost use mathlib.Core.Bool.{cond};
 ghost use mathlib.Core.List.{[], _++_};
@@ -24,8 +24,8 @@ ghost use Rattle.parameters.specs.Limits.{Within};
 ghost use Rattle.exchange.specs.Layout.{leaves, isLast, auxLength, shareLength, workLength};
 ghost use Rattle.exchange.specs.Leaf.{share, commitment};
 ghost use Rattle.exchange.specs.Messages.{message5};
-ghost use Rattle.coefficients.specs.Coefficients.{keyOf};
-ghost use Rattle.leafvalues.specs.Leaf.{leafValues};
+ghost use Rattle.exchange.specs.Values.{keyOf};
+ghost use Rattle.values.specs.Leaf.{leafValues};
 ghost use Rattle.messages.specs.Opening.{leafBytes, openingOf};
 ghost use Rattle.ownleaves.specs.Asked.{Held};
 ghost use Rattle.messages.specs.Asked.{LeafAsked, OpeningAsked, LastAsked};

@@ -14,7 +14,7 @@ use reader::opening::MOST_SIBLINGS;
 use reader::opening::MOST_VALUES;
 use reader::opening::read_opening;
 ghost use mathlib.Core.Path.{_≡_};
-ghost use Rattle.coefficients.specs.Coefficients.{keyOf};
+ghost use Rattle.exchange.specs.Values.{keyOf};
 ghost use Rattle.openings.specs.From.{judged};
 ghost use Rattle.openings.specs.Asked.{OpeningAsked, RecomputeAsked, JudgeAsked};
 ghost use Rattle.openings.specs.Checked.{Recomputed, PartsChecked, Checked};

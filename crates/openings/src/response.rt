@@ -18,7 +18,7 @@ ghost use Rattle.lists.specs.Equal.{eqList};
 ghost use Rattle.parameters.specs.Limits.{Within};
 ghost use Rattle.exchange.specs.Layout.{shareLength, workLength};
 ghost use Rattle.exchange.specs.Sequences.{joined};
-ghost use Rattle.coefficients.specs.Coefficients.{keyOf};
+ghost use Rattle.exchange.specs.Values.{keyOf};
 ghost use Rattle.parties.specs.Sums.Front.{filled};
 ghost use Rattle.axes.specs.Announcing.{rowOf};
 ghost use Rattle.axes.specs.Asked.{RowsAsked};

@@ -1,6 +1,6 @@
 -- What the functions on a row take.
 --
--- RowAsked     the share, its block, the constants, α̂ and β̂
+-- RowAsked     the share, its block, α̂ and β̂
 use mathlib.Core.Path.{_≡_}
 use mathlib.Core.List.{List}
 use Prim.Native.Nat.{ℕ, _*_}
@@ -9,9 +9,8 @@ use Rattle.parameters.specs.declared.Parameters.{Parameters}
 use Rattle.parameters.specs.Limits.{Within}
 use Rattle.exchange.specs.Layout.{shareLength}
 
-pub record RowAsked (p : Parameters) (s block constants sums : List ℕ) : Type 0 where
+pub record RowAsked (p : Parameters) (s block sums : List ℕ) : Type 0 where
   pub within : Within p
   pub sized-s : length s ≡ shareLength p
   pub sized-block : length block ≡ 12 * p .t
-  pub sized-constants : length constants ≡ 8 * p .t
   pub sized-sums : length sums ≡ 8 * p .t

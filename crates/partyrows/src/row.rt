@@ -1,4 +1,4 @@
-// The row of a share: α, β and v at all positions, with the constants. A block is α, β and γ of the share without them.
+// The row of a share: α, β and v at all positions, with the constants. A block is α, β and γ of the share, with them.
 use parameters::Parameters;
 ghost use mathlib.Core.Path.{_≡_};
 ghost use Prim.Native.Nat.{_*_, _<_};
@@ -7,17 +7,16 @@ ghost use Rattle.bytefield.specs.Tables.{logs, powers};
 ghost use Rattle.tower.specs.Field.{bytesOf};
 ghost use Rattle.parameters.specs.Limits.{Within};
 ghost use Rattle.exchange.specs.Layout.{shareLength};
-ghost use Rattle.partyrows.specs.Row.{withConstants, vAt, vBy, rowBy};
+ghost use Rattle.partyrows.specs.Row.{frontBy, vAt, vBy, rowBy};
 ghost use Rattle.partyrows.specs.Asked.{RowAsked};
 
-// out becomes α and β of a block, with the constants.
-pub fn with_constants(p: Parameters, block: &[u8], constants: &[u8], out: &mut [u8])
-    requires { ⌜ Within p × (length (now block) ≡ 12 * p .t) × (length (now constants) ≡ 8 * p .t) × (length (now out) ≡ 8 * p .t) ⌝ }
-    ensures { λ _. ⌜ now (out .exit) ≡ withConstants p (now (block .entry)) (now (constants .entry)) ⌝ }
+// out becomes α and β of a block.
+pub fn put_front(p: Parameters, block: &[u8], out: &mut [u8])
+    requires { ⌜ Within p × (length (now block) ≡ 12 * p .t) × (length (now out) ≡ 8 * p .t) ⌝ }
+    ensures { λ _. ⌜ now (out .exit) ≡ frontBy p (now (block .entry)) ⌝ }
 {
     let a = 8 * p.t;
     lists::copy(out, &block[..a]);
-    lists::xor_into(out, constants);
 }
 
 // v at position l of the share s, with the constant α̂·β̂.
@@ -33,10 +32,10 @@ fn row_v(
     requires { ⌜ Within p × (l < p .t) × (length (now s) ≡ shareLength p) × (length (now block) ≡ 12 * p .t) × (length (now sums) ≡ 8 * p .t) × (now log ≡ logs) × (now pow ≡ powers) ⌝ }
     ensures { λ r. ⌜ r ≡ bytesOf (vAt p (now (s .entry)) (now (block .entry)) (now (sums .entry)) l) ⌝ }
 {
-    let gamma = lagrange::point_at(block, 8 * p.t + 4 * l);
-    let alpha = lagrange::point_at(sums, 4 * l);
-    let beta = lagrange::point_at(sums, 4 * p.t + 4 * l);
-    values::v_at(p, s, l, true, gamma, alpha, beta, log, pow)
+    let gamma = encoding::point_at(block, 8 * p.t + 4 * l);
+    let alpha = encoding::point_at(sums, 4 * l);
+    let beta = encoding::point_at(sums, 4 * p.t + 4 * l);
+    values::v_at(p, s, l, gamma, alpha, beta, log, pow)
 }
 
 // out becomes v at all positions of the share s, with the constant α̂·β̂.
@@ -55,26 +54,25 @@ fn put_v(
     let mut l = 0;
     while l < p.t {
         let v = row_v(p, s, block, sums, l, log, pow);
-        lagrange::put_point(out, 4 * l, v);
+        encoding::put_point(out, 4 * l, v);
         l += 1;
     }
 }
 
-// out becomes the row of the share s, from its block, the constants, and α̂ and β̂.
+// out becomes the row of the share s, from its block, and α̂ and β̂.
 pub fn put_row(
     p: Parameters,
     s: &[u8],
     block: &[u8],
-    constants: &[u8],
     sums: &[u8],
     out: &mut [u8],
     log: &[u8; 256],
     pow: &[u8; 256],
 )
-    requires { ⌜ RowAsked p (now s) (now block) (now constants) (now sums) × (length (now out) ≡ 12 * p .t) × (now log ≡ logs) × (now pow ≡ powers) ⌝ }
-    ensures { λ _. ⌜ now (out .exit) ≡ rowBy p (now (s .entry)) (now (block .entry)) (now (constants .entry)) (now (sums .entry)) ⌝ }
+    requires { ⌜ RowAsked p (now s) (now block) (now sums) × (length (now out) ≡ 12 * p .t) × (now log ≡ logs) × (now pow ≡ powers) ⌝ }
+    ensures { λ _. ⌜ now (out .exit) ≡ rowBy p (now (s .entry)) (now (block .entry)) (now (sums .entry)) ⌝ }
 {
     let a = 8 * p.t;
-    with_constants(p, block, constants, &mut out[..a]);
+    put_front(p, block, &mut out[..a]);
     put_v(p, s, block, sums, &mut out[a..], log, pow);
 }

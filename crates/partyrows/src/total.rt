@@ -1,7 +1,7 @@
 // α̂ and β̂, and the row of the sum of all disclosed leaves.
 use crate::hidden::add_hidden;
+use crate::row::put_front;
 use crate::row::put_row;
-use crate::row::with_constants;
 use parameters::Parameters;
 ghost use mathlib.Core.Path.{_≡_};
 ghost use Prim.Native.Nat.{_*_};
@@ -15,7 +15,6 @@ pub fn total_row_with(
     p: Parameters,
     s: &[u8],
     block: &[u8],
-    constants: &[u8],
     leaf: usize,
     hidden: &[u8],
     sums: &mut [u8],
@@ -23,10 +22,10 @@ pub fn total_row_with(
     log: &[u8; 256],
     pow: &[u8; 256],
 )
-    requires { ⌜ RowAsked p (now s) (now block) (now constants) (now sums) × (length (now hidden) ≡ 8 * p .t) × (length (now total) ≡ 12 * p .t) × (now log ≡ logs) × (now pow ≡ powers) ⌝ }
-    ensures { λ _. ⌜ (now (sums .exit) ≡ sumsBy p leaf (now (block .entry)) (now (constants .entry)) (now (hidden .entry))) × (now (total .exit) ≡ rowBy p (now (s .entry)) (now (block .entry)) (now (constants .entry)) (now (sums .exit))) ⌝ }
+    requires { ⌜ RowAsked p (now s) (now block) (now sums) × (length (now hidden) ≡ 8 * p .t) × (length (now total) ≡ 12 * p .t) × (now log ≡ logs) × (now pow ≡ powers) ⌝ }
+    ensures { λ _. ⌜ (now (sums .exit) ≡ sumsBy p leaf (now (block .entry)) (now (hidden .entry))) × (now (total .exit) ≡ rowBy p (now (s .entry)) (now (block .entry)) (now (sums .exit))) ⌝ }
 {
-    with_constants(p, block, constants, sums);
+    put_front(p, block, sums);
     add_hidden(p, leaf, hidden, sums);
-    put_row(p, s, block, constants, sums, total, log, pow);
+    put_row(p, s, block, sums, total, log, pow);
 }

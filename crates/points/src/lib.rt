@@ -1,18 +1,15 @@
 // The points field: four bytes b0 b1 b2 b3 stand for b0 + b1·X + (b2 + b3·X)·Z, where X² = X + 20 and Z² = Z + 20·X (hexadecimal).
-// The tables of the byte field are made once by the caller and lent.
+// A product is read from a table of the multiples of one factor. The tables of the byte field are made once by the caller and lent.
 ghost use mathlib.Core.Path.{_≡_};
-ghost use Prim.Native.Nat.{_+_, _*_, _<_, _≤_};
+ghost use mathlib.Core.Logic.{_⊎_};
+ghost use Prim.Native.Nat.{_+_, _<_, _≤_};
 ghost use lib.ListN.{length};
+ghost use Rattle.lists.specs.Part.{putAt};
 ghost use Rattle.bytefield.specs.Tables.{logs, powers};
-ghost use Rattle.points.specs.Pairs.{pairOf};
-ghost use Rattle.tower.specs.Point.{pairOps, lone, fourSum, fourTimes};
-ghost use Rattle.tower.specs.Value.{valueAt, powerAt};
-
-// lo + hi·X.
-struct Pair {
-    lo: u8,
-    hi: u8,
-}
+ghost use Rattle.tower.specs.Field.{Point, point, bytesOf};
+ghost use Rattle.packed.specs.Table.{multiples};
+ghost use Rattle.exchange.specs.Reading.{_⊞_, _⊠_};
+ghost use Rattle.points.specs.Multiples.{wordOf, byX, byZ, multiplesOf, Lower, Read, Multiplies};
 
 // A product of points, and how many products were made up to it.
 pub struct Counted {
@@ -20,58 +17,9 @@ pub struct Counted {
     pub made: usize,
 }
 
-// The value of a polynomial of n coefficients at a point r, r to the n, and how many products were made.
-pub struct Value {
-    pub point: [u8; 4],
-    pub power: [u8; 4],
-    pub made: usize,
-}
-
-// The sum of two pairs.
-fn pair_sum(a: Pair, b: Pair) -> Pair
-    ensures { λ r. ⌜ pairOf r ≡ pairOps .add (pairOf a) (pairOf b) ⌝ }
-{
-    Pair {
-        lo: bytefield::sum(a.lo, b.lo),
-        hi: bytefield::sum(a.hi, b.hi),
-    }
-}
-
-// The product of two pairs, by three products of bytes and one with 20.
-fn pair_product(a: Pair, b: Pair, log: &[u8; 256], pow: &[u8; 256]) -> Pair
-    requires { ⌜ (now log ≡ logs) × (now pow ≡ powers) ⌝ }
-    ensures { λ r. ⌜ pairOf r ≡ pairOps .mul (pairOf a) (pairOf b) ⌝ }
-{
-    let high = bytefield::product(a.hi, b.hi, log, pow);
-    let low = bytefield::product(a.lo, b.lo, log, pow);
-    let lo = bytefield::sum(low, bytefield::product(high, 0x20, log, pow));
-    let mid = bytefield::product(
-        bytefield::sum(a.lo, a.hi),
-        bytefield::sum(b.lo, b.hi),
-        log,
-        pow,
-    );
-    Pair {
-        lo,
-        hi: bytefield::sum(mid, low),
-    }
-}
-
-// The product of a pair with 20·X; 6c is the square of 20.
-fn pair_by_constant(a: Pair, log: &[u8; 256], pow: &[u8; 256]) -> Pair
-    requires { ⌜ (now log ≡ logs) × (now pow ≡ powers) ⌝ }
-    ensures { λ r. ⌜ pairOf r ≡ pairOps .mul (pairOf a) (0, 0x20) ⌝ }
-{
-    let lo = bytefield::product(a.hi, 0x6c, log, pow);
-    Pair {
-        lo,
-        hi: bytefield::product(bytefield::sum(a.lo, a.hi), 0x20, log, pow),
-    }
-}
-
 // The sum of two points.
 pub fn sum(a: [u8; 4], b: [u8; 4]) -> [u8; 4]
-    ensures { λ r. ⌜ r ≡ fourSum a b ⌝ }
+    ensures { λ r. ⌜ r ≡ bytesOf (point a ⊞ point b) ⌝ }
 {
     [
         bytefield::sum(a[0], b[0]),
@@ -81,95 +29,152 @@ pub fn sum(a: [u8; 4], b: [u8; 4]) -> [u8; 4]
     ]
 }
 
-// The product of two points, by three products of pairs and one with 20·X.
-pub fn product(a: [u8; 4], b: [u8; 4], log: &[u8; 256], pow: &[u8; 256]) -> [u8; 4]
-    requires { ⌜ (now log ≡ logs) × (now pow ≡ powers) ⌝ }
-    ensures { λ r. ⌜ r ≡ fourTimes a b ⌝ }
+// A byte as a word.
+fn wide(b: u8) -> u64
+    ensures { λ r. ⌜ (r ≡ b) × (r < 256) ⌝ }
 {
-    let al = Pair { lo: a[0], hi: a[1] };
-    let ah = Pair { lo: a[2], hi: a[3] };
-    let bl = Pair { lo: b[0], hi: b[1] };
-    let bh = Pair { lo: b[2], hi: b[3] };
-    let high = pair_product(ah, bh, log, pow);
-    let low = pair_product(al, bl, log, pow);
-    let lo = pair_sum(low, pair_by_constant(high, log, pow));
-    let mid = pair_product(pair_sum(al, ah), pair_sum(bl, bh), log, pow);
-    let hi = pair_sum(mid, low);
-    [lo.lo, lo.hi, hi.lo, hi.hi]
+    b as u64
 }
 
-// The product of the byte b and a point, by four products of bytes.
-pub fn product_by_byte(b: u8, a: [u8; 4], log: &[u8; 256], pow: &[u8; 256]) -> [u8; 4]
-    requires { ⌜ (now log ≡ logs) × (now pow ≡ powers) ⌝ }
-    ensures { λ r. ⌜ r ≡ fourTimes (lone b) a ⌝ }
+// Four bytes as the low bytes of a word.
+pub fn word_of(a: [u8; 4]) -> u64
+    ensures { λ r. ⌜ r ≡ wordOf (point a) ⌝ }
 {
+    wide(a[0]) ^ (wide(a[1]) * 256 ^ (wide(a[2]) * 65536 ^ wide(a[3]) * 16777216))
+}
+
+// The point whose four bytes are the low bytes of a word.
+pub fn point_of(w: u64) -> [u8; 4]
+    ensures { λ r. ⌜ ((x : Point) → w ≡ wordOf x → r ≡ bytesOf x) ⌝ }
+{
+    let w1 = w / 256;
+    let w2 = w1 / 256;
+    let w3 = w2 / 256;
     [
-        bytefield::product(b, a[0], log, pow),
-        bytefield::product(b, a[1], log, pow),
-        bytefield::product(b, a[2], log, pow),
-        bytefield::product(b, a[3], log, pow),
+        (w % 256) as u8,
+        (w1 % 256) as u8,
+        (w2 % 256) as u8,
+        (w3 % 256) as u8,
     ]
 }
 
-// The product of two points, by the shorter way where the first is a byte.
-fn shorter_product(a: [u8; 4], b: [u8; 4], log: &[u8; 256], pow: &[u8; 256]) -> [u8; 4]
-    requires { ⌜ (now log ≡ logs) × (now pow ≡ powers) ⌝ }
-    ensures { λ r. ⌜ r ≡ fourTimes a b ⌝ }
+// What the table that starts at place at gives for the byte c.
+fn read_at(table: &[u64], at: usize, c: u8) -> u64
+    requires { ⌜ (at ≤ 96) × (at + 32 ≤ length (now table)) ⌝ }
+    ensures { λ r. ⌜ Read (now (table .entry)) at c r ⌝ }
 {
-    if a[1] != 0 {
-        return product(a, b, log, pow);
-    }
-    if a[2] != 0 {
-        return product(a, b, log, pow);
-    }
-    if a[3] != 0 {
-        return product(a, b, log, pow);
-    }
-    product_by_byte(a[0], b, log, pow)
+    table[at + (c % 16) as usize] ^ table[at + 16 + (c / 16) as usize]
 }
 
-// The product of two points, which raises the count by one: every product of an evaluation is made here.
-pub fn counted_product(
-    a: [u8; 4],
-    b: [u8; 4],
-    made: usize,
-    log: &[u8; 256],
-    pow: &[u8; 256],
-) -> Counted
-    requires { ⌜ (now log ≡ logs) × (now pow ≡ powers) × (made < 65536) ⌝ }
-    ensures { λ r. ⌜ (r .point ≡ fourTimes a b) × (r .made ≡ made + 1) ⌝ }
+// The product of the four bytes a with a point, from the four tables of the point.
+fn whole_product(a: [u8; 4], table: &[u64]) -> u64
+    requires { ⌜ 128 ≤ length (now table) ⌝ }
+    ensures { λ r. ⌜ ((b : Point) → now (table .entry) ≡ multiplesOf b → r ≡ wordOf (point a ⊠ b)) ⌝ }
 {
-    let point = shorter_product(a, b, log, pow);
+    let low = read_at(table, 0, a[0]) ^ read_at(table, 32, a[1]);
+    low ^ read_at(table, 64, a[2]) ^ read_at(table, 96, a[3])
+}
+
+// The product of the four bytes a with a point, by the shorter way where a is a byte.
+fn by_table(a: [u8; 4], table: &[u64]) -> u64
+    requires { ⌜ (32 ≤ length (now table)) × ((128 ≤ length (now table)) ⊎ Lower a) ⌝ }
+    ensures { λ r. ⌜ ((b : Point) → Multiplies (now (table .entry)) a b → r ≡ wordOf (point a ⊠ b)) ⌝ }
+{
+    if wide(a[1]) + wide(a[2]) + wide(a[3]) != 0 {
+        return whole_product(a, table);
+    }
+    read_at(table, 0, a[0])
+}
+
+// The product of the four bytes a with the point of which the table has the multiples, and the count one higher: every product of the
+// points field is made here.
+pub fn counted_product(a: [u8; 4], table: &[u64], made: usize) -> Counted
+    requires { ⌜ (32 ≤ length (now table)) × ((128 ≤ length (now table)) ⊎ Lower a) × (made < 18446744073709551615) ⌝ }
+    ensures { λ r. ⌜ ((b : Point) → Multiplies (now (table .entry)) a b → r .point ≡ bytesOf (point a ⊠ b)) × (r .made ≡ made + 1) ⌝ }
+{
+    let point = point_of(by_table(a, table));
     Counted {
         point,
         made: made + 1,
     }
 }
 
-// The value at the point r of the polynomial with these bytes as coefficients, lowest first. The power of r is carried from term to term.
-pub fn value_at(p: &[u8], r: [u8; 4], log: &[u8; 256], pow: &[u8; 256]) -> Value
-    requires { ⌜ (now log ≡ logs) × (now pow ≡ powers) × (length (now p) ≤ 256) ⌝ }
-    ensures { λ v. ⌜ (v .point ≡ valueAt (now (p .entry)) r) × (v .power ≡ powerAt r (length (now (p .entry)))) × (v .made ≡ 2 * length (now (p .entry))) ⌝ }
+// The product of the four bytes a with the point of which the table has all multiples.
+pub fn product_by(a: [u8; 4], table: &[u64], made: usize) -> Counted
+    requires { ⌜ (128 ≤ length (now table)) × (made < 18446744073709551615) ⌝ }
+    ensures { λ c. ⌜ ((b : Point) → now (table .entry) ≡ multiplesOf b → c .point ≡ bytesOf (point a ⊠ b)) × (c .made ≡ made + 1) ⌝ }
 {
-    let n = p.len();
-    let mut acc = [0u8; 4];
-    let mut power = [1u8, 0, 0, 0];
-    let mut made: usize = 0;
+    counted_product(a, table, made)
+}
+
+// b·X.
+fn by_x(b: [u8; 4], log: &[u8; 256], pow: &[u8; 256]) -> [u8; 4]
+    requires { ⌜ (now log ≡ logs) × (now pow ≡ powers) ⌝ }
+    ensures { λ r. ⌜ r ≡ bytesOf (point b ⊠ byX) ⌝ }
+{
+    [
+        bytefield::product(b[1], 0x20, log, pow),
+        bytefield::sum(b[0], b[1]),
+        bytefield::product(b[3], 0x20, log, pow),
+        bytefield::sum(b[2], b[3]),
+    ]
+}
+
+// b·Z; 6c is the square of 20.
+fn by_z(b: [u8; 4], log: &[u8; 256], pow: &[u8; 256]) -> [u8; 4]
+    requires { ⌜ (now log ≡ logs) × (now pow ≡ powers) ⌝ }
+    ensures { λ r. ⌜ r ≡ bytesOf (point b ⊠ byZ) ⌝ }
+{
+    [
+        bytefield::product(b[3], 0x6c, log, pow),
+        bytefield::product(bytefield::sum(b[2], b[3]), 0x20, log, pow),
+        bytefield::sum(b[0], b[2]),
+        bytefield::sum(b[1], b[3]),
+    ]
+}
+
+// t is written to out from place at on.
+fn put_table(out: &mut [u64], at: usize, t: &[u64])
+    requires { ⌜ at + length (now t) ≤ length (now out) ⌝ }
+    ensures { λ _. ⌜ now (out .exit) ≡ putAt (now (out .entry)) at (now (t .entry)) ⌝ }
+{
     let mut i = 0;
-    while i < n {
-        let term = counted_product([p[i], 0, 0, 0], power, made, log, pow);
-        let t = term.point;
-        let s = sum(acc, t);
-        acc = s;
-        let next = counted_product(power, r, term.made, log, pow);
-        let q = next.point;
-        power = q;
-        made = next.made;
+    while i < t.len() {
+        out[at + i] = t[i];
         i += 1;
     }
-    Value {
-        point: acc,
-        power,
-        made,
-    }
+}
+
+// The multiples of the point b by bytes are written to out from place at on.
+fn put_multiples(out: &mut [u64], at: usize, b: [u8; 4])
+    requires { ⌜ at + 32 ≤ length (now out) ⌝ }
+    ensures { λ _. ⌜ now (out .exit) ≡ putAt (now (out .entry)) at (multiples (wordOf (point b))) ⌝ }
+{
+    put_table(out, at, &packed::multiples(word_of(b)));
+}
+
+// The multiples of a point: by the steps of the tower, X and Z, and by bytes.
+pub fn multiples_of(b: [u8; 4], log: &[u8; 256], pow: &[u8; 256]) -> [u64; 128]
+    requires { ⌜ (now log ≡ logs) × (now pow ≡ powers) ⌝ }
+    ensures { λ r. ⌜ r ≡ multiplesOf (point b) ⌝ }
+{
+    let x = by_x(b, log, pow);
+    let z = by_z(b, log, pow);
+    let xz = by_z(x, log, pow);
+    let mut out = [0u64; 128];
+    put_multiples(&mut out, 0, b);
+    put_multiples(&mut out, 32, x);
+    put_multiples(&mut out, 64, z);
+    put_multiples(&mut out, 96, xz);
+    out
+}
+
+// The product of two points, by the multiples of the second.
+pub fn product(a: [u8; 4], b: [u8; 4], log: &[u8; 256], pow: &[u8; 256]) -> [u8; 4]
+    requires { ⌜ (now log ≡ logs) × (now pow ≡ powers) ⌝ }
+    ensures { λ r. ⌜ r ≡ bytesOf (point a ⊠ point b) ⌝ }
+{
+    let table = multiples_of(b, log, pow);
+    let made = product_by(a, &table, 0);
+    made.point
 }

@@ -4,11 +4,11 @@ ghost use mathlib.Core.Path.{_≡_};
 ghost use mathlib.Core.List.{_∷_, _++_};
 ghost use Prim.Native.Nat.{_+_, _-_, _<_, _≤_};
 ghost use lib.ListN.{length, take, drop};
-ghost use Rattle.algebra.specs.Polynomial.{expand, slopes, interpolate};
+ghost use Rattle.algebra.specs.Polynomial.{expand, slopes, interpolate, vanishing};
 ghost use Rattle.bytefield.specs.Tables.{logs, powers};
 ghost use Rattle.bytefield.specs.Product.{byteOps};
 ghost use Rattle.bytefield.specs.Inverse.{inverse};
-ghost use Rattle.polynomial.specs.Interpolant.{interpolationPoints, interpolantOf, vanishingOf};
+ghost use Rattle.polynomial.specs.Interpolant.{ascending, interpolationPoints, interpolantOf, vanishingOf};
 ghost use Rattle.polynomial.specs.Loops.Newton.{newtonForm, expanded};
 
 // p, which is y and then q, becomes y + (X + f)·q.
@@ -112,17 +112,25 @@ pub fn add_root(p: &mut [u8], at: usize, f: u8, log: &[u8; 256], pow: &[u8; 256]
     expand(&mut p[at..], f, log, pow);
 }
 
+// out, of n + 1 bytes, becomes the product of X + g over the n bytes g above f.
+pub fn vanishing_above(out: &mut [u8], f: u8, log: &[u8; 256], pow: &[u8; 256])
+    requires { ⌜ (0 < length (now out)) × (f + length (now out) ≤ 256) × (now log ≡ logs) × (now pow ≡ powers) ⌝ }
+    ensures { λ _. ⌜ now (out .exit) ≡ vanishing byteOps (ascending (f + 1) (length (now (out .entry)) - 1)) ⌝ }
+{
+    let mut at = out.len() - 1;
+    let mut g = f;
+    out[at] = 1;
+    while 0 < at {
+        at -= 1;
+        g += 1;
+        add_root(out, at, g, log, pow);
+    }
+}
+
 // out, of m + 1 bytes, becomes F.
 pub fn vanishing(out: &mut [u8], log: &[u8; 256], pow: &[u8; 256])
     requires { ⌜ (0 < length (now out)) × (length (now out) ≤ 256) × (now log ≡ logs) × (now pow ≡ powers) ⌝ }
     ensures { λ _. ⌜ now (out .exit) ≡ vanishingOf (length (now (out .entry)) - 1) ⌝ }
 {
-    let mut at = out.len() - 1;
-    let mut f: u8 = 0;
-    out[at] = 1;
-    while 0 < at {
-        at -= 1;
-        f += 1;
-        add_root(out, at, f, log, pow);
-    }
+    vanishing_above(out, 0, log, pow);
 }

@@ -13,7 +13,7 @@ ghost use lib.ListN.{replicate};
 ghost use Rattle.shake256.specs.Fips.{SHAKE256};
 ghost use Rattle.answers.specs.declared.Answer.the-variants.{Done};
 ghost use Rattle.relation.specs.Key.{vectorOf};
-ghost use Rattle.coefficients.specs.Coefficients.{keyOf};
+ghost use Rattle.exchange.specs.Values.{keyOf};
 ghost use Rattle.calls.specs.Prover as spec;
 ghost use Rattle.prover.specs.Facts.{Starting};
 ghost use Rattle.prover.specs.Held.{held, given};

@@ -17,7 +17,7 @@ ghost use Rattle.bytefield.specs.Tables.{logs, powers};
 ghost use Rattle.shake256.specs.Fips.{SHAKE256};
 ghost use Rattle.exchange.specs.Layout.{workLength};
 ghost use Rattle.exchange.specs.Messages as spec;
-ghost use Rattle.coefficients.specs.Coefficients.{keyOf};
+ghost use Rattle.exchange.specs.Values.{keyOf};
 ghost use Rattle.ownleaves.specs.Asked.{Held, Keyed};
 ghost use Rattle.response.specs.Response.{responseOf};
 ghost use Rattle.response.specs.Asked.{RespondAsked};

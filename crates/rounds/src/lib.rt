@@ -6,7 +6,7 @@ ghost use Rattle.lists.specs.Zeroed.{zeroed};
 ghost use Rattle.shake256.specs.Fips.{SHAKE256};
 ghost use Rattle.exchange.specs.Layout.{message2Length, workLength};
 ghost use Rattle.exchange.specs.Messages as spec;
-ghost use Rattle.coefficients.specs.Coefficients.{keyOf};
+ghost use Rattle.exchange.specs.Values.{keyOf};
 ghost use Rattle.ownleaves.specs.Asked.{Keyed};
 ghost use Rattle.rounds.specs.Rounds.{Arrays, Disclosing};
 

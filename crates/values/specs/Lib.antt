@@ -1,5 +1,8 @@
 pub mod Announced
-pub mod Table
-pub mod Filled
 pub mod Asked
+pub mod Filled
+pub mod Leaf
+pub mod Position
+pub mod Products
 pub mod Shares
+pub mod Terms

@@ -18,7 +18,7 @@ ghost use Rattle.parameters.specs.Limits.{Within};
 ghost use Rattle.shake256.specs.Fips.{SHAKE256};
 ghost use Rattle.exchange.specs.Layout.{message5Length};
 ghost use Rattle.layout.specs.Lent.{lentTests};
-ghost use Rattle.coefficients.specs.Coefficients.{keyOf};
+ghost use Rattle.exchange.specs.Values.{keyOf};
 ghost use Rattle.calls.specs.Verifier as spec;
 ghost use Rattle.verifier.specs.Held.{held};
 

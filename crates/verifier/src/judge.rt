@@ -12,7 +12,7 @@ ghost use Rattle.lists.specs.Zeroed.{zeroed};
 ghost use Rattle.shake256.specs.Fips.{SHAKE256};
 ghost use Rattle.exchange.specs.Layout.{workLength};
 ghost use Rattle.exchange.specs.Opening.{verdict};
-ghost use Rattle.coefficients.specs.Coefficients.{keyOf};
+ghost use Rattle.exchange.specs.Values.{keyOf};
 ghost use Rattle.calls.specs.Verifier as spec;
 ghost use Rattle.verifier.specs.Held.{held};
 ghost use Rattle.verifier.specs.Laws.{Opened};

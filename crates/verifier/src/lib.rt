@@ -17,7 +17,7 @@ use parameters::Parameters;
 use verifier_phase::Phase;
 ghost use mathlib.Core.Path.{_≡_};
 ghost use Rattle.shake256.specs.Fips.{SHAKE256};
-ghost use Rattle.coefficients.specs.Coefficients.{keyOf};
+ghost use Rattle.exchange.specs.Values.{keyOf};
 ghost use Rattle.calls.specs.Verifier as spec;
 ghost use Rattle.verifier.specs.Held.{held, given, judged};
 

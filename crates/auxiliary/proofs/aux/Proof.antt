@@ -4,7 +4,7 @@ use mathlib.Core.Path.{sym, ap₂, _∙_}
 use Prim.Native.Nat.{_*_}
 use Rattle.lists.specs.Sum.{xorList}
 use Rattle.lists.specs.Part.Laws.{tail-part}
-use Rattle.lagrange.specs.Written.{front-length}
+use Rattle.encoding.specs.Written.{front-length}
 use Rattle.auxiliary.specs.Auxiliary.{auxFor}
 use borrow.Author.Needs.{needs}
 use Rattle.auxiliary.proofs.aux.Statement.{statement}

@@ -5,7 +5,7 @@ use Prim.Native.Nat.{_+_, _-_, _*_, _≤_}
 use lib.ListN.{length}
 use Rattle.lists.specs.Part.{putAt}
 use Rattle.exchange.specs.Reading.{encode}
-use Rattle.lagrange.specs.Written.{write-none, write-turn, write-end}
+use Rattle.encoding.specs.Written.{write-none, write-turn, write-end}
 use Rattle.auxiliary.specs.Auxiliary.{productsOf}
 use Rattle.auxiliary.specs.Auxiliary.Laws.{product-made}
 use Rattle.auxiliary.proofs.products.Statement.{statement}

@@ -7,7 +7,7 @@ use lib.ListN.{take, length-take, length-drop}
 use lib.Seq.{length-take-le}
 use Rattle.lists.specs.Part.Laws.{tail-back}
 use Rattle.lists.specs.Zeroed.{zeroed}
-use Rattle.lagrange.specs.Written.{front-length}
+use Rattle.encoding.specs.Written.{front-length}
 use Rattle.auxiliary.specs.Auxiliary.{wantedFor}
 use Rattle.auxiliary.specs.Auxiliary.Laws.{length-q, length-u, left-q, left-u, wanted-made}
 use borrow.Author.Needs.{needs}

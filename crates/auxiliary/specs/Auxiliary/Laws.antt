@@ -12,13 +12,12 @@ use native.Mathlib.Omega.{arith}
 use lib.ListN.{length, take, drop, length-append, length-take, length-drop}
 use lib.Seq.{take-at, take-all, take-append-add, take-append-le, length-take-le}
 use Rattle.lists.specs.Part.{putAt}
-use Rattle.tower.specs.Point.{fourTimes}
-use Rattle.tower.specs.Field.{bytesOf}
+use Rattle.tower.specs.Field.{Point, point, bytesOf, point-bytesOf}
 use Rattle.parameters.specs.declared.Parameters.{Parameters}
-use Rattle.exchange.specs.Reading.{pointAt}
+use Rattle.exchange.specs.Reading.{pointAt, _⊠_}
 use Rattle.exchange.specs.Values.{aOf, bOf}
 use Rattle.exchange.specs.Messages.{drawn, wanted, ownAux}
-use Rattle.lagrange.specs.Written.{times-bytes, middle-kept}
+use Rattle.encoding.specs.Written.{middle-kept}
 use Rattle.auxiliary.specs.Auxiliary.{productsOf, wantedFor, auxFor}
 
 pub ownAux-is : (hash : List ℕ → ℕ → List ℕ) (p : Parameters) (x salt root : List ℕ) → ownAux hash p x salt root ≡ auxFor p x (drawn hash p x salt root)
@@ -26,9 +25,10 @@ unfolding ownAux wanted auxFor wantedFor productsOf
 ownAux-is hash p x salt root = refl
 
 pub product-made : (p : Parameters) (s : List ℕ) (l : ℕ) (a b c : List ℕ) → a ≡ bytesOf (pointAt s (4 * l)) → b ≡ bytesOf (pointAt s (4 * p .t + 4 * l))
-    → c ≡ fourTimes a b → c ≡ bytesOf (productsOf p s l)
+    → c ≡ bytesOf (point a ⊠ point b) → c ≡ bytesOf (productsOf p s l)
 unfolding productsOf aOf bOf
-product-made p s l a b c ea eb ec = times-bytes a b c (pointAt s (4 * l)) (pointAt s (4 * p .t + 4 * l)) ea eb ec
+product-made p s l a b c ea eb ec =
+    ec ∙ ap₂ (λ (x y : Point). bytesOf (x ⊠ y)) (ap point ea ∙ point-bytesOf _) (ap point eb ∙ point-bytesOf _)
 
 -- ---- four parts, each written over what the one before it left
 

@@ -12,7 +12,7 @@ use lib.ListN.{length, take, drop}
 use Rattle.parameters.specs.declared.Parameters.{Parameters}
 use Rattle.parameters.specs.Limits.{Within}
 use Rattle.exchange.specs.Layout.{shareLength}
-use Rattle.values.specs.Shares.Laws.{within-blocks, length-block}
+use Rattle.encoding.specs.Blocks.{within-blocks, length-block}
 use Rattle.partyrows.specs.Asked.{RowAsked}
 use Rattle.axes.specs.Asked.{AxesAsked}
 
@@ -23,7 +23,7 @@ blocks-fit p w =
     let h : (p .d + 1) * (12 * p .t) ≤ 9 * (12 * p .t) = mul-le-mul-right (12 * p .t) (omega arith) in
     omega arith
 
-module _ (p : Parameters) (parts blocks constants sums total hidden : List ℕ) (asked : AxesAsked p parts blocks constants sums total hidden) (i : ℕ)
+module _ (p : Parameters) (parts blocks sums total hidden : List ℕ) (asked : AxesAsked p parts blocks sums total hidden) (i : ℕ)
     (below : i < p .d + 1) where
   pub share-fits : (i * shareLength p + shareLength p ≤ length parts) × (i * (12 * p .t) + 12 * p .t ≤ length blocks)
   share-fits = (
@@ -32,11 +32,10 @@ module _ (p : Parameters) (parts blocks constants sums total hidden : List ℕ) 
   )
 
   pub row-asked : RowAsked p (take (i * shareLength p + shareLength p - i * shareLength p) (drop (i * shareLength p) parts))
-      (take (i * (12 * p .t) + 12 * p .t - i * (12 * p .t)) (drop (i * (12 * p .t)) blocks)) constants sums
+      (take (i * (12 * p .t) + 12 * p .t - i * (12 * p .t)) (drop (i * (12 * p .t)) blocks)) sums
   row-asked = record {
     within = asked .of .within;
     sized-s = length-block (i * shareLength p) (shareLength p) parts (share-fits .0);
     sized-block = length-block (i * (12 * p .t)) (12 * p .t) blocks (share-fits .1);
-    sized-constants = asked .of .sized-constants;
     sized-sums = asked .sized-sums;
   }

@@ -5,9 +5,8 @@ use borrow.Author.Needs.{needs}
 use Rattle.lists.specs.Zeroed.{zeroed}
 use Rattle.shake256.specs.Fips.{SHAKE256}
 use Rattle.exchange.specs.Layout.{workLength}
-use Rattle.exchange.specs.Values.{Key}
+use Rattle.exchange.specs.Values.{Key, keyOf}
 use Rattle.exchange.specs.Extractor.{Finding}
-use Rattle.coefficients.specs.Coefficients.{keyOf}
 use Rattle.calls.specs.Extractor.{Transcript, transcript}
 use Rattle.extractor.specs.Early.{Early, early-passed}
 use Rattle.extractor.specs.Given.Laws.{zeroed-twice, refused-early, refused-first, refused-second, both-accepted}

@@ -23,12 +23,10 @@ use Rattle.exchange.specs.Layout.{bits, isLast, auxLength, message5Length}
 use Rattle.exchange.specs.Tree.{siblingSeeds}
 use Rattle.exchange.specs.Leaf.{share, commitment}
 use Rattle.exchange.specs.Reading.{encode}
-use Rattle.exchange.specs.Values.{Key, imageOf, xOf, SOf, alpha, beta}
+use Rattle.exchange.specs.Values.{Key, imageOf, xOf, SOf, alpha, beta, keyOf}
 use Rattle.exchange.specs.Messages.{ownState, ownAux, ownShare, ownCommitment, message5}
-use Rattle.lagrange.specs.Written.{front-kept, middle-kept}
-use Rattle.coefficients.specs.Coefficients.{keyOf}
-use Rattle.leafvalues.specs.Leaf.{leafValues}
-use Rattle.leafvalues.specs.Leaf.Laws.{leafValues-any}
+use Rattle.encoding.specs.Written.{front-kept, middle-kept}
+use Rattle.values.specs.Leaf.{leafValues, leafValues-any}
 use Rattle.leafstates.specs.States.Seeds.{levels-is}
 use Rattle.messages.specs.Opening.{leafBytes, openingOf}
 

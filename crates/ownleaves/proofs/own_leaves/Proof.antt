@@ -5,7 +5,7 @@ use Prim.Native.Nat.{ℕ, _≤_}
 use lib.ListN.{length, drop}
 use native.Mathlib.Omega.{arith}
 use borrow.Author.Needs.{needs}
-use Rattle.lagrange.specs.Written.{front-length, front-kept}
+use Rattle.encoding.specs.Written.{front-length, front-kept}
 use Rattle.exchange.specs.Layout.{workLength}
 use Rattle.auxiliary.specs.Auxiliary.{auxFor}
 use Rattle.ownleaves.specs.Own.{sumOf}

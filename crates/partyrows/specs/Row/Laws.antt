@@ -1,7 +1,7 @@
 -- What the code makes of a share is what the share announces.
 --
 -- v-read                               v from points that are read at their places
--- withConstants-is, vBy-is, rowBy-is   the row of a share, from its block
+-- frontBy-is, vBy-is, rowBy-is         the row of a share, from its block
 -- two-lengths                          two lists of points take 8t bytes
 -- hidden-inside, hidden-outside        the party that holds the hidden leaf, and where none is hidden
 -- withHidden-yes, withHidden-no        where a leaf is hidden, and where none is
@@ -24,12 +24,11 @@ use Rattle.exchange.specs.Layout.{side, leaves, digit}
 use Rattle.exchange.specs.Reading.{points, pointAt, encode, _⊞_}
 use Rattle.exchange.specs.Reading.Laws.{length-encode, encode-ext, pointAt-encode}
 use Rattle.exchange.specs.Values.{Key, alpha, beta, partV}
-use Rattle.exchange.specs.Values.Laws.{alphaConstant, betaConstant, alpha-first, beta-first}
 use Rattle.exchange.specs.Parties.{sums}
-use Rattle.values.specs.Announced.{gamma, announcedOf, constantsOf, vOf}
+use Rattle.values.specs.Announced.{gamma, announcedOf, vOf}
 use Rattle.values.specs.Announced.Laws.{partV-gamma}
 use Rattle.partyrows.specs.Difference.{encode-xor, shareRow}
-use Rattle.partyrows.specs.Row.{withConstants, vAt, vBy, rowBy, hiddenParty, withHidden, hideIn, firstBy, secondBy}
+use Rattle.partyrows.specs.Row.{frontBy, vAt, vBy, rowBy, hiddenParty, withHidden, hideIn, firstBy, secondBy}
 
 -- ---- points behind others
 
@@ -59,26 +58,14 @@ v-read p s block sums l γ α̂ β̂ r eγ eα eβ er =
     ∙ ap₂ (λ (x y : Point). bytesOf (vOf p s true (pointAt block (8 * p .t + 4 * l)) x y l)) (ap point eα ∙ point-bytesOf _) (ap point eβ ∙ point-bytesOf _)
 
 module _ (p : Parameters) (key : Key) (m2 s : List ℕ) where
-  pub withConstants-is : (block constants : List ℕ) → block ≡ announcedOf p key m2 s → constants ≡ constantsOf p key m2
-      → withConstants p block constants ≡ encode (alpha p key m2 true s) (p .t) ++ encode (beta p key m2 true s) (p .t)
-  unfolding withConstants announcedOf constantsOf
-  withConstants-is block constants eb ec =
-      ap₂ (λ (z k : List ℕ). xorList (take (8 * p .t) z) k) (eb ∙ sym (append-assoc alphas betas (encode (gamma p m2 s) (p .t)))) ec
-      ∙ ap (λ (z : List ℕ). xorList z (encode (alphaConstant p key m2) (p .t) ++ encode (betaConstant p key m2) (p .t)))
-      (take-at (alphas ++ betas) (encode (gamma p m2 s) (p .t)) (8 * p .t) (two-lengths _ _ (p .t)))
-      ∙ xorList-append alphas (encode (alphaConstant p key m2) (p .t)) betas (encode (betaConstant p key m2) (p .t))
-      (length-encode _ (p .t) ∙ sym (length-encode _ (p .t)))
-      ∙ ap₂ _++_
-      (encode-xor _ _ (p .t) ∙ encode-ext _ _ (p .t) (λ l h. points .base .add-comm _ _ ∙ sym (alpha-first p key m2 l s)))
-      (encode-xor _ _ (p .t) ∙ encode-ext _ _ (p .t) (λ l h. points .base .add-comm _ _ ∙ sym (beta-first p key m2 l s)))
-    where
-      alphas : List ℕ
-      alphas = encode (alpha p key m2 false s) (p .t)
+  pub frontBy-is : (block : List ℕ) → block ≡ announcedOf p key m2 true s
+      → frontBy p block ≡ encode (alpha p key m2 true s) (p .t) ++ encode (beta p key m2 true s) (p .t)
+  unfolding frontBy announcedOf
+  frontBy-is block eb =
+      ap (take (8 * p .t)) (eb ∙ sym (append-assoc (encode (alpha p key m2 true s) (p .t)) (encode (beta p key m2 true s) (p .t)) _))
+      ∙ take-at (encode (alpha p key m2 true s) (p .t) ++ encode (beta p key m2 true s) (p .t)) _ (8 * p .t) (two-lengths _ _ (p .t))
 
-      betas : List ℕ
-      betas = encode (beta p key m2 false s) (p .t)
-
-  pub vBy-is : (block sums : List ℕ) (α̂ β̂ : ℕ → Point) → block ≡ announcedOf p key m2 s → sums ≡ encode α̂ (p .t) ++ encode β̂ (p .t)
+  pub vBy-is : (block sums : List ℕ) (α̂ β̂ : ℕ → Point) → block ≡ announcedOf p key m2 true s → sums ≡ encode α̂ (p .t) ++ encode β̂ (p .t)
       → vBy p s block sums ≡ encode (λ l. partV p key m2 true s (α̂ l) (β̂ l) l) (p .t)
   unfolding vBy vAt announcedOf
   vBy-is block sums α̂ β̂ eb es =
@@ -93,15 +80,15 @@ module _ (p : Parameters) (key : Key) (m2 s : List ℕ) where
       third : (l : ℕ) → l < p .t → pointAt block (8 * p .t + 4 * l) ≡ gamma p m2 s l
       third l h =
           ap (λ (z : List ℕ). pointAt z (8 * p .t + 4 * l))
-          (eb ∙ sym (append-assoc (encode (alpha p key m2 false s) (p .t)) (encode (beta p key m2 false s) (p .t)) (encode (gamma p m2 s) (p .t))))
-          ∙ at-end (encode (alpha p key m2 false s) (p .t) ++ encode (beta p key m2 false s) (p .t)) (gamma p m2 s) (p .t) (8 * p .t) l
+          (eb ∙ sym (append-assoc (encode (alpha p key m2 true s) (p .t)) (encode (beta p key m2 true s) (p .t)) (encode (gamma p m2 s) (p .t))))
+          ∙ at-end (encode (alpha p key m2 true s) (p .t) ++ encode (beta p key m2 true s) (p .t)) (gamma p m2 s) (p .t) (8 * p .t) l
           (two-lengths _ _ (p .t)) h
 
-  pub rowBy-is : (block constants sums : List ℕ) (α̂ β̂ : ℕ → Point) → block ≡ announcedOf p key m2 s → constants ≡ constantsOf p key m2
-      → sums ≡ encode α̂ (p .t) ++ encode β̂ (p .t) → rowBy p s block constants sums ≡ shareRow p key m2 true s α̂ β̂
+  pub rowBy-is : (block sums : List ℕ) (α̂ β̂ : ℕ → Point) → block ≡ announcedOf p key m2 true s
+      → sums ≡ encode α̂ (p .t) ++ encode β̂ (p .t) → rowBy p s block sums ≡ shareRow p key m2 true s α̂ β̂
   unfolding rowBy shareRow
-  rowBy-is block constants sums α̂ β̂ eb ec es =
-      ap₂ _++_ (withConstants-is block constants eb ec) (vBy-is block sums α̂ β̂ eb es)
+  rowBy-is block sums α̂ β̂ eb es =
+      ap₂ _++_ (frontBy-is block eb) (vBy-is block sums α̂ β̂ eb es)
       ∙ append-assoc (encode (alpha p key m2 true s) (p .t)) (encode (beta p key m2 true s) (p .t)) _
 
 -- ---- the party that holds the hidden leaf

@@ -2,7 +2,7 @@
 use mathlib.Core.Path.{sym}
 use native.Mathlib.Omega.{arith}
 use borrow.Author.Needs.{needs}
-use Rattle.lagrange.specs.Written.{front-length}
+use Rattle.encoding.specs.Written.{front-length}
 use Rattle.response.specs.Response.Laws.{rows-most}
 use Rattle.response.proofs.message3.Statement.{statement}
 use Rattle.response.proofs.message3.Tie as tie

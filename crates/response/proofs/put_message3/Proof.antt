@@ -5,8 +5,8 @@ use native.Mathlib.Omega.{arith}
 use lib.ListN.{take}
 use borrow.Author.Needs.{needs}
 use Rattle.exchange.specs.Layout.{workLength}
-use Rattle.lagrange.specs.Written.{front-length}
-use Rattle.coefficients.specs.Coefficients.{keyOf}
+use Rattle.encoding.specs.Written.{front-length}
+use Rattle.exchange.specs.Values.{keyOf}
 use Rattle.ownleaves.specs.Own.Laws.{zeroed-whole}
 use Rattle.response.specs.Response.{responseOf}
 use Rattle.response.specs.Response.Laws.{total-fits, front-fits, response-made}

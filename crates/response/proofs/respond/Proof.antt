@@ -5,7 +5,7 @@ use Prim.Native.Nat.{ℕ}
 use borrow.Author.Needs.{needs}
 use Rattle.shake256.specs.Fips.{SHAKE256}
 use Rattle.exchange.specs.Sequences.{joined}
-use Rattle.coefficients.specs.Coefficients.{keyOf}
+use Rattle.exchange.specs.Values.{keyOf}
 use Rattle.axes.specs.Announcing.{rowOf}
 use Rattle.axisdigests.specs.Rows.{rowsString}
 use Rattle.response.specs.Response.{responseOf}
@@ -19,7 +19,7 @@ returns c =
     let a = s .args in
     c .before .before .response-digest .ensures
     ∙ ap₂ (λ (r : List ℕ) (l : ℕ). SHAKE256 (rowsString SHAKE256 (a .p) (a .salt .now) r) l)
-    (c .before .before .before .before .before .before .before .axis-rows .ensures
+    (c .before .before .before .before .before .before .before .axis-rows .ensures .0
     ∙ ap (λ (n : ℕ). joined (rowOf (a .p) (keyOf (a .matrix .now) (a .y .now)) (a .m2 .now) (a .parts .now) n (a .hidden .now)) (a .p .d))
     (c .before .before .before .before .before .before .before .before .before .leaf-count .ensures))
     (s .pre .1)

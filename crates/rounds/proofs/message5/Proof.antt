@@ -6,7 +6,7 @@ use lib.Seq.{length-take-le}
 use borrow.Author.Needs.{needs}
 use Rattle.shake256.specs.Fips.{SHAKE256}
 use Rattle.exchange.specs.Messages.{message5}
-use Rattle.coefficients.specs.Coefficients.{keyOf}
+use Rattle.exchange.specs.Values.{keyOf}
 use Rattle.rounds.specs.Rounds.Laws.{x-fits, work-fits, m2-fits, front-held, work-back}
 use Rattle.rounds.proofs.message5.Statement.{statement}
 use Rattle.rounds.proofs.message5.Tie as tie

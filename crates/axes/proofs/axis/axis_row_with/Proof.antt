@@ -9,21 +9,16 @@ use Rattle.axes.proofs.axis.axis_row_with.Tie as tie
 returns : tie.Need-returns
 unfolding axisBy
 returns c =
-    let a = c .before .before .before .before .before .before .before .before .before .before .before .before .before .before .before .before .before .before .before .before .before .before .before .before .before .before .before .before .before .args in
-    let rows = c .before .before .before .before .before .before .before .before .before .before .before .before .before .before .before .before .before .formula-rows .ensures in
-    let hides = c .before .before .before .before .before .before .before .before .before .before .hide-leaf .ensures in
+    let after-hide-leaf : tie.After-hide-leaf = search in
+    let after-formula-rows : tie.After-formula-rows = search in
+    let start : tie.Start = search in
+    let a = start .args in
+    let rows = after-formula-rows .formula-rows .ensures in
+    let hides = after-hide-leaf .hide-leaf .ensures in
     c .before .before .join .ensures
     ∙ ap₂ _++_ (hides .0 ∙ ap₂ (firstBy (a .p) (a .party) (a .hidden .now)) (rows .0) (rows .1))
     (hides .1 ∙ ap₂ (secondBy (a .p) (a .party) (a .hidden .now)) (rows .0) (rows .1))
 
 pub axis-row-with-spec : {M : Type 1} → statement M
-axis-row-with-spec =
-    tie.close
-    (tie.spec
-    (λ c κs. search needs)
-    (λ c κs. search needs)
-    (λ c κs. search needs)
-    (λ c. search needs)
-    (λ c. search needs)
-    (λ c. search needs)
-    returns)
+axis-row-with-spec = tie.close (tie.spec (λ c κs. search needs) (λ c κs. search needs) (λ c κs. search needs)
+    (λ c. search needs) (λ c. search needs) (λ c. search needs) returns)

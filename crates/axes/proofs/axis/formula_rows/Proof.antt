@@ -7,10 +7,11 @@ use Rattle.axes.proofs.axis.formula_rows.Tie as tie
 
 returns : tie.Need-returns
 returns c =
-    let first = c .before .before .before .before .before .before .before .before .before .before .before .put-row .ensures in
-    (first, c .before .before .xor-into .ensures ∙ ap₂ xorList (c .before .before .before .before .before .before .before .copy .ensures) first)
+    let after-copy : tie.After-copy = search in
+    let after-put-row : tie.After-put-row = search in
+    let first = after-put-row .put-row .ensures in
+    (first, c .before .before .xor-into .ensures ∙ ap₂ xorList (after-copy .copy .ensures) first)
 
 pub formula-rows-spec : {M : Type 1} → statement M
-formula-rows-spec =
-    tie.close
-    (tie.spec (λ c κs. search needs) (λ c κs. search needs) (λ c κs. search needs) (λ c. search needs) (λ c. search needs) returns)
+formula-rows-spec = tie.close (tie.spec (λ c κs. search needs) (λ c κs. search needs) (λ c κs. search needs)
+    (λ c. search needs) (λ c. search needs) returns)

@@ -11,9 +11,10 @@ use Rattle.axes.proofs.axis.join.Tie as tie
 
 returns : tie.Need-returns
 returns c =
-    let s = c .before .before .before .before .before .before .before .before .before .before .before in
+    let after-put-at : tie.After-put-at = search in
+    let s : tie.Start = search in
     c .before .before .put-at2 .ensures
-    ∙ ap (λ (d : List ℕ). putAt d (length (s .args .a .now)) (s .args .b .now)) (c .before .before .before .before .before .before .put-at .ensures)
+    ∙ ap (λ (d : List ℕ). putAt d (length (s .args .a .now)) (s .args .b .now)) (after-put-at .put-at .ensures)
     ∙ pair-made (s .args .out .now) (s .args .a .now) (s .args .b .now) (s .pre)
 
 pub join-spec : {M : Type 1} → statement M

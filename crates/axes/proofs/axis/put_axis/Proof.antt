@@ -6,42 +6,46 @@ use native.Mathlib.Omega.{arith}
 use borrow.Author.Needs.{needs}
 use lib.ListN.{length}
 use Rattle.exchange.specs.Layout.{shareLength}
-use Rattle.values.specs.Shares.{shareOf, blockOf}
+use Rattle.sidebyside.specs.Shares.{shareOf}
+use Rattle.values.specs.Shares.{blockOf}
 use Rattle.partyrows.specs.Row.{axisBy}
 use Rattle.axes.specs.Asked.Laws.{share-fits, row-asked}
 use Rattle.axes.specs.Slices.{middle-part}
 use Rattle.axes.proofs.axis.put_axis.Statement.{statement}
 use Rattle.axes.proofs.axis.put_axis.Tie as tie
 
+abbrev back-to-start : tie.After-slice-known → tie.Start
+back-to-start c = search
+
 inside : (s : tie.Start)
     → (s .args .axis * shareLength (s .args .p) + shareLength (s .args .p) ≤ length (s .args .parts .now))
     × (s .args .axis * (12 * s .args .p .t) + 12 * s .args .p .t ≤ length (s .args .blocks .now))
-inside s = let h = s .pre .1 in share-fits _ _ _ _ _ _ _ (s .pre .0) (s .args .axis) (omega arith)
+inside s = let h = s .pre .1 in share-fits _ _ _ _ _ _ (s .pre .0) (s .args .axis) (omega arith)
 
 mul-a : tie.Need-mul-a
-mul-a c = omega (arith, inside (c .before .before .before .before .before .before .before .before .before .before .before) .0)
+mul-a c = let start : tie.Start = search back-to-start in omega (arith, inside start .0)
 
 mul-b-2 : tie.Need-mul-b-2
-mul-b-2 c = omega (arith, inside (c .before .before .before .before .before .before .before .before .before .before .before .before) .1)
+mul-b-2 c = let start : tie.Start = search back-to-start in omega (arith, inside start .1)
 
 add-e : tie.Need-add-e
-add-e c = omega (arith, inside (c .before .before .before .before .before .before .before .before .before .before .before .before) .0)
+add-e c = let start : tie.Start = search back-to-start in omega (arith, inside start .0)
 
 add-f : tie.Need-add-f
-add-f c = omega (arith, inside (c .before .before .before .before .before .before .before .before .before .before .before .before .before) .1)
+add-f c = let start : tie.Start = search back-to-start in omega (arith, inside start .1)
 
 part-axis-row-end : tie.Need-part-axis-row-end
-part-axis-row-end c = omega (arith, inside (c .before .before .before .before .before .before .before .before .before .before .before .before .before .before) .0)
+part-axis-row-end c = let start : tie.Start = search back-to-start in omega (arith, inside start .0)
 
 part-axis-row-end-2 : tie.Need-part-axis-row-end-2
-part-axis-row-end-2 c = omega (arith, inside (c .before .before .before .before .before .before .before .before .before .before .before .before .before .before .before) .1)
+part-axis-row-end-2 c = let start : tie.Start = search back-to-start in omega (arith, inside start .1)
 
 axis-row-requires : tie.Need-axis-row-requires
 axis-row-requires c κs =
-    let s = c .before .before .before .before .before .before .before .before .before .before .before .before .before .before .before .before .before in
+    let s : tie.Start = search back-to-start in
     let h = s .pre .1 in (
       record {
-        row = row-asked (s .args .p) (s .args .parts .now) (s .args .blocks .now) (s .args .constants .now) (s .args .sums .now) (s .args .total .now) (s .args .hidden .now) (s .pre .0) (s .args .axis) (omega arith);
+        row = row-asked (s .args .p) (s .args .parts .now) (s .args .blocks .now) (s .args .sums .now) (s .args .total .now) (s .args .hidden .now) (s .pre .0) (s .args .axis) (omega arith);
         sized-total = s .pre .0 .sized-total;
         sized-hidden = s .pre .0 .of .sized-hidden;
       },
@@ -52,38 +56,18 @@ axis-row-requires c κs =
 
 returns : tie.Need-returns
 returns c =
-    let a = c .before .before .before .before .before .before .before .before .before .before .before .before .before .before .before .before .before .before .before .before .args in
-    let party = c .before .before .before .before .before .before .hidden-party in
+    let party : tie.After-hidden-party = search in
+    let start : tie.Start = search back-to-start in
+    let a = start .args in
     c .before .before .axis-row .ensures
-    ∙ ap₂ (λ (x y : List ℕ). axisBy (a .p) x y (a .constants .now) (a .sums .now) (a .total .now) (party .result) (a .hidden .now))
+    ∙ ap₂ (λ (x y : List ℕ). axisBy (a .p) x y (a .sums .now) (a .total .now) (party .hidden-party .result) (a .hidden .now))
     (middle-part (a .parts .now) (a .axis * shareLength (a .p)) (shareLength (a .p)))
     (middle-part (a .blocks .now) (a .axis * (12 * a .p .t)) (12 * a .p .t))
-    ∙ ap (λ (h : ℕ). axisBy (a .p) (shareOf (a .p) (a .parts .now) (a .axis)) (blockOf (a .p) (a .blocks .now) (a .axis)) (a .constants .now) (a .sums .now) (a .total .now) h (a .hidden .now))
-    (party .ensures)
+    ∙ ap (λ (h : ℕ). axisBy (a .p) (shareOf (a .p) (a .parts .now) (a .axis)) (blockOf (a .p) (a .blocks .now) (a .axis)) (a .sums .now) (a .total .now) h (a .hidden .now))
+    (party .hidden-party .ensures)
 
 pub put-axis-spec : {M : Type 1} → statement M
-put-axis-spec =
-    tie.close
-    (tie.spec
-    (λ c. search needs)
-    (λ c. search needs)
-    (λ c. search needs)
-    (λ c. search needs)
-    (λ c. search needs)
-    (λ c. search needs)
-    mul-a
-    (λ c. search needs)
-    mul-b-2
-    add-e
-    (λ c. search needs)
-    add-f
-    (λ c κs. search needs)
-    (λ c. search needs)
-    (λ c. search needs)
-    part-axis-row-end
-    (λ c. search needs)
-    (λ c. search needs)
-    part-axis-row-end-2
-    axis-row-requires
-    (λ c. search needs)
-    returns)
+put-axis-spec = tie.close (tie.spec (λ c. search needs) (λ c. search needs) (λ c. search needs) (λ c. search needs)
+    (λ c. search needs) (λ c. search needs) mul-a (λ c. search needs) mul-b-2 add-e (λ c. search needs) add-f
+    (λ c κs. search needs) (λ c. search needs) (λ c. search needs) part-axis-row-end (λ c. search needs)
+    (λ c. search needs) part-axis-row-end-2 axis-row-requires (λ c. search needs) returns)

@@ -2,26 +2,24 @@
 use mathlib.Core.Path.{_∙_}
 use native.Mathlib.Omega.{arith}
 use borrow.Author.Needs.{needs}
-use Rattle.coefficients.specs.Coefficients.{keyOf}
+use Rattle.exchange.specs.Values.{keyOf}
 use Rattle.axes.specs.Axes.{rows-made}
 use Rattle.axes.proofs.rows.axis_rows_with.Statement.{statement}
 use Rattle.axes.proofs.rows.axis_rows_with.Tie as tie
 
+abbrev back-to-start : tie.After-slice-known2 → tie.Start
+back-to-start c = search
+
 total-row-requires : tie.Need-total-row-requires
 total-row-requires c κs =
-    let s = c .before .before .before .before .before .before .before .before .before .before .before .before .before .before .before .before .before .before .before .before .before in
+    let made : tie.After-evaluate = search in
+    let s : tie.Start = search back-to-start in
     let f = s .pre .0 in
-    let made = c .before .before .before .before .before .before .before .before .evaluate in (
+    let g = s .pre .1 in (
       record {
-        of = record {
-          within = f .within;
-          sized-parts = f .sized-parts;
-          sized-blocks = made .kept .1 .1 .1 .1 .1 .1 .0 ∙ s .pre .1 .sized-blocks;
-          sized-constants = made .kept .1 .1 .1 .1 .1 .0 ∙ s .pre .1 .sized-constants;
-          sized-hidden = f .sized-hidden;
-        };
-        sized-sums = s .pre .1 .sized-sums;
-        sized-total = s .pre .1 .sized-total;
+        of = record { within = f .within; sized-parts = f .sized-parts; sized-blocks = omega (arith, made .evaluate, g .sized-blocks); sized-hidden = f .sized-hidden };
+        sized-sums = g .sized-sums;
+        sized-total = g .sized-total;
       },
       s .pre .2,
       s .pre .3,
@@ -29,20 +27,15 @@ total-row-requires c κs =
 
 put-rows-requires : tie.Need-put-rows-requires
 put-rows-requires c κs =
-    let s = c .before .before .before .before .before .before .before .before .before .before .before .before .before .before .before .before .before .before .before .before .before .before .before .before .before .before .before .before .before .before .before in
+    let all : tie.After-total-row = search in
+    let made : tie.After-evaluate = search in
+    let s : tie.Start = search back-to-start in
     let f = s .pre .0 in
-    let made = c .before .before .before .before .before .before .before .before .before .before .before .before .before .before .before .before .before .before .evaluate in
-    let all = c .before .before .before .before .before .before .before .before .before .total-row in (
+    let g = s .pre .1 in (
       record {
-        of = record {
-          within = f .within;
-          sized-parts = f .sized-parts;
-          sized-blocks = made .kept .1 .1 .1 .1 .1 .1 .0 ∙ s .pre .1 .sized-blocks;
-          sized-constants = made .kept .1 .1 .1 .1 .1 .0 ∙ s .pre .1 .sized-constants;
-          sized-hidden = f .sized-hidden;
-        };
-        sized-sums = all .kept .1 .1 .1 .1 .1 .1 .0 ∙ s .pre .1 .sized-sums;
-        sized-total = all .kept .1 .1 .1 .1 .1 .1 .1 .0 ∙ s .pre .1 .sized-total;
+        of = record { within = f .within; sized-parts = f .sized-parts; sized-blocks = omega (arith, made .evaluate, g .sized-blocks); sized-hidden = f .sized-hidden };
+        sized-sums = omega (arith, all .total-row, g .sized-sums);
+        sized-total = omega (arith, all .total-row, g .sized-total);
       },
       f .sized-rows,
       s .pre .2,
@@ -51,25 +44,17 @@ put-rows-requires c κs =
 
 returns : tie.Need-returns
 returns c =
-    let s = c .before .before .before .before .before .before .before .before .before .before .before .before .before .before .before .before .before .before .before .before .before .before .before .before .before .before .before .before .before .before .before .before .before .before in
-    let a = s .args in
-    let made = c .before .before .before .before .before .before .before .before .before .before .before .before .before .before .before .before .before .before .before .before .before .evaluate in
-    let all = c .before .before .before .before .before .before .before .before .before .before .before .before .total-row in
-    c .before .before .put-rows .ensures
-    ∙ rows-made (a .p) (keyOf (a .matrix .now) (a .y .now)) (a .m2 .now) (a .parts .now) (a .leaf) (a .hidden .now) (made .last .1 .1 .1 .1 .1 .1 .0) (made .last .1 .1 .1 .1 .1 .0)
-    (all .last .1 .1 .1 .1 .1 .1 .0) (all .last .1 .1 .1 .1 .1 .1 .1 .0) (made .ensures) (s .pre .0 .sized-hidden) (λ i. omega (arith, c .before .before .before .before .before .before .before .before .before .before .before .before .before .before .before .before .before .before .before .before .before .before .before .before .before .before .before .before .before .shared-slice-known5 .given i))
-    (all .ensures .0) (all .ensures .1)
+    let all : tie.After-total-row = search in
+    let made : tie.After-evaluate = search in
+    let bytes : tie.After-shared-slice-known5 = search in
+    let s : tie.Start = search back-to-start in
+    let a = s .args in (
+      c .before .before .put-rows .ensures
+          ∙ rows-made (a .p) (keyOf (a .matrix .now) (a .y .now)) (a .m2 .now) (a .parts .now) (a .leaf) (a .hidden .now) _ _ _ (made .evaluate .ensures .0)
+          (s .pre .0 .sized-hidden) (λ i. omega (arith, bytes .shared-slice-known5 .given i)) (all .total-row .ensures .0) (all .total-row .ensures .1),
+      made .evaluate .ensures .1,
+    )
 
 pub axis-rows-with-spec : {M : Type 1} → statement M
-axis-rows-with-spec =
-    tie.close
-    (tie.spec
-    (λ c κs. search needs)
-    total-row-requires
-    put-rows-requires
-    (λ c. search needs)
-    (λ c. search needs)
-    (λ c. search needs)
-    (λ c. search needs)
-    (λ c. search needs)
-    returns)
+axis-rows-with-spec = tie.close (tie.spec (λ c κs. search needs) total-row-requires put-rows-requires
+    (λ c. search needs) (λ c. search needs) (λ c. search needs) (λ c. search needs) returns)

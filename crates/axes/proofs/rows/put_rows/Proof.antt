@@ -6,34 +6,34 @@ use native.Mathlib.Omega.{arith}
 use borrow.Author.Needs.{needs}
 use lib.ListN.{length}
 use Rattle.parameters.specs.declared.Parameters.{Parameters}
-use Rattle.lagrange.specs.Written.{middle-kept}
-use Rattle.values.specs.Shares.{shareOf, blockOf}
-use Rattle.values.specs.Shares.Laws.{within-blocks, next-block, length-block}
+use Rattle.encoding.specs.Written.{middle-kept}
+use Rattle.sidebyside.specs.Shares.{shareOf}
+use Rattle.values.specs.Shares.{blockOf}
+use Rattle.encoding.specs.Blocks.{within-blocks, next-block, length-block}
 use Rattle.partyrows.specs.Row.{hiddenParty}
 use Rattle.partyrows.specs.Row.{axisBy}
-use Rattle.axes.specs.Slices.{Blocks, blocks-none, blocks-turn, blocks-end}
+use Rattle.encoding.specs.Blocks.{Blocks, blocks-none, blocks-turn, blocks-end}
 use Rattle.axes.proofs.rows.put_rows.Statement.{statement}
 use Rattle.axes.proofs.rows.put_rows.Tie as tie
 
-abbrev rowAt : Parameters → List ℕ → List ℕ → List ℕ → List ℕ → List ℕ → ℕ → List ℕ → ℕ → List ℕ
-rowAt p parts blocks constants sums total leaf hidden j = axisBy p (shareOf p parts j) (blockOf p blocks j) constants sums total (hiddenParty p leaf j) hidden
+abbrev rowAt : Parameters → List ℕ → List ℕ → List ℕ → List ℕ → ℕ → List ℕ → ℕ → List ℕ
+rowAt p parts blocks sums total leaf hidden j = axisBy p (shareOf p parts j) (blockOf p blocks j) sums total (hiddenParty p leaf j) hidden
 
 abbrev Inv-loop : tie.InvT-loop
-Inv-loop p parts blocks constants sums total leaf hidden rows₀ log pow width b₀ j₀ rows b j =
-    (j ≤ p .d) × (b ≡ j * (24 * p .t)) × Blocks (rowAt p parts blocks constants sums total leaf hidden) (24 * p .t) rows₀ rows j × (length rows ≡ length rows₀)
+Inv-loop p parts blocks sums total leaf hidden rows₀ log pow width b₀ j₀ rows b j =
+    (j ≤ p .d) × (b ≡ j * (24 * p .t)) × Blocks (rowAt p parts blocks sums total leaf hidden) (24 * p .t) rows₀ rows j × (length rows ≡ length rows₀)
 
 abbrev μ-loop : tie.MeasureT-loop
-μ-loop p parts blocks constants sums total leaf hidden rows₀ log pow width b₀ j₀ rows b j = p .d - j
+μ-loop p parts blocks sums total leaf hidden rows₀ log pow width b₀ j₀ rows b j = p .d - j
 
 -- row j lies within the slice
-inside : (q : tie.At-loop Inv-loop μ-loop) → q .loop .j < q .before .before .before .before .before .before .before .before .before .args .p .d
-    → q .loop .b + 24 * q .before .before .before .before .before .before .before .before .before .args .p .t ≤ length (q .loop .rows)
-inside q h =
-    let s = q .before .before .before .before .before .before .before .before .before in
-    within-blocks (q .loop .j) (s .args .p .d) _ (q .loop .b) _ h (q .loop .inv .1) (q .loop .inv .3 ∙ s .pre .1)
+abbrev start : tie.At-loop Inv-loop μ-loop → tie.Start Inv-loop μ-loop
+start q = search
 
-mul-width : tie.Need-mul-width Inv-loop μ-loop
-mul-width c = search needs
+inside : (q : tie.At-loop Inv-loop μ-loop) → q .loop .j < start q .args .p .d → q .loop .b + 24 * start q .args .p .t ≤ length (q .loop .rows)
+inside q h =
+    let s = start q in
+    within-blocks (q .loop .j) (s .args .p .d) _ (q .loop .b) _ h (q .loop .inv .1) (q .loop .inv .3 ∙ s .pre .1)
 
 loop-holds : tie.Need-loop-holds Inv-loop μ-loop
 loop-holds c = (omega arith, omega arith, blocks-none _ _ _, refl)
@@ -41,18 +41,12 @@ loop-holds c = (omega arith, omega arith, blocks-none _ _ _, refl)
 add-e : tie.Need-add-e Inv-loop μ-loop
 add-e c = let h = inside (c .before .before) (c .if1 .taken) in omega (arith, h)
 
-sub-put-axis : tie.Need-sub-put-axis Inv-loop μ-loop
-sub-put-axis c = omega arith
-
-part-put-axis-start : tie.Need-part-put-axis-start Inv-loop μ-loop
-part-put-axis-start c = omega arith
-
 part-put-axis-end : tie.Need-part-put-axis-end Inv-loop μ-loop
 part-put-axis-end c = let h = inside (c .before .before) (c .if1 .taken) in omega (arith, h)
 
 put-axis-requires : tie.Need-put-axis-requires Inv-loop μ-loop
 put-axis-requires c κs =
-    let s = c .before .before .before .before .before .before .before .before .before .before .before .before in
+    let s : tie.Start Inv-loop μ-loop = search in
     let q = c .before .before .before in (
       s .pre .0,
       c .before .if1 .taken,
@@ -61,54 +55,32 @@ put-axis-requires c κs =
       s .pre .3,
     )
 
-add-j : tie.Need-add-j Inv-loop μ-loop
-add-j c = omega (arith, c .before .before .before .before .if1 .taken, c .before .before .before .before .before .before .before .before .before .before .before .before .before .before .before .pre .0 .of .within .d-most)
-
-loop-less : tie.Need-loop-less Inv-loop μ-loop
-loop-less c = omega (arith, c .before .before .before .before .if1 .taken)
-
 loop-again : tie.Need-loop-again Inv-loop μ-loop
 loop-again c =
-    let s = c .before .before .before .before .before .before .before .before .before .before .before .before .before .before .before in
+    let then1 : tie.Then1 Inv-loop μ-loop = search in
+    let q : tie.At-loop Inv-loop μ-loop = search in
+    let s : tie.Start Inv-loop μ-loop = search in
     let a = s .args in
-    let q = c .before .before .before .before .before .before in
-    let h = c .before .before .before .before .if1 .taken in
-    let u = c .before .before .put-axis .last .1 .1 .1 .1 .1 .1 .1 .1 .1 .0 in
+    let h = then1 .if1 .taken in
+    let u = c .before .before .put-axis .last .1 .1 .1 .1 .1 .1 .1 .1 .0 in
     let fits = inside q h in
-    let eu : length u ≡ 24 * a .p .t = c .before .before .put-axis .kept .1 .1 .1 .1 .1 .1 .1 .1 .1 .0 ∙ length-block (q .loop .b) (24 * a .p .t) (q .loop .rows) fits in (
+    let eu : length u ≡ 24 * a .p .t = c .before .before .put-axis .kept .1 .1 .1 .1 .1 .1 .1 .1 .0 ∙ length-block (q .loop .b) (24 * a .p .t) (q .loop .rows) fits in (
       omega (arith, h),
       next-block (q .loop .j) _ (q .loop .b) (q .loop .inv .1),
-      blocks-turn (rowAt (a .p) (a .parts .now) (a .blocks .now) (a .constants .now) (a .sums .now) (a .total .now) (a .leaf) (a .hidden .now)) (24 * a .p .t) (a .p .d) (a .rows .now) (s .pre .1)
+      blocks-turn (rowAt (a .p) (a .parts .now) (a .blocks .now) (a .sums .now) (a .total .now) (a .leaf) (a .hidden .now)) (24 * a .p .t) (a .p .d) (a .rows .now) (s .pre .1)
           (q .loop .rows) u (q .loop .j) (q .loop .b) h (q .loop .inv .1) eu (c .before .before .put-axis .ensures) (q .loop .inv .2),
       middle-kept (q .loop .b) (q .loop .b + 24 * a .p .t - q .loop .b) u (q .loop .rows) (eu ∙ omega arith) (omega (arith, fits)) ∙ q .loop .inv .3,
     )
 
-same-length : tie.Need-same-length Inv-loop μ-loop
-same-length c = c .before .before .loop .inv .3
-
 returns : tie.Need-returns Inv-loop μ-loop
 returns c =
-    let s = c .before .before .before .before .before .before .before .before .before .before .before in
+    let s : tie.Start Inv-loop μ-loop = search in
     let a = s .args in
     let q = c .before .before .loop in
-    blocks-end (rowAt (a .p) (a .parts .now) (a .blocks .now) (a .constants .now) (a .sums .now) (a .total .now) (a .leaf) (a .hidden .now)) (24 * a .p .t) (a .p .d) (a .rows .now) (s .pre .1)
+    blocks-end (rowAt (a .p) (a .parts .now) (a .blocks .now) (a .sums .now) (a .total .now) (a .leaf) (a .hidden .now)) (24 * a .p .t) (a .p .d) (a .rows .now) (s .pre .1)
     (q .rows) (q .j) (omega (arith, c .if1 .left)) (q .inv .2)
 
 pub put-rows-spec : {M : Type 1} → statement M
-put-rows-spec =
-    tie.close
-    (tie.spec
-    Inv-loop
-    μ-loop
-    mul-width
-    loop-holds
-    add-e
-    sub-put-axis
-    part-put-axis-start
-    part-put-axis-end
-    put-axis-requires
-    add-j
-    loop-less
-    loop-again
-    same-length
-    returns)
+put-rows-spec = tie.close (tie.spec Inv-loop μ-loop (λ c. search needs) loop-holds add-e (λ c. omega arith)
+    (λ c. omega arith) part-put-axis-end put-axis-requires (λ c. search needs) (λ c. search needs) loop-again
+    (λ c. search needs) returns)

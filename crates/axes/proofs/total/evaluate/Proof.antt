@@ -1,41 +1,23 @@
--- The two arrays have room for the largest parameters.
+-- The array has room for S of nine shares.
 use mathlib.Core.Path.{sym}
+use Prim.Native.Nat.{_+_, _*_, _≤_}
+use native.Mathlib.Nat.{mul-le-mul}
 use native.Mathlib.Omega.{arith}
 use borrow.Author.Needs.{needs}
-use Rattle.lagrange.specs.Written.{front-length}
+use Rattle.encoding.specs.Written.{front-length}
 use Rattle.axes.proofs.total.evaluate.Statement.{statement}
 use Rattle.axes.proofs.total.evaluate.Tie as tie
 
-slice-aggregate-evaluate-with : tie.Need-slice-aggregate-evaluate-with
-slice-aggregate-evaluate-with c = let w = c .before .before .before .before .before .before .before .before .before .pre .0 .within in front-length _ _ (omega (arith, w .m-most))
-
-slice-aggregate-evaluate-with-2 : tie.Need-slice-aggregate-evaluate-with-2
-slice-aggregate-evaluate-with-2 c = let w = c .before .before .before .before .before .before .before .before .before .before .pre .0 .within in front-length _ _ (omega (arith, w .m-most, w .k-most, w .w-most))
-
-evaluate-with-requires : tie.Need-evaluate-with-requires
-evaluate-with-requires c κs =
-    let s = c .before .before .before .before .before .before .before .before .before .before .before .before in
-    let w = s .pre .0 .within in (
-      s .pre .0,
-      sym (front-length _ _ (omega (arith, w .m-most))),
-      sym (front-length _ _ (omega (arith, w .m-most, w .k-most, w .w-most))),
-      s .pre .1,
-      s .pre .2,
-    )
+-- the D + 1 polynomials have at most 255 coefficients each
+rows-fit : (s : tie.Start) → (s .args .p .d + 1) * s .args .p .m ≤ 9 * 255
+rows-fit s =
+    let w = s .pre .0 .within in
+    let a : s .args .p .d + 1 ≤ 9 = omega (arith, w .d-most) in
+    mul-le-mul a (w .m-most)
 
 pub evaluate-spec : {M : Type 1} → statement M
 evaluate-spec =
     tie.close
-    (tie.spec
-    (λ c. search needs)
-    (λ c. search needs)
-    (λ c. search needs)
-    (λ c. search needs)
-    (λ c. search needs)
-    slice-aggregate-evaluate-with
-    (λ c. search needs)
-    slice-aggregate-evaluate-with-2
-    evaluate-with-requires
-    (λ c. search needs)
-    (λ c. search needs)
-    (λ c. search needs))
+    (tie.spec (λ c. search needs) (λ c. let s : tie.Start = search in omega (arith, rows-fit s)) (λ c. let s : tie.Start = search in rows-fit s)
+    (λ c. let s : tie.Start = search in front-length _ _ (rows-fit s))
+    (λ c κs. let s : tie.Start = search in (s .pre .0, sym (front-length _ _ (rows-fit s)), s .pre .1, s .pre .2)) (λ c. search needs) (λ c. search needs))

@@ -5,7 +5,7 @@ use Prim.Native.Nat.{_+_, _*_, _≤_}
 use native.Mathlib.Omega.{arith}
 use lib.ListN.{length}
 use borrow.Author.Needs.{needs}
-use Rattle.lagrange.specs.Written.{front-length}
+use Rattle.encoding.specs.Written.{front-length}
 use Rattle.messages.specs.Opening.{leafBytes}
 use Rattle.messages.specs.Opening.Laws.{two-made}
 use Rattle.messages.proofs.opening.put_leaf.Statement.{statement}

@@ -7,7 +7,7 @@ use borrow.Author.Needs.{needs}
 use Rattle.seedtree.proofs.Lent.{lent-part, lent-length}
 use Rattle.leaves.specs.States.{stateAt}
 use Rattle.leaves.specs.Shapes.Laws.{leaves-most}
-use Rattle.coefficients.specs.Coefficients.{keyOf}
+use Rattle.exchange.specs.Values.{keyOf}
 use Rattle.ownleaves.specs.Own.Laws.{ownStates-at}
 use Rattle.messages.specs.Opening.Laws.{opening-any}
 use Rattle.messages.proofs.opening.put_message5.Statement.{statement}

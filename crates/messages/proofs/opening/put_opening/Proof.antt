@@ -8,7 +8,7 @@ use lib.ListN.{length}
 use borrow.Author.Needs.{needs}
 use Rattle.exchange.specs.Layout.{isLast}
 use Rattle.exchange.specs.Layout.Laws.{leaves-is}
-use Rattle.lagrange.specs.Written.{front-length}
+use Rattle.encoding.specs.Written.{front-length}
 use Rattle.messages.specs.Opening.{openingOf}
 use Rattle.messages.specs.Opening.Laws.{opening-length, left-first, room-second, left-second, pieces-made}
 use Rattle.messages.proofs.opening.put_opening.Statement.{statement}

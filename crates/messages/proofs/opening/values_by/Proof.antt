@@ -2,14 +2,14 @@
 use mathlib.Core.Path.{ap, _∙_}
 use borrow.Author.Needs.{needs}
 use Rattle.leaves.specs.After.Laws.{share-begun}
-use Rattle.leafvalues.specs.Leaf.{leafValues}
+use Rattle.values.specs.Leaf.{leafValues}
 use Rattle.messages.proofs.opening.values_by.Statement.{statement}
 use Rattle.messages.proofs.opening.values_by.Tie as tie
 
 returns : tie.Need-returns
 returns c =
     let a = c .before .before .before .before .before .before .before .before .before .before .before .before .before .before .before .before .before .args in
-    c .before .before .announce-leaf .ensures
+    c .before .before .announce-leaf .ensures .0
     ∙ ap (leafValues (a .p) (a .matrix .now) (a .m2 .now))
     (c .before .before .before .before .before .before .before .leaf-share .ensures ∙ share-begun _ (a .salt .now) (a .p) (a .leaf) (a .state .now) (a .aux .now) (c .before .before .before .before .before .before .before .before .before .begin .ensures))
 

@@ -8,7 +8,7 @@ use lib.ListN.{length, take}
 use lib.Seq.{length-take-le}
 use Rattle.exchange.specs.Layout.{shareLength}
 use Rattle.exchange.specs.Sequences.{joined}
-use Rattle.coefficients.specs.Coefficients.{keyOf}
+use Rattle.exchange.specs.Values.{keyOf}
 use Rattle.axes.specs.Announcing.{rowOf}
 use Rattle.openings.specs.From.{announcedFrom}
 use Rattle.openings.specs.Asked.Laws.{front-fits}

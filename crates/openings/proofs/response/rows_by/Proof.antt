@@ -3,7 +3,7 @@ use mathlib.Core.Path.{ap, _∙_}
 use mathlib.Core.List.{List}
 use Prim.Native.Nat.{ℕ}
 use borrow.Author.Needs.{needs}
-use Rattle.coefficients.specs.Coefficients.{keyOf}
+use Rattle.exchange.specs.Values.{keyOf}
 use Rattle.openings.specs.From.{announcedFrom, rowsFrom}
 use Rattle.openings.proofs.response.rows_by.Statement.{statement}
 use Rattle.openings.proofs.response.rows_by.Tie as tie

@@ -14,23 +14,22 @@ use Rattle.partyrows.proofs.row.put_row.Tie as tie
 front : (s : tie.Start) → length (take (8 * s .args .p .t) (s .args .out .now)) ≡ 8 * s .args .p .t
 front s = length-take-le (8 * s .args .p .t) (s .args .out .now) (omega (arith, s .pre .1))
 
-slice-aggregate-with-constants : tie.Need-slice-aggregate-with-constants
-slice-aggregate-with-constants c = sym (front (c .before .before .before .before .before .before .before))
+slice-aggregate-put-front : tie.Need-slice-aggregate-put-front
+slice-aggregate-put-front c = let s : tie.Start = search in sym (front s)
 
-with-constants-requires : tie.Need-with-constants-requires
-with-constants-requires c κs =
-    let s = c .before .before .before .before .before .before .before in
-    (s .pre .0 .within, s .pre .0 .sized-block, s .pre .0 .sized-constants, front s)
+put-front-requires : tie.Need-put-front-requires
+put-front-requires c κs = let s : tie.Start = search in (s .pre .0 .within, s .pre .0 .sized-block, front s)
 
 put-v-requires : tie.Need-put-v-requires
 put-v-requires c κs =
-    let s = c .before .before .before .before .before .before .before .before .before .before .before in
+    let d : tie.After-put-front = search in
+    let s : tie.Start = search in
     let f = s .pre .0 in (
       f .within,
       f .sized-s,
       f .sized-block,
       f .sized-sums,
-      halves-room (s .args .out .now) (c .before .before .before .with-constants .last .1 .1 .1 .0) (8 * s .args .p .t) (c .before .before .before .with-constants .kept .1 .1 .1 .0 ∙ front s) (4 * s .args .p .t) (omega (arith, s .pre .1)),
+      halves-room (s .args .out .now) (d .put-front .last .1 .1 .0) (8 * s .args .p .t) (d .put-front .kept .1 .1 .0 ∙ front s) (4 * s .args .p .t) (omega (arith, s .pre .1)),
       s .pre .2,
       s .pre .3,
     )
@@ -38,23 +37,14 @@ put-v-requires c κs =
 returns : tie.Need-returns
 unfolding rowBy
 returns c =
-    let s = c .before .before .before .before .before .before .before .before .before .before .before .before .before .before in
-    let first = c .before .before .before .before .before .before .with-constants in
-    halves-made (s .args .out .now) (first .last .1 .1 .1 .0) (8 * s .args .p .t) (first .kept .1 .1 .1 .0 ∙ front s)
-    (c .before .before .put-v .last .1 .1 .1 .1 .0) (omega (arith, s .pre .1))
-    ∙ ap₂ _++_ (first .ensures) (c .before .before .put-v .ensures)
+    let e : tie.After-put-v = search in
+    let d : tie.After-put-front = search in
+    let s : tie.Start = search in
+    halves-made (s .args .out .now) (d .put-front .last .1 .1 .0) (8 * s .args .p .t) (d .put-front .kept .1 .1 .0 ∙ front s)
+    (e .put-v .last .1 .1 .1 .1 .0) (omega (arith, s .pre .1))
+    ∙ ap₂ _++_ (d .put-front .ensures) (e .put-v .ensures)
 
 pub put-row-spec : {M : Type 1} → statement M
-put-row-spec =
-    tie.close
-    (tie.spec
-    (λ c. search needs)
-    (λ c. search needs)
-    slice-aggregate-with-constants
-    with-constants-requires
-    (λ c. search needs)
-    (λ c. search needs)
-    (λ c. search needs)
-    put-v-requires
-    (λ c. search needs)
+put-row-spec = tie.close (tie.spec (λ c. search needs) (λ c. search needs) slice-aggregate-put-front
+    put-front-requires (λ c. search needs) (λ c. search needs) (λ c. search needs) put-v-requires (λ c. search needs)
     returns)

@@ -6,7 +6,7 @@ use borrow.Author.Needs.{needs}
 use lib.ListN.{length}
 use Rattle.lists.specs.Part.{putAt}
 use Rattle.exchange.specs.Reading.{encode}
-use Rattle.lagrange.specs.Written.{write-none, write-turn, write-end}
+use Rattle.encoding.specs.Written.{write-none, write-turn, write-end}
 use Rattle.partyrows.specs.Row.{vAt, vBy}
 use Rattle.partyrows.proofs.row.put_v.Statement.{statement}
 use Rattle.partyrows.proofs.row.put_v.Tie as tie
@@ -20,21 +20,6 @@ abbrev μ-loop : tie.MeasureT-loop
 loop-holds : tie.Need-loop-holds Inv-loop μ-loop
 loop-holds c = (omega arith, write-none _ _, refl)
 
-row-v-requires : tie.Need-row-v-requires Inv-loop μ-loop
-row-v-requires c κs = search needs
-
-mul-put-point : tie.Need-mul-put-point Inv-loop μ-loop
-mul-put-point c = search needs
-
-put-point-requires : tie.Need-put-point-requires Inv-loop μ-loop
-put-point-requires c κs = search needs
-
-add-l : tie.Need-add-l Inv-loop μ-loop
-add-l c = search needs
-
-loop-less : tie.Need-loop-less Inv-loop μ-loop
-loop-less c = search needs
-
 loop-again : tie.Need-loop-again Inv-loop μ-loop
 loop-again c =
     let q = c .before .before .before .before .before .before .before .loop in
@@ -47,9 +32,6 @@ loop-again c =
       c .before .before .put-point .kept .0 ∙ q .inv .2,
     )
 
-same-length : tie.Need-same-length Inv-loop μ-loop
-same-length c = c .before .before .loop .inv .2
-
 returns : tie.Need-returns Inv-loop μ-loop
 unfolding vBy
 returns c =
@@ -59,17 +41,5 @@ returns c =
     (omega (arith, c .if1 .left)) (sym (s .pre .4)) (q .inv .1)
 
 pub put-v-spec : {M : Type 1} → statement M
-put-v-spec =
-    tie.close
-    (tie.spec
-    Inv-loop
-    μ-loop
-    loop-holds
-    row-v-requires
-    mul-put-point
-    put-point-requires
-    add-l
-    loop-less
-    loop-again
-    same-length
-    returns)
+put-v-spec = tie.close (tie.spec Inv-loop μ-loop loop-holds (λ c κs. search needs) (λ c. search needs)
+    (λ c κs. search needs) (λ c. search needs) (λ c. search needs) loop-again (λ c. search needs) returns)

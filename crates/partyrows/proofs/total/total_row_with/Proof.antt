@@ -1,4 +1,4 @@
--- α̂ and β̂ are those of s with the constants, and the hidden leaf's.
+-- α̂ and β̂ are those of s, and the hidden leaf's.
 use mathlib.Core.Path.{ap, _∙_}
 use native.Mathlib.Omega.{arith}
 use borrow.Author.Needs.{needs}
@@ -8,15 +8,11 @@ use Rattle.partyrows.proofs.total.total_row_with.Tie as tie
 
 put-row-requires : tie.Need-put-row-requires
 put-row-requires c κs =
-    let s = c .before .before .before .before .before .before .before .before .before .before .before .before .before .before .before .before in
+    let b : tie.After-add-hidden = search in
+    let d : tie.After-put-front = search in
+    let s : tie.Start = search in
     let f = s .pre .0 in (
-      record {
-        within = f .within;
-        sized-s = f .sized-s;
-        sized-block = f .sized-block;
-        sized-constants = omega (arith, f .sized-constants, s .pre .1);
-        sized-sums = c .before .before .before .before .add-hidden .kept .1 .1 .1 .0 ∙ c .before .before .before .before .before .before .before .before .with-constants .kept .1 .1 .1 .0 ∙ f .sized-sums;
-      },
+      record { within = f .within; sized-s = f .sized-s; sized-block = f .sized-block; sized-sums = b .add-hidden .kept .1 .1 .1 .0 ∙ d .put-front .kept .1 .1 .0 ∙ f .sized-sums },
       s .pre .2,
       s .pre .3,
       s .pre .4,
@@ -25,18 +21,13 @@ put-row-requires c κs =
 returns : tie.Need-returns
 unfolding sumsBy
 returns c =
-    let a = c .before .before .before .before .before .before .before .before .before .before .before .before .before .before .before .before .before .before .before .args in (
-      c .before .before .before .before .before .before .before .add-hidden .ensures ∙ ap (withHidden (a .p) (a .leaf) (a .hidden .now)) (c .before .before .before .before .before .before .before .before .before .before .before .with-constants .ensures),
-      c .before .before .put-row .ensures,
-    )
+    let e : tie.After-put-row = search in
+    let b : tie.After-add-hidden = search in
+    let d : tie.After-put-front = search in
+    let s : tie.Start = search in
+    let a = s .args in
+    (b .add-hidden .ensures ∙ ap (withHidden (a .p) (a .leaf) (a .hidden .now)) (d .put-front .ensures), e .put-row .ensures)
 
 pub total-row-with-spec : {M : Type 1} → statement M
-total-row-with-spec =
-    tie.close
-    (tie.spec
-    (λ c κs. search needs)
-    (λ c κs. search needs)
-    put-row-requires
-    (λ c. search needs)
-    (λ c. search needs)
-    returns)
+total-row-with-spec = tie.close (tie.spec (λ c κs. search needs) (λ c κs. search needs) put-row-requires
+    (λ c. search needs) (λ c. search needs) returns)

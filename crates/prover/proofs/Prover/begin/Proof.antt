@@ -5,7 +5,7 @@ use mathlib.Core.List.{List}
 use Prim.Native.Nat.{ℕ}
 use borrow.Author.Needs.{needs}
 use Rattle.shake256.specs.Fips.{SHAKE256}
-use Rattle.coefficients.specs.Coefficients.{keyOf}
+use Rattle.exchange.specs.Values.{keyOf}
 use Rattle.prover.specs.Facts.{isDone, Begins}
 use Rattle.prover.specs.Next.{begunWith}
 use Rattle.prover.specs.Carried.{starting, begun-with}

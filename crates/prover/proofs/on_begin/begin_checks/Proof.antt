@@ -4,7 +4,7 @@ use mathlib.Core.Bool.{true, false}
 use borrow.Author.Needs.{needs}
 use Rattle.shake256.specs.Fips.{SHAKE256}
 use Rattle.answers.specs.Checks.Laws.{Done≢Refused}
-use Rattle.coefficients.specs.Coefficients.{keyOf}
+use Rattle.exchange.specs.Values.{keyOf}
 use Rattle.prover.specs.Checks.{begin-late, begin-row}
 use Rattle.prover.specs.Held.{held}
 use Rattle.prover.proofs.on_begin.begin_checks.Statement.{statement}

@@ -1,6 +1,6 @@
 -- Message 5 is made from what the session holds.
 use borrow.Author.Needs.{needs}
-use Rattle.coefficients.specs.Coefficients.{keyOf}
+use Rattle.exchange.specs.Values.{keyOf}
 use Rattle.calls.specs.Prover.{heldX, heldMessage2}
 use Rattle.prover.specs.Carried.{opened-made}
 use Rattle.prover.specs.Held.{held}

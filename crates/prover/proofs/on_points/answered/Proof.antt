@@ -1,7 +1,7 @@
 -- Message 3 is made from what the session holds.
 use mathlib.Core.Path.{ap, _∙_}
 use borrow.Author.Needs.{needs}
-use Rattle.coefficients.specs.Coefficients.{keyOf}
+use Rattle.exchange.specs.Values.{keyOf}
 use Rattle.prover.specs.Next.{nextAnswered}
 use Rattle.calls.specs.Prover.{heldX}
 use Rattle.prover.specs.Carried.{answered-made}

@@ -10,7 +10,7 @@ use Rattle.lists.specs.Zeroed.Laws.{zeroed-front}
 use Rattle.shake256.specs.Fips.{SHAKE256}
 use Rattle.exchange.specs.Layout.{workLength}
 use Rattle.exchange.specs.Opening.{exchange, verdict}
-use Rattle.coefficients.specs.Coefficients.{keyOf}
+use Rattle.exchange.specs.Values.{keyOf}
 use Rattle.layout.specs.Lent.Laws.{leaves-most}
 use Rattle.calls.specs.Verifier.{heldExchange}
 use Rattle.verifier.specs.Laws.{rows-most}

@@ -1,0 +1,67 @@
+-- The arrays have room for nine shares at all parameters.
+use mathlib.Core.Path.{_≡_, sym, ap, _∙_}
+use Prim.Native.Nat.{ℕ, _*_, _≤_}
+use native.Mathlib.Nat.{mul-le-mul}
+use native.Mathlib.Omega.{arith}
+use borrow.Author.Needs.{needs}
+use Rattle.exchange.specs.Layout.{shareLength}
+use Rattle.encoding.specs.Written.{front-length}
+use Rattle.evaluation_c.proofs.count.Statement.{statement}
+use Rattle.evaluation_c.proofs.count.Tie as tie
+
+abbrev back-to-start : tie.After-share-length → tie.Start
+back-to-start c = search
+
+shares-fit : (s : tie.Start) → s .args .n * shareLength (s .args .p) ≤ 9 * 860
+shares-fit s =
+    let w = s .pre .0 in
+    let m = w .m-most in
+    let k = w .k-most in
+    let l = w .w-most in
+    let t = w .t-most in
+    let h : shareLength (s .args .p) ≤ 860 = omega arith in
+    mul-le-mul (s .pre .1) h
+
+shares-fit-by : (d : tie.After-share-length) → back-to-start d .args .n * d .share-length .result ≤ 7740
+shares-fit-by d = let s = back-to-start d in let e = ap (λ (k : ℕ). s .args .n * k) (d .share-length .ensures) in let h = shares-fit s in omega arith
+
+rows-fit : (s : tie.Start) → s .args .n * s .args .p .m ≤ 9 * 255
+rows-fit s = mul-le-mul (s .pre .1) (s .pre .0 .m-most)
+
+out-fits : (s : tie.Start) → s .args .n * (12 * s .args .p .t) ≤ 9 * 96
+out-fits s = let t = s .pre .0 .t-most in let h : 12 * s .args .p .t ≤ 96 = omega arith in mul-le-mul (s .pre .1) h
+
+announce-each-requires : tie.Need-announce-each-requires
+announce-each-requires c κs =
+    let d : tie.After-share-length = search in
+    let p : tie.After-power-table = search in
+    let l : tie.After-log-table = search in
+    let s = back-to-start d in
+    let w = s .pre .0 in
+    let t = w .t-most in
+    let few = s .pre .1 in (
+      record {
+        within = w;
+        few = omega arith;
+        sized-shares = sym (front-length _ _ (shares-fit-by d)) ∙ ap (λ (k : ℕ). s .args .n * k) (d .share-length .ensures);
+        sized-rows = sym (front-length _ _ (rows-fit s));
+        sized-m2 = sym (front-length _ _ (omega arith));
+        sized-out = sym (front-length _ _ (out-fits s));
+      },
+      l .log-table .ensures,
+      p .power-table .ensures,
+    )
+
+pub count-spec : {M : Type 1} → statement M
+count-spec =
+    tie.close
+    (tie.spec (λ c κs. search needs) (λ c κs. search needs) (λ c κs. search needs)
+    (λ c. let d : tie.After-share-length = search in let h = shares-fit-by d in omega arith)
+    (λ c. let d : tie.After-share-length = search in let h = rows-fit (back-to-start d) in omega arith) (λ c. search needs) (λ c. search needs)
+    (λ c. let d : tie.After-share-length = search in let h = out-fits (back-to-start d) in omega arith)
+    (λ c. let d : tie.After-share-length = search in shares-fit-by d) (λ c. let d : tie.After-share-length = search in front-length _ _ (shares-fit-by d))
+    (λ c. let d : tie.After-share-length = search in rows-fit (back-to-start d))
+    (λ c. let d : tie.After-share-length = search in front-length _ _ (rows-fit (back-to-start d))) (λ c. search needs)
+    (λ c. let d : tie.After-share-length = search in let t = back-to-start d .pre .0 .t-most in front-length _ _ (omega arith))
+    (λ c. let d : tie.After-share-length = search in out-fits (back-to-start d))
+    (λ c. let d : tie.After-share-length = search in front-length _ _ (out-fits (back-to-start d))) announce-each-requires (λ c. search needs))

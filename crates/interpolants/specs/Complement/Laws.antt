@@ -1,0 +1,157 @@
+-- The laws of the complement G and of the weights.
+--
+--   missing m             the bytes above m, the roots of G
+--   missing-at, length-missing, missing-distinct
+--                         where they stand, how many there are, and that no two are equal in the field
+--   length-complement     G has 256 − m coefficients
+--   bytes-complement      they are bytes
+--   complement-monic      the highest is 1
+--   complement-zero       G is zero at each byte above m
+--   complement-not, complement-some
+--                         and at no other
+--   length-weights        there are m weights
+--   weight-at             the weight of the byte f is f times G(f)
+--   weight-some           it is not zero
+--   weight-lt             it is a byte
+use mathlib.Core.Path.{_≡_, refl, sym, ap, _∙_}
+use mathlib.Core.List.{List, [], _∷_, _++_}
+use Prim.Native.Nat.{ℕ, zero, suc, _+_, _-_, _≤_, _<_}
+use native.Mathlib.Nat.{not-suc-le-zero, le-of-suc-le-suc}
+use native.Mathlib.Omega.{arith}
+use lib.Dec.{lit<}
+use lib.ListN.{length, take, getD, length-map, List·getD-map}
+use Rattle.algebra.specs.Ring.{ops}
+use Rattle.algebra.specs.Each.{Distinct, each-from, each-at, each-of-map, each-to-map, distinct-from}
+use Rattle.algebra.specs.Polynomial.{eval, product, vanishing}
+use Rattle.algebra.specs.Polynomial.Lengths.{length-product}
+use Rattle.algebra.specs.Polynomial.Products.{product-roots, leading-product}
+use Rattle.algebra.specs.Polynomial.Quotients.{vanishing-elsewhere}
+use Rattle.algebra.specs.Polynomial.Maps.{map-eval, map-product}
+use Rattle.bytefield.specs.Product.{_⊗_, byteOps}
+use Rattle.bytefield.specs.Product.Laws.{⊗-lt}
+use Rattle.bytefield.specs.Byte.{Byte, byte, byteRing, byteField, byte-zero, byte-one, byte-homomorphism}
+use Rattle.polynomial.specs.Bytes.{Bytes, inField, byte-equal, byte-eval, bytes-monic, bytes-product}
+use Rattle.polynomial.specs.Interpolant.{ascending}
+use Rattle.polynomial.specs.Interpolant.Laws.{length-ascending, ascending-at}
+use Rattle.interpolants.specs.Cancel.{positive, ⊗-some}
+use Rattle.interpolants.specs.Complement.{complementOf, weightsFrom, weightsOf}
+
+abbrev pub missing : ℕ → List ℕ
+missing m = ascending (1 + m) (255 - m)
+
+pub missing-at : (m i : ℕ) → i < 255 - m → getD (missing m) i 0 ≡ 1 + m + i
+missing-at m i h = ascending-at (1 + m) (255 - m) i h
+
+pub length-missing : (m : ℕ) → length (missing m) ≡ 255 - m
+length-missing m = length-ascending (1 + m) (255 - m)
+
+pub missing-distinct : (m : ℕ) → Distinct (inField (missing m))
+missing-distinct m = distinct-from (byte 0) (inField (missing m)) apart
+  where
+    apart : (i j : ℕ) → i < j → j < length (inField (missing m)) → getD (inField (missing m)) j (byte 0) ≡ getD (inField (missing m)) i (byte 0) → ⊥
+    apart i j h k e =
+        let l = length-map (missing m) byte in
+        let n = length-missing m in
+        let a = missing-at m i (omega arith) in
+        let b = missing-at m j (omega arith) in
+        let c : getD (missing m) j 0 ≡ getD (missing m) i 0 =
+        byte-equal (getD (missing m) j 0) (getD (missing m) i 0) (omega arith) (omega arith)
+        (sym (List·getD-map byte (missing m) j 0) ∙ e ∙ List·getD-map byte (missing m) i 0) in
+        omega arith
+
+-- ---- the complement
+
+pub length-complement : (m : ℕ) → m < 256 → length (complementOf m) ≡ 256 - m
+unfolding complementOf
+length-complement m h =
+    let a = length-product byteOps (1 ∷ []) (missing m) in
+    let b = length-missing m in
+    omega arith
+
+pub bytes-complement : (m : ℕ) → m < 256 → Bytes (complementOf m)
+unfolding complementOf
+bytes-complement m h = bytes-product (1 ∷ []) (missing m) (lit< tt, tt)
+
+complement-in-field : (m : ℕ) → inField (complementOf m) ≡ vanishing (ops byteRing) (inField (missing m))
+unfolding complementOf
+complement-in-field m =
+    map-product byteOps (ops byteRing) byte byte-homomorphism (1 ∷ []) (missing m)
+    ∙ ap (λ (o : Byte). product (ops byteRing) (o ∷ []) (inField (missing m))) byte-one
+
+pub complement-monic : (m : ℕ) → m < 256 → complementOf m ≡ take (255 - m) (complementOf m) ++ (1 ∷ [])
+complement-monic m h =
+    let l = leading-product byteRing [] (byteRing .one) (inField (missing m)) in
+    let n = length-complement m h in
+    bytes-monic (255 - m) (complementOf m) (l .0) (bytes-complement m h) (omega arith) (complement-in-field m ∙ l .1)
+
+value-in-field : (m z : ℕ) → byte (eval byteOps (complementOf m) z) ≡ eval (ops byteRing) (vanishing (ops byteRing) (inField (missing m))) (byte z)
+value-in-field m z =
+    map-eval byteOps (ops byteRing) byte byte-homomorphism (complementOf m) z
+    ∙ ap (λ (p : List Byte). eval (ops byteRing) p (byte z)) (complement-in-field m)
+
+pub complement-zero : (m z : ℕ) → m < z → z < 256 → eval byteOps (complementOf m) z ≡ 0
+complement-zero m z h k =
+    byte-equal (eval byteOps (complementOf m) z) 0 (byte-eval (complementOf m) z (bytes-complement m (omega arith))) (lit< tt)
+    (value-in-field m z ∙ root ∙ sym byte-zero)
+  where
+    place : getD (missing m) (z - (1 + m)) 0 ≡ z
+    place = missing-at m (z - (1 + m)) (omega arith) ∙ omega arith
+
+    root : eval (ops byteRing) (vanishing (ops byteRing) (inField (missing m))) (byte z) ≡ byteRing .zero
+    root =
+        rw place at (each-at (λ f. eval (ops byteRing) (vanishing (ops byteRing) (inField (missing m))) (byte f) ≡ byteRing .zero) 0 (missing m)
+        (each-of-map (λ f. eval (ops byteRing) (vanishing (ops byteRing) (inField (missing m))) f ≡ byteRing .zero) byte (missing m)
+        (product-roots byteRing (byteRing .one ∷ []) (inField (missing m)))) (z - (1 + m)) (omega (arith, length-missing m)))
+
+pub complement-not : (m z : ℕ) → z ≤ m → m < 256 → eval byteOps (complementOf m) z ≡ 0 → ⊥
+complement-not m z h k e =
+    vanishing-elsewhere byteField (inField (missing m)) (byte z)
+    (each-to-map (λ f. byte z ≡ f → ⊥) byte (missing m) (each-from (λ f. byte z ≡ byte f → ⊥) 0 (missing m) apart))
+    (sym (value-in-field m z) ∙ ap byte e ∙ byte-zero)
+  where
+    apart : (i : ℕ) → i < length (missing m) → byte z ≡ byte (getD (missing m) i 0) → ⊥
+    apart i l q =
+        let n = length-missing m in
+        let a = missing-at m i (omega arith) in
+        let b : z ≡ getD (missing m) i 0 = byte-equal z (getD (missing m) i 0) (omega arith) (omega arith) q in
+        omega arith
+
+pub complement-some : (m z : ℕ) → z ≤ m → m < 256 → 0 < eval byteOps (complementOf m) z
+complement-some m z h k = positive (eval byteOps (complementOf m) z) (complement-not m z h k)
+
+-- ---- the weights
+
+length-from : (g : List ℕ) (a n : ℕ) → length (weightsFrom g a n) ≡ n
+unfolding weightsFrom
+length-from g a zero = refl
+length-from g a (suc n) = ap suc (length-from g (suc a) n)
+
+from-at : (g : List ℕ) (a n i : ℕ) → i < n → getD (weightsFrom g a n) i 0 ≡ (a + i) ⊗ eval byteOps g (a + i)
+unfolding weightsFrom
+from-at g a zero i h = absurd (not-suc-le-zero h)
+from-at g a (suc n) zero h = ap (λ (f : ℕ). f ⊗ eval byteOps g f) (omega arith)
+from-at g a (suc n) (suc i) h = from-at g (suc a) n i (le-of-suc-le-suc h) ∙ ap (λ (f : ℕ). f ⊗ eval byteOps g f) (omega arith)
+
+from-lt : (g : List ℕ) (a n i : ℕ) → getD (weightsFrom g a n) i 0 < 256
+unfolding weightsFrom
+from-lt g a zero i = lit< tt
+from-lt g a (suc n) zero = ⊗-lt a (eval byteOps g a)
+from-lt g a (suc n) (suc i) = from-lt g (suc a) n i
+
+pub length-weights : (m : ℕ) → length (weightsOf m) ≡ m
+unfolding weightsOf
+length-weights m = length-from (complementOf m) 1 m
+
+pub weight-at : (m i : ℕ) → i < m → getD (weightsOf m) i 0 ≡ (1 + i) ⊗ eval byteOps (complementOf m) (1 + i)
+unfolding weightsOf
+weight-at m i h = from-at (complementOf m) 1 m i h
+
+pub weight-lt : (m i : ℕ) → getD (weightsOf m) i 0 < 256
+unfolding weightsOf
+weight-lt m i = from-lt (complementOf m) 1 m i
+
+pub weight-some : (m i : ℕ) → i < m → m < 256 → 0 < getD (weightsOf m) i 0
+weight-some m i h k =
+    rw (weight-at m i h)
+    (⊗-some (1 + i) (eval byteOps (complementOf m) (1 + i)) (omega arith) (omega arith) (complement-some m (1 + i) (omega arith) k)
+    (byte-eval (complementOf m) (1 + i) (bytes-complement m k)))

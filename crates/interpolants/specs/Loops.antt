@@ -1,0 +1,58 @@
+-- What the loops over the complement have come to, turn by turn.
+--
+--   horner-start, horner-turn, horner-end        the value of a polynomial, from its highest coefficient down
+--   weights-start, weights-turn, weights-end     the weights, written one after the other
+use mathlib.Core.Path.{_≡_, sym, ap, ap₂, _∙_}
+use mathlib.Core.List.{List, _∷_, _++_, append-nil}
+use Prim.Native.Nat.{ℕ, suc, _+_, _-_, _≤_, _<_}
+use native.Mathlib.Numerals.{add-one}
+use native.Mathlib.Omega.{arith}
+use lib.ListN.{length, take, drop, getD, set}
+use lib.Seq.{drop-length, drop-cons, take-suc-set, take-all, append-snoc}
+use Rattle.lists.specs.Xor.{_⊕_}
+use Rattle.algebra.specs.Polynomial.{eval}
+use Rattle.bytefield.specs.Product.{_⊗_, byteOps}
+use Rattle.interpolants.specs.Complement.{complementOf, weightsFrom, weightsOf}
+
+pub horner-start : (g : List ℕ) (f : ℕ) → 0 ≡ eval byteOps (drop (length g) g) f
+unfolding eval
+horner-start g f = ap (λ (l : List ℕ). eval byteOps l f) (sym (drop-length g))
+
+pub horner-turn : (g : List ℕ) (f v i : ℕ) → 0 < i → i ≤ length g → v ≡ eval byteOps (drop i g) f
+    → getD g (i - 1) 0 ⊕ f ⊗ v ≡ eval byteOps (drop (i - 1) g) f
+unfolding eval
+horner-turn g f v i z h e =
+    let n : i ≡ suc (i - 1) = omega arith in
+    ap (λ (w : ℕ). getD g (i - 1) 0 ⊕ f ⊗ w) (e ∙ ap (λ (j : ℕ). eval byteOps (drop j g) f) n)
+    ∙ sym (ap (λ (l : List ℕ). eval byteOps l f) (drop-cons g (i - 1) 0 (omega arith)))
+
+pub horner-end : (g : List ℕ) (f v i : ℕ) → i ≡ 0 → v ≡ eval byteOps (drop i g) f → v ≡ eval byteOps g f
+horner-end g f v i z e = e ∙ ap (λ (j : ℕ). eval byteOps (drop j g) f) z
+
+-- ---- n weights by g: i of them are written, and f is i
+
+module _ (g : List ℕ) (n : ℕ) where
+  abbrev pub Weighted : ℕ → ℕ → List ℕ → Type 0
+  Weighted i f out = take i out ++ weightsFrom g (f + 1) (n - i) ≡ weightsFrom g 1 n
+
+  pub weights-start : (out : List ℕ) → Weighted 0 0 out
+  weights-start out = let e : n - 0 ≡ n = omega arith in ap (weightsFrom g 1) e
+
+  pub weights-turn : (i f h w : ℕ) (out : List ℕ) → i < n → n ≡ length out → h ≡ f + 1 → w ≡ h ⊗ eval byteOps g h
+      → Weighted i f out → Weighted (i + 1) h (set out i w)
+  unfolding weightsFrom
+  weights-turn i f h w out l en eh ew e =
+      let more : n - i ≡ suc (n - (i + 1)) = omega arith in
+      let next : h + 1 ≡ suc (f + 1) = omega arith in
+      ap₂ (λ (x : List ℕ) (a : ℕ). x ++ weightsFrom g a (n - (i + 1)))
+      (ap (λ (j : ℕ). take j (set out i w)) (add-one i) ∙ take-suc-set out i w (omega arith)) next
+      ∙ append-snoc (take i out) w (weightsFrom g (suc (f + 1)) (n - (i + 1)))
+      ∙ ap (λ (x : ℕ). take i out ++ x ∷ weightsFrom g (suc (f + 1)) (n - (i + 1))) (ew ∙ ap (λ (x : ℕ). x ⊗ eval byteOps g x) eh)
+      ∙ sym (ap (λ (m : ℕ). take i out ++ weightsFrom g (f + 1) m) more) ∙ e
+
+  pub weights-end : (i f : ℕ) (out : List ℕ) → n ≤ i → n ≡ length out → g ≡ complementOf n → Weighted i f out → out ≡ weightsOf n
+  unfolding weightsFrom weightsOf
+  weights-end i f out l en eg e =
+      let o : n - i ≡ 0 = omega arith in
+      sym (append-nil out) ∙ ap₂ (λ (x : List ℕ) (m : ℕ). x ++ weightsFrom g (f + 1) m) (sym (take-all i out (omega arith))) (sym o) ∙ e
+      ∙ ap (λ (p : List ℕ). weightsFrom p 1 n) eg

@@ -1,0 +1,73 @@
+-- The quotient of the power sums by the complement is S, share by share.
+--
+--   share-drop           the shares of the end of a list
+--   complement-value     the value of the complement: its leading coefficient is 1
+--   length-low           it has 255 − m others
+--   share-made           the end of the divided words is S
+use mathlib.Core.Path.{_≡_, refl, sym, ap, ap₂, subst, _∙_}
+use mathlib.Core.List.{List, [], _∷_, _++_}
+use Prim.Native.Nat.{ℕ, zero, suc, _-_, _<_}
+use native.Mathlib.Omega.{arith}
+use lib.Dec.{lit<}
+use lib.ListN.{length, take, drop, length-drop}
+use lib.Seq.{length-take-le}
+use Rattle.lists.specs.Xor.{_⊕_}
+use Rattle.algebra.specs.Polynomial.{eval, pow}
+use Rattle.bytefield.specs.Product.{_⊗_, byteOps}
+use Rattle.bytefield.specs.Product.Laws.{bytefield, ⊗-lt, one-⊗}
+use Rattle.polynomial.specs.Bytes.{bytes-take}
+use Rattle.polynomial.specs.Interpolant.{interpolantOf}
+use Rattle.packed.specs.Share.{share}
+use Rattle.packed.specs.Share.Laws.{length-share}
+use Rattle.powersums.specs.PowerSum.{timesEach, PowerSums}
+use Rattle.interpolants.specs.Complement.{complementOf, weightsOf}
+use Rattle.interpolants.specs.Complement.Laws.{length-complement, complement-monic}
+use Rattle.interpolants.specs.Interpolating.{interpolant-made}
+use Rattle.interpolants.specs.Division.{monicAt, Divided}
+use Rattle.interpolants.specs.Division.Laws.{eval-append, bytes-share}
+
+pub share-drop : (i n : ℕ) (t : List ℕ) → share i (drop n t) ≡ drop n (share i t)
+unfolding share
+share-drop i zero t = refl
+share-drop i (suc n) [] = refl
+share-drop i (suc n) (v ∷ t) = share-drop i n t
+
+pow-byte : (z n : ℕ) → pow byteOps z n < 256
+unfolding pow
+pow-byte z zero = lit< tt
+pow-byte z (suc n) = ⊗-lt (pow byteOps z n) z
+
+one-value : (z w : ℕ) → w < 256 → w ⊗ (1 ⊕ z ⊗ 0) ≡ w
+one-value z w h = simp bytefield (one-⊗ w h)
+
+monic-value : (g : List ℕ) (z : ℕ) → eval byteOps (g ++ (1 ∷ [])) z ≡ monicAt g z
+unfolding eval
+monic-value g z =
+    eval-append g (1 ∷ []) z (lit< tt, tt)
+    ∙ ap (_⊕_ (eval byteOps g z)) (one-value z (pow byteOps z (length g)) (pow-byte z (length g)))
+
+module _ (m : ℕ) (some : 0 < m) (few : m < 256) where
+  pub complement-value : (z : ℕ) → eval byteOps (complementOf m) z ≡ monicAt (take (255 - m) (complementOf m)) z
+  complement-value z = ap (λ (p : List ℕ). eval byteOps p z) (complement-monic m few) ∙ monic-value (take (255 - m) (complementOf m)) z
+
+  pub length-low : (g : List ℕ) → g ≡ complementOf m → length (take (255 - m) g) ≡ 255 - m
+  length-low g e = let l : length g ≡ 256 - m = ap length e ∙ length-complement m few in length-take-le (255 - m) g (omega arith)
+
+  quotient-value : (i : ℕ) (t a : List ℕ) → i < 8 → Divided (take (255 - m) (complementOf m)) t a → (z : ℕ)
+      → eval byteOps (take (255 - m) (share i a)) z ⊕ eval byteOps (complementOf m) z ⊗ eval byteOps (share i (drop (255 - m) a)) z ≡ eval byteOps (share i t) z
+  quotient-value i t a h divided z =
+      ap₂ (λ (v : ℕ) (l : List ℕ). eval byteOps (take (255 - m) (share i a)) z ⊕ v ⊗ eval byteOps l z) (complement-value z) (share-drop i (255 - m) a)
+      ∙ ap (λ (n : ℕ). eval byteOps (take n (share i a)) z ⊕ monicAt (take (255 - m) (complementOf m)) z ⊗ eval byteOps (drop n (share i a)) z) (sym (length-low (complementOf m) refl))
+      ∙ divided i h z
+
+  pub share-made : (i : ℕ) (a t a′ w g : List ℕ) → i < 8 → length a ≡ 255 → length a′ ≡ 255 → w ≡ weightsOf m → g ≡ complementOf m
+      → PowerSums (timesEach (share i (take m a)) w) (share i t) → Divided (take (255 - m) g) t a′
+      → share i (drop (255 - m) a′) ≡ interpolantOf (share i (take m a))
+  share-made i a t a′ w g h la la′ ew eg sums divided =
+      let ls = length-share i a′ in
+      let lx : length (share i (take m a)) ≡ m = length-share i (take m a) ∙ length-take-le m a (omega arith) in
+      let lr : length (take (255 - m) (share i a′)) ≡ 255 - m = length-take-le (255 - m) (share i a′) (omega arith) in
+      let lq : length (share i (drop (255 - m) a′)) ≡ m = length-share i (drop (255 - m) a′) ∙ simp length-drop (omega arith) in
+      interpolant-made m (share i (take m a)) (share i t) (take (255 - m) (share i a′)) (share i (drop (255 - m) a′)) some few lx
+      (bytes-share i (take m a)) (rw ew at sums) lr lq (bytes-take (255 - m) (share i a′) (bytes-share i a′)) (bytes-share i (drop (255 - m) a′))
+      (λ z b. quotient-value i t a′ h (subst (λ (l : List ℕ). Divided (take (255 - m) l) t a′) eg divided) z)

@@ -1,0 +1,306 @@
+-- The laws of products that are read from a table.
+--
+--   bytes-wordOf                    the bytes of the word of a point
+--   wordOf-sum                      the word of a sum
+--   four-bytes, word-parts          four bytes as a point, and as its word
+--   x-step, z-step                  the products with X and Z by bytes
+--   byte-read                       the product of a byte and a point, from a table that starts with the point's multiples
+--   short-product, whole-product    the product of four bytes and a point, from one and from four tables
+--   four-needed                     which of the two
+--   length-multiples, -multiplesOf, own-table   the tables' lengths; a table that is made of the word of four bytes
+--   tables-made                     the four tables written one behind the other
+use mathlib.Core.Path.{_≡_, refl, sym, ap, ap₂, _∙_}
+use mathlib.Core.Logic.{⊎-elim}
+use mathlib.Core.List.{List, [], _∷_, _++_, map, append-assoc}
+use Prim.Native.Nat.{ℕ, zero, suc, _+_, _*_, _/_, _%_, _<_}
+use native.Mathlib.Omega.{arith}
+use lib.Dec.{lit<}
+use lib.ListN.{length, getD, take, drop, replicate, length-append}
+use lib.Seq.{getD-take, ext-getD}
+use Rattle.algebra.specs.Ring.{Ring2, ring}
+use Rattle.algebra.specs.Extension.Laws.{pair}
+use Rattle.lists.specs.Xor.{_⊕_, xors, ⊕-zero}
+use Rattle.lists.specs.Part.{putAt}
+use Rattle.lists.specs.Part.Laws.{putAt-putAt, putAt-whole}
+use Rattle.bytefield.specs.Product.{_⊗_, reduction, xtime, timesBits}
+use Rattle.bytefield.specs.Product.Laws.{bytefield, ⊗-comm, ⊗-lt, one-⊗, zero-⊗}
+use Rattle.bytefield.specs.Byte.{byte, byteRing, byte-homomorphism}
+use Rattle.tower.specs.Point.{Quad, quad, four, lone, fourSum, fourTimes}
+use Rattle.tower.specs.Point.Steps.{byte-product}
+use Rattle.tower.specs.Point.Written.{plus₄, times₄, four-path}
+use Rattle.tower.specs.Field.{Point, point, bytesOf, bytesOf-point, pointOf, point-bytesOf, point-sum, point-times}
+use Rattle.packed.specs.Word.{bytes, word, scaled}
+use Rattle.packed.specs.Word.Laws.{⊕-shl, first-byte, other-bytes}
+use Rattle.packed.specs.Table.{nibbles, multiples, picked}
+use Rattle.packed.specs.Table.Laws.{picked-multiples}
+use Rattle.polynomial.specs.Bytes.{Bytes}
+use Rattle.exchange.specs.Reading.{points, _⊞_, _⊠_}
+use Rattle.exchange.specs.Reading.Laws.{bytes-bytesOf}
+use Rattle.encoding.specs.Written.{scalar, times-point, scalar-bytes}
+use Rattle.points.specs.Multiples.{wordOf, byX, byZ, multiplesOf, Lower, Read, Multiplies}
+
+-- ---- words
+
+bytes-word : (l : List ℕ) → Bytes l → bytes (length l) (word l) ≡ l
+unfolding bytes word
+bytes-word [] h = refl
+bytes-word (b ∷ l) h =
+    ap₂ _∷_ (first-byte (word l) b (h .0)) (ap (bytes (length l)) (other-bytes (word l) b (h .0)) ∙ bytes-word l (h .1))
+
+pub bytes-wordOf : (x : Point) → bytes 4 (wordOf x) ≡ bytesOf x
+unfolding wordOf bytesOf
+bytes-wordOf x = bytes-word (bytesOf x) (bytes-bytesOf x)
+
+word-shifts : (a b c d : ℕ) → word (a ∷ b ∷ c ∷ d ∷ []) ≡ a ⊕ (b * 256 ⊕ (c * 65536 ⊕ d * 16777216))
+unfolding word
+word-shifts a b c d =
+    ap (λ (x : ℕ). a ⊕ x)
+    (⊕-shl 8 b ((c ⊕ (d ⊕ 0) * 256) * 256)
+    ∙ ap (λ (x : ℕ). b * 256 ⊕ x)
+    (ap (λ (x : ℕ). x * 256) (⊕-shl 8 c ((d ⊕ 0) * 256)) ∙ ⊕-shl 8 (c * 256) ((d ⊕ 0) * 256 * 256)
+    ∙ ap₂ _⊕_ (apart₂ c) (ap (λ (x : ℕ). x * 256 * 256 * 256) (⊕-zero d) ∙ apart₃ d)))
+  where
+    apart₂ : (c : ℕ) → c * 256 * 256 ≡ c * 65536
+    apart₂ c = omega arith
+
+    apart₃ : (d : ℕ) → d * 256 * 256 * 256 ≡ d * 16777216
+    apart₃ d = omega arith
+
+word-sum : (a b c d e f g h : ℕ) → word ((a ⊕ e) ∷ (b ⊕ f) ∷ (c ⊕ g) ∷ (d ⊕ h) ∷ []) ≡ word (a ∷ b ∷ c ∷ d ∷ []) ⊕ word (e ∷ f ∷ g ∷ h ∷ [])
+word-sum a b c d e f g h =
+    word-shifts (a ⊕ e) (b ⊕ f) (c ⊕ g) (d ⊕ h)
+    ∙ ap₂ (λ (x y : ℕ). (a ⊕ e) ⊕ (x ⊕ y)) (⊕-shl 8 b f) (ap₂ _⊕_ (⊕-shl 16 c g) (⊕-shl 24 d h))
+    ∙ regroup a (b * 256) (c * 65536) (d * 16777216) e (f * 256) (g * 65536) (h * 16777216)
+    ∙ ap₂ _⊕_ (sym (word-shifts a b c d)) (sym (word-shifts e f g h))
+  where
+    regroup : (a b c d e f g h : ℕ) → (a ⊕ e) ⊕ ((b ⊕ f) ⊕ ((c ⊕ g) ⊕ (d ⊕ h))) ≡ (a ⊕ (b ⊕ (c ⊕ d))) ⊕ (e ⊕ (f ⊕ (g ⊕ h)))
+    regroup a b c d e f g h = simp xors
+
+pub wordOf-sum : (x y : Point) → wordOf (x ⊞ y) ≡ wordOf x ⊕ wordOf y
+unfolding wordOf bytesOf points byteRing
+wordOf-sum x y = word-sum _ _ _ _ _ _ _ _
+
+-- four bytes stand for a point
+pub four-bytes : (a : List ℕ) → length a ≡ 4 → ((i : ℕ) → getD a i 0 < 256) → a ≡ bytesOf (point a)
+four-bytes [] l h = absurd (omega arith)
+four-bytes (a ∷ []) l h = absurd (omega arith)
+four-bytes (a ∷ b ∷ []) l h = absurd (omega arith)
+four-bytes (a ∷ b ∷ c ∷ []) l h = absurd (omega arith)
+four-bytes (a ∷ b ∷ c ∷ d ∷ []) l h = sym (bytesOf-point ((a, b), (c, d)) (h 0, h 1, h 2, h 3))
+four-bytes (a ∷ b ∷ c ∷ d ∷ e ∷ q) l h = absurd (omega arith)
+
+pub word-parts : (a : List ℕ) (b c d e : ℕ) → length a ≡ 4 → ((i : ℕ) → getD a i 0 < 256) → b ≡ getD a 0 0 → c ≡ getD a 1 0 → d ≡ getD a 2 0
+    → e ≡ getD a 3 0 → b ⊕ (c * 256 ⊕ (d * 65536 ⊕ e * 16777216)) ≡ wordOf (point a)
+unfolding wordOf
+word-parts a b c d e l h eb ec ed ee =
+    sym (word-shifts b c d e) ∙ ap word (four-path eb ec ed ee ∙ whole a l ∙ four-bytes a l h)
+  where
+    whole : (a : List ℕ) → length a ≡ 4 → getD a 0 0 ∷ getD a 1 0 ∷ getD a 2 0 ∷ getD a 3 0 ∷ [] ≡ a
+    whole a l = ext-getD 0 _ a (sym l) (λ k h. below k h)
+      where
+        below : (k : ℕ) → k < 4 → getD (getD a 0 0 ∷ getD a 1 0 ∷ getD a 2 0 ∷ getD a 3 0 ∷ []) k 0 ≡ getD a k 0
+        below zero h = refl
+        below (suc zero) h = refl
+        below (suc (suc zero)) h = refl
+        below (suc (suc (suc zero))) h = refl
+        below (suc (suc (suc (suc k)))) h = absurd (omega arith)
+
+-- ---- the steps of the tower
+
+x-quad : (x : Quad) → ((1 ⊗ (x .0 .1 ⊗ 0x20), 1 ⊗ x .0 .0 ⊕ 1 ⊗ x .0 .1), (1 ⊗ (x .1 .1 ⊗ 0x20), 1 ⊗ x .1 .0 ⊕ 1 ⊗ x .1 .1))
+    ≡ times₄ x ((0, 1), (0, 0))
+x-quad x = pair (pair (simp bytefield) (simp bytefield)) (pair (simp bytefield) (simp bytefield))
+
+z-quad : (x : Quad)
+    → ((1 ⊗ (x .1 .1 ⊗ (0x20 ⊗ 0x20)), 1 ⊗ ((x .1 .0 ⊕ x .1 .1) ⊗ 0x20)), (1 ⊗ x .0 .0 ⊕ 1 ⊗ x .1 .0, 1 ⊗ x .0 .1 ⊕ 1 ⊗ x .1 .1))
+    ≡ times₄ x ((0, 0), (1, 0))
+z-quad x = pair (pair (simp bytefield) (simp bytefield)) (pair (simp bytefield) (simp bytefield))
+
+-- 20 squared is 6c
+square : 0x6c ≡ 0x20 ⊗ 0x20
+unfolding reduction xtime timesBits _⊗_ _⊕_
+square = refl
+
+module _ (b : List ℕ) (h : (i : ℕ) → getD b i 0 < 256) where
+  scaled-once : (a c v : ℕ) → v ≡ a ⊗ c → v ≡ 1 ⊗ (a ⊗ c)
+  scaled-once a c v e = e ∙ sym (one-⊗ (a ⊗ c) (⊗-lt a c))
+
+  sum-once : (i j v : ℕ) → v ≡ getD b i 0 ⊕ getD b j 0 → v ≡ 1 ⊗ getD b i 0 ⊕ 1 ⊗ getD b j 0
+  sum-once i j v e = e ∙ sym (ap₂ _⊕_ (one-⊗ (getD b i 0) (h i)) (one-⊗ (getD b j 0) (h j)))
+
+  pub x-step : (w x y z : ℕ) → w ≡ getD b 1 0 ⊗ 0x20 → x ≡ getD b 0 0 ⊕ getD b 1 0 → y ≡ getD b 3 0 ⊗ 0x20 → z ≡ getD b 2 0 ⊕ getD b 3 0
+      → w ∷ x ∷ y ∷ z ∷ [] ≡ bytesOf (point b ⊠ byX)
+  unfolding fourTimes byX
+  x-step w x y z ew ex ey ez =
+      four-path (scaled-once _ _ w ew) (sum-once 0 1 x ex) (scaled-once _ _ y ey) (sum-once 2 3 z ez)
+      ∙ ap four (x-quad (quad b)) ∙ times-point b (0 ∷ 1 ∷ 0 ∷ 0 ∷ [])
+
+  pub z-step : (w s x y z : ℕ) → w ≡ getD b 3 0 ⊗ 0x6c → s ≡ getD b 2 0 ⊕ getD b 3 0 → x ≡ s ⊗ 0x20 → y ≡ getD b 0 0 ⊕ getD b 2 0
+      → z ≡ getD b 1 0 ⊕ getD b 3 0 → w ∷ x ∷ y ∷ z ∷ [] ≡ bytesOf (point b ⊠ byZ)
+  unfolding fourTimes byZ
+  z-step w s x y z ew es ex ey ez =
+      four-path (scaled-once _ _ w (ew ∙ ap (_⊗_ (getD b 3 0)) square)) (scaled-once _ _ x (ex ∙ ap (λ (v : ℕ). v ⊗ 0x20) es)) (sum-once 0 2 y ey)
+      (sum-once 1 3 z ez)
+      ∙ ap four (z-quad (quad b)) ∙ times-point b (0 ∷ 0 ∷ 1 ∷ 0 ∷ [])
+
+-- ---- a byte and a point
+
+word-zeros : (a b c d : ℕ) → word (a ∷ b ∷ c ∷ d ∷ 0 ∷ 0 ∷ 0 ∷ 0 ∷ []) ≡ word (a ∷ b ∷ c ∷ d ∷ [])
+unfolding word _⊕_
+word-zeros a b c d = refl
+
+scaled-bytes : (a b c d k : ℕ) → Bytes (a ∷ b ∷ c ∷ d ∷ []) → scaled (word (a ∷ b ∷ c ∷ d ∷ [])) k ≡ word ((a ⊗ k) ∷ (b ⊗ k) ∷ (c ⊗ k) ∷ (d ⊗ k) ∷ [])
+unfolding scaled
+scaled-bytes a b c d k h =
+    ap (λ (w : ℕ). word (map (λ x. x ⊗ k) (bytes 8 w))) (sym (word-zeros a b c d))
+    ∙ ap (λ (l : List ℕ). word (map (λ x. x ⊗ k) l))
+    (bytes-word (a ∷ b ∷ c ∷ d ∷ 0 ∷ 0 ∷ 0 ∷ 0 ∷ []) (h .0, (h .1 .0, (h .1 .1 .0, (h .1 .1 .1 .0, (lit< tt, (lit< tt, (lit< tt, (lit< tt, tt)))))))))
+    ∙ ap (λ (z : ℕ). word ((a ⊗ k) ∷ (b ⊗ k) ∷ (c ⊗ k) ∷ (d ⊗ k) ∷ z ∷ z ∷ z ∷ z ∷ [])) (zero-⊗ k)
+    ∙ word-zeros (a ⊗ k) (b ⊗ k) (c ⊗ k) (d ⊗ k)
+
+parts : (x : Point) → bytesOf x ≡ x .0 .0 .0 ∷ x .0 .1 .0 ∷ x .1 .0 .0 ∷ x .1 .1 .0 ∷ []
+unfolding bytesOf
+parts x = refl
+
+scaled-wordOf : (x : Point) (c : ℕ) → scaled (wordOf x) c ≡ wordOf (scalar c ⊠ x)
+unfolding wordOf
+scaled-wordOf x c =
+    ap (λ (l : List ℕ). scaled (word l) c) (parts x)
+    ∙ scaled-bytes (x .0 .0 .0) (x .0 .1 .0) (x .1 .0 .0) (x .1 .1 .0) c (x .0 .0 .1, (x .0 .1 .1, (x .1 .0 .1, (x .1 .1 .1, tt))))
+    ∙ ap word
+    (byte-product c (x .0 .0 .0 ∷ x .0 .1 .0 ∷ x .1 .0 .0 ∷ x .1 .1 .0 ∷ []) _ _ _ _ (⊗-comm _ c) (⊗-comm _ c) (⊗-comm _ c) (⊗-comm _ c)
+    ∙ scalar-bytes c _ _ x (sym (parts x)) refl)
+
+-- ---- a point as a sum of bytes times 1, X, Z and X·Z
+
+split-quad : (a b c d : ℕ)
+    → plus₄ (plus₄ (plus₄ ((a, 0), (0, 0)) (times₄ ((b, 0), (0, 0)) ((0, 1), (0, 0)))) (times₄ ((c, 0), (0, 0)) ((0, 0), (1, 0))))
+    (times₄ ((d, 0), (0, 0)) ((0, 0), (0, 1)))
+    ≡ ((a, 1 ⊗ b), (1 ⊗ c, 1 ⊗ d))
+split-quad a b c d = pair (pair (simp bytefield) (simp bytefield)) (pair (simp bytefield) (simp bytefield))
+
+byte-once : (a : ℕ) → byte (1 ⊗ a) ≡ byte a
+byte-once a =
+    ap byte (⊗-comm 1 a) ∙ byte-homomorphism .mul a 1 ∙ ap (byteRing .mul (byte a)) (byte-homomorphism .one) ∙ byteRing .mul-one (byte a)
+
+four-steps : fourTimes (0 ∷ 1 ∷ 0 ∷ 0 ∷ []) (0 ∷ 0 ∷ 1 ∷ 0 ∷ []) ≡ 0 ∷ 0 ∷ 0 ∷ 1 ∷ []
+unfolding fourTimes _⊗_ timesBits xtime reduction _⊕_
+four-steps = refl
+
+steps-product : byX ⊠ byZ ≡ point (0 ∷ 0 ∷ 0 ∷ 1 ∷ [])
+unfolding byX byZ points
+steps-product = sym (point-times (0 ∷ 1 ∷ 0 ∷ 0 ∷ []) (0 ∷ 0 ∷ 1 ∷ 0 ∷ [])) ∙ ap point four-steps
+
+split-bytes : (a : List ℕ)
+    → point (fourSum (fourSum (fourSum (lone (getD a 0 0)) (fourTimes (lone (getD a 1 0)) (0 ∷ 1 ∷ 0 ∷ 0 ∷ [])))
+    (fourTimes (lone (getD a 2 0)) (0 ∷ 0 ∷ 1 ∷ 0 ∷ []))) (fourTimes (lone (getD a 3 0)) (0 ∷ 0 ∷ 0 ∷ 1 ∷ [])))
+    ≡ point a
+unfolding fourSum fourTimes point
+split-bytes a =
+    ap pointOf (split-quad (getD a 0 0) (getD a 1 0) (getD a 2 0) (getD a 3 0))
+    ∙ pair (pair refl (byte-once (getD a 1 0))) (pair (byte-once (getD a 2 0)) (byte-once (getD a 3 0)))
+
+split-point : (a : List ℕ)
+    → point a ≡ scalar (getD a 0 0) ⊞ scalar (getD a 1 0) ⊠ byX ⊞ scalar (getD a 2 0) ⊠ byZ ⊞ scalar (getD a 3 0) ⊠ (byX ⊠ byZ)
+unfolding byX byZ points
+split-point a =
+    sym (split-bytes a)
+    ∙ point-sum _ _
+    ∙ ap₂ _⊞_
+    (point-sum _ _
+    ∙ ap₂ _⊞_ (point-sum _ _ ∙ ap (_⊞_ (scalar (getD a 0 0))) (point-times (lone (getD a 1 0)) (0 ∷ 1 ∷ 0 ∷ 0 ∷ [])))
+    (point-times (lone (getD a 2 0)) (0 ∷ 0 ∷ 1 ∷ 0 ∷ [])))
+    (point-times (lone (getD a 3 0)) (0 ∷ 0 ∷ 0 ∷ 1 ∷ []) ∙ ap (_⊠_ (scalar (getD a 3 0))) (sym steps-product))
+
+module _ {K : Type 0} (R : Ring2 K) where
+  infixl 60 _+K_
+  infixl 70 _*K_
+  open Ring2 R using (zero as 𝟘, one as 𝟙, add as _+K_, mul as _*K_)
+
+  spread : (a b c d x z w t : K) → (a +K b *K x +K c *K z +K d *K w) *K t ≡ a *K t +K b *K (t *K x) +K c *K (t *K z) +K d *K (t *K w)
+  spread a b c d x z w t = simp (ring, R)
+
+-- ---- products from a table
+
+-- only the first 32 entries are read
+picked-front : (t : List ℕ) (v c : ℕ) → take 32 t ≡ multiples v → c < 256 → picked t c ≡ scaled v c
+unfolding picked
+picked-front t v c e h =
+    ap₂ _⊕_ (sym (getD-take 32 t (c % 16) 0 (omega arith))) (sym (getD-take 32 t (16 + c / 16) 0 (omega arith)))
+    ∙ ap (λ (l : List ℕ). picked l c) e ∙ picked-multiples v c h
+
+pub byte-read : (t : List ℕ) (c : ℕ) → c < 256 → (x : Point) → take 32 t ≡ multiples (wordOf x) → picked t c ≡ wordOf (scalar c ⊠ x)
+byte-read t c h x e = picked-front t (wordOf x) c e h ∙ scaled-wordOf x c
+
+pub whole-product : (a : List ℕ) (b : Point) (t : List ℕ) (w₀ w₁ w₂ w₃ : ℕ)
+    → Read t 0 (getD a 0 0) w₀ → Read t 32 (getD a 1 0) w₁ → Read t 64 (getD a 2 0) w₂ → Read t 96 (getD a 3 0) w₃
+    → t ≡ multiplesOf b → w₀ ⊕ w₁ ⊕ w₂ ⊕ w₃ ≡ wordOf (point a ⊠ b)
+unfolding multiplesOf multiples nibbles
+whole-product a b t w₀ w₁ w₂ w₃ r₀ r₁ r₂ r₃ e =
+    ap₂ _⊕_
+    (ap₂ _⊕_
+    (ap₂ _⊕_ (r₀ b (ap (λ (l : List ℕ). take 32 (drop 0 l)) e)) (r₁ (b ⊠ byX) (ap (λ (l : List ℕ). take 32 (drop 32 l)) e)))
+    (r₂ (b ⊠ byZ) (ap (λ (l : List ℕ). take 32 (drop 64 l)) e)))
+    (r₃ (b ⊠ (byX ⊠ byZ)) (ap (λ (l : List ℕ). take 32 (drop 96 l)) e))
+    ∙ sym
+    (ap (λ (x : Point). wordOf (x ⊠ b)) (split-point a)
+    ∙ ap wordOf (spread (points .base) (scalar (getD a 0 0)) (scalar (getD a 1 0)) (scalar (getD a 2 0)) (scalar (getD a 3 0)) byX byZ (byX ⊠ byZ) b)
+    ∙ wordOf-sum _ _ ∙ ap (λ (w : ℕ). w ⊕ wordOf (scalar (getD a 3 0) ⊠ (b ⊠ (byX ⊠ byZ))))
+    (wordOf-sum _ _ ∙ ap (λ (w : ℕ). w ⊕ wordOf (scalar (getD a 2 0) ⊠ (b ⊠ byZ))) (wordOf-sum _ _)))
+
+lower-point : (a : List ℕ) → Lower a → scalar (getD a 0 0) ≡ point a
+unfolding point
+lower-point a h = ap pointOf (pair (pair refl (sym (h .0))) (pair (sym (h .1)) (sym (h .2))))
+
+-- where a is a byte, the first table serves, also of four
+pub short-product : (a : List ℕ) (b : Point) (t : List ℕ) (w : ℕ) → Read t 0 (getD a 0 0) w → Lower a → Multiplies t a b → w ≡ wordOf (point a ⊠ b)
+unfolding multiplesOf multiples nibbles
+short-product a b t w r l m =
+    r b (⊎-elim (λ q. q .1) (λ e. ap (take 32) e) m) ∙ ap (λ (x : Point). wordOf (x ⊠ b)) (lower-point a l)
+
+-- where a is no byte, there are four tables
+pub four-needed : (t a : List ℕ) (b : Point) → (Lower a → ⊥) → Multiplies t a b → t ≡ multiplesOf b
+four-needed t a b n m = ⊎-elim (λ q. absurd (n (q .0))) (λ e. e) m
+
+-- ---- four tables
+
+tables-joined : (d p q r s : List ℕ) → length d ≡ 128 → length p ≡ 32 → length q ≡ 32 → length r ≡ 32 → length s ≡ 32
+    → putAt (putAt (putAt (putAt d 0 p) 32 q) 64 r) 96 s ≡ p ++ (q ++ (r ++ s))
+tables-joined d p q r s ld lp lq lr ls =
+    let a : length (p ++ q) ≡ 64 = length-append p q ∙ omega arith in
+    let b : length ((p ++ q) ++ r) ≡ 96 = length-append (p ++ q) r ∙ omega arith in
+    let c : length (((p ++ q) ++ r) ++ s) ≡ 128 = length-append ((p ++ q) ++ r) s ∙ omega arith in
+    ap (λ (l : List ℕ). putAt (putAt l 64 r) 96 s) (ap (λ (k : ℕ). putAt (putAt d 0 p) k q) (sym lp) ∙ putAt-putAt d p q (omega arith))
+    ∙ ap (λ (l : List ℕ). putAt l 96 s) (ap (λ (k : ℕ). putAt (putAt d 0 (p ++ q)) k r) (sym a) ∙ putAt-putAt d (p ++ q) r (omega arith))
+    ∙ ap (λ (k : ℕ). putAt (putAt d 0 ((p ++ q) ++ r)) k s) (sym b) ∙ putAt-putAt d ((p ++ q) ++ r) s (omega arith)
+    ∙ putAt-whole d (((p ++ q) ++ r) ++ s) (omega arith)
+    ∙ append-assoc (p ++ q) r s ∙ append-assoc p q (r ++ s)
+
+pub length-multiples : (v : ℕ) → length (multiples v) ≡ 32
+unfolding multiples nibbles
+length-multiples v = refl
+
+pub length-multiplesOf : (b : Point) → length (multiplesOf b) ≡ 128
+unfolding multiplesOf multiples nibbles
+length-multiplesOf b = refl
+
+-- a table made of the word of a
+pub own-table : (own a : List ℕ) (w : ℕ) → own ≡ multiples w → w ≡ wordOf (point a) → take 32 own ≡ multiples (wordOf (point a))
+unfolding multiples nibbles
+own-table own a w e ew = ap (take 32) (e ∙ ap multiples ew)
+
+pub tables-made : (b x z xz q₁ q₂ q₃ q₄ : List ℕ) → x ≡ bytesOf (point b ⊠ byX) → z ≡ bytesOf (point b ⊠ byZ) → xz ≡ bytesOf (point x ⊠ byZ)
+    → q₁ ≡ putAt (replicate 128 0) 0 (multiples (wordOf (point b))) → q₂ ≡ putAt q₁ 32 (multiples (wordOf (point x)))
+    → q₃ ≡ putAt q₂ 64 (multiples (wordOf (point z))) → q₄ ≡ putAt q₃ 96 (multiples (wordOf (point xz))) → q₄ ≡ multiplesOf (point b)
+unfolding multiplesOf
+tables-made b x z xz q₁ q₂ q₃ q₄ ex ez exz e₁ e₂ e₃ e₄ =
+    let px : point x ≡ point b ⊠ byX = ap point ex ∙ point-bytesOf _ in
+    let pz : point z ≡ point b ⊠ byZ = ap point ez ∙ point-bytesOf _ in
+    let pxz : point xz ≡ point b ⊠ (byX ⊠ byZ)
+    = ap point exz ∙ point-bytesOf _ ∙ ap (λ (y : Point). y ⊠ byZ) px ∙ points .base .mul-assoc (point b) byX byZ in
+    e₄ ∙ ap (λ (l : List ℕ). putAt l 96 (multiples (wordOf (point xz)))) (e₃ ∙ ap (λ (l : List ℕ). putAt l 64 (multiples (wordOf (point z))))
+    (e₂ ∙ ap (λ (l : List ℕ). putAt l 32 (multiples (wordOf (point x)))) e₁))
+    ∙ tables-joined (replicate 128 0) _ _ _ _ refl (length-multiples _) (length-multiples _) (length-multiples _) (length-multiples _)
+    ∙ ap (_++_ (multiples (wordOf (point b))))
+    (ap₂ _++_ (ap (λ (y : Point). multiples (wordOf y)) px)
+    (ap₂ _++_ (ap (λ (y : Point). multiples (wordOf y)) pz) (ap (λ (y : Point). multiples (wordOf y)) pxz)))

@@ -1,0 +1,5 @@
+pub mod PowerSum
+pub mod Sums
+pub mod Filled
+pub mod Added
+pub mod Classes

@@ -1,0 +1,76 @@
+-- x_A is gathered in front, the words behind it become zero (`prepared-made`), then H'x_A, and y is added where `first` (`vector-made`).
+use mathlib.Core.Path.{_≡_, sym, ap, _∙_}
+use mathlib.Core.List.{_++_}
+use Prim.Native.Nat.{_-_, _≤_, _<_}
+use native.Mathlib.Omega.{arith}
+use borrow.Author.Needs.{needs}
+use lib.ListN.{length, take, drop}
+use Rattle.exchange.specs.Layout.{atX}
+use Rattle.exchange.specs.Reading.{bytesAt}
+use Rattle.sidebyside.specs.Shares.{shareOf}
+use Rattle.sidebyside.specs.Made.{Prepared, front-length, prepared-made, prepared-image, vector-made}
+use Rattle.sidebyside.proofs.vectors.Statement.{statement}
+use Rattle.sidebyside.proofs.vectors.Tie as tie
+
+-- k words are lent
+front : (s : tie.Start) → s .args .p .k ≡ length (take (s .args .p .k) (s .args .words .now))
+front s = let f = s .pre .within in front-length (s .args .p .k) (s .args .words .now) (omega (arith, s .pre .sized-words))
+
+gather-requires : tie.Need-gather-requires
+gather-requires c κs =
+    let s : tie.Start = search in
+    let f = s .pre in
+    let e = front s in
+    record { within = f .within; few = f .few; sized-shares = f .sized-shares; room = omega arith }
+
+abbrev back-to-start : tie.After-gather → tie.Start
+back-to-start c = search
+
+below : (s : tie.Start) → s .args .p .k ≤ s .args .p .m
+below s = omega (arith, s .pre .within)
+
+-- what the front and the rest leave in the words
+prepared : (z : tie.After-clear) →
+    let d = z .before .before .before .before in
+    let s = back-to-start d in
+    let p = s .args .p in
+    let g = d .gather .last .1 .1 .1 .1 .0 in
+    let w = g ++ drop (p .k) (s .args .words .now) in
+    Prepared (p .k) (p .m) g (take (p .k) w ++ (z .clear .last .0 ++ drop (length w - p .k) (drop (p .k) w)))
+prepared z =
+    let d = z .before .before .before .before in
+    let s = back-to-start d in
+    let p = s .args .p in
+    prepared-made (p .k) (p .m) (s .args .words .now) (d .gather .last .1 .1 .1 .1 .0) (z .clear .last .0) (below s) (s .pre .sized-words)
+    (d .gather .kept .1 .1 .1 .1 .0 ∙ sym (front s)) (z .clear .ensures)
+
+image-requires : tie.Need-image-requires
+image-requires c κs =
+    let z : tie.After-clear = search in
+    let s : tie.Start = search back-to-start in
+    let p = s .args .p in
+    prepared-image (p .k) (p .m) _ _ (s .args .matrix .now) (below s) (s .pre .sized-matrix) (prepared z)
+
+returns : tie.Need-returns
+returns c =
+    let u : tie.After-add-where = search in
+    let v : tie.After-image = search in
+    let z : tie.After-clear = search in
+    let d : tie.After-gather = search in
+    let s : tie.Start = search back-to-start in
+    let y : tie.After-shared-slice-known3 = search in
+    let a = s .args in
+    let p = a .p in
+    λ i h.
+    let few : i < 8 = omega (arith, s .pre .few) in
+    vector-made p (a .matrix .now) (a .y .now) (a .first) (shareOf p (a .shares .now) i) i few (λ k. omega (arith, y .shared-slice-known3 .given k))
+    (s .pre .sized-y) _ _ (v .image .last .0) (u .add-where .last .1 .0) (below s) (prepared z) (v .image .kept .0) (v .image .ensures .0)
+    (v .image .ensures .1 i few) (u .add-where .ensures)
+    (d .gather .ensures i h ∙ ap (bytesAt (shareOf p (a .shares .now) i) (atX p)) (sym (front s)))
+
+pub vectors-spec : {M : Type 1} → statement M
+vectors-spec =
+    tie.close
+    (tie.spec (λ c. search needs) (λ c. search needs) (λ c. let s : tie.Start = search in front s) gather-requires (λ c. search needs)
+    (λ c. search needs) (λ c. search needs) (λ c. search needs) (λ c κs. search needs) image-requires (λ c. search needs) (λ c. search needs)
+    (λ c. search needs) (λ c. search needs) (λ c κs. search needs) (λ c. search needs) returns)

@@ -1,0 +1,25 @@
+-- What the functions of this crate ask for.
+--
+--   GatherAsked p n shares from words             up to eight shares within the limits, with words for bytes from place `from` on
+--   VectorsAsked p n shares matrix y words        the same, with the key and words for x
+use mathlib.Core.Path.{_≡_}
+use mathlib.Core.List.{List}
+use Prim.Native.Nat.{ℕ, _+_, _-_, _*_, _≤_}
+use lib.ListN.{length}
+use Rattle.parameters.specs.declared.Parameters.{Parameters}
+use Rattle.parameters.specs.Limits.{Within}
+use Rattle.exchange.specs.Layout.{shareLength}
+
+pub record GatherAsked (p : Parameters) (n : ℕ) (shares : List ℕ) (from : ℕ) (words : List ℕ) : Type 0 where
+  pub within : Within p
+  pub few : n ≤ 8
+  pub sized-shares : length shares ≡ n * shareLength p
+  pub room : from + length words ≤ shareLength p
+
+pub record VectorsAsked (p : Parameters) (n : ℕ) (shares matrix y words : List ℕ) : Type 0 where
+  pub within : Within p
+  pub few : n ≤ 8
+  pub sized-shares : length shares ≡ n * shareLength p
+  pub sized-matrix : length matrix ≡ (p .m - p .k) * p .k
+  pub sized-y : length y ≡ p .m - p .k
+  pub sized-words : length words ≡ p .m

@@ -1,0 +1,91 @@
+-- What the functions of this crate leave in the words.
+--
+--   Prepared k m g w                 m words: g, of which there are k, and zeros behind them
+--   front-length                     the length of a front that is lent
+--   prepared-made, prepared-image    a front is lent and comes back as g, the rest as zeros; what `image` requires then holds
+--   vector-made                      x of share i: x_A in front, and behind it H'x_A, with y added where `first`
+use mathlib.Core.Path.{_≡_, refl, sym, ap, ap₂, _∙_}
+use mathlib.Core.Bool.{Bool, true, false, cond}
+use mathlib.Core.List.{List, [], _++_, map}
+use Prim.Native.Nat.{ℕ, _+_, _-_, _*_, _≤_, _<_}
+use native.Mathlib.Nat.{le-of-eq}
+use native.Mathlib.Omega.{arith}
+use lib.ListN.{length, getD, take, drop, replicate, length-append, length-drop, length-replicate}
+use lib.Seq.{take-at, drop-at, length-take-le}
+use Rattle.lists.specs.Part.Laws.{tail-part, tail-back}
+use Rattle.lists.specs.Sum.{xorList}
+use Rattle.parameters.specs.declared.Parameters.{Parameters}
+use Rattle.relation.specs.Key.{rows}
+use Rattle.exchange.specs.Layout.{atX}
+use Rattle.exchange.specs.Reading.{bytesAt}
+use Rattle.exchange.specs.Reading.Laws.{bytesAt-all}
+use Rattle.exchange.specs.Values.{keyOf, xAOf, imageOf, xOf}
+use Rattle.packed.specs.Share.{share}
+use Rattle.packed.specs.Share.Laws.{share-sum}
+use Rattle.sidebyside.specs.Spread.{spread, share-spread}
+use Rattle.sidebyside.specs.Shares.Laws.{share-append}
+
+-- ---- the words before the matrix is applied
+
+pub record Prepared (k m : ℕ) (g w : List ℕ) : Type 0 where
+  pub sized : length w ≡ m
+  pub front : take k w ≡ g
+  pub behind : drop k w ≡ replicate (m - k) 0
+
+pub front-length : (n : ℕ) (l : List ℕ) → n ≤ length l → n ≡ length (take n l)
+front-length n l h = sym (length-take-le n l h)
+
+module _ (k m : ℕ) (w g z : List ℕ) (h : k ≤ m) (lw : length w ≡ m) (lg : length g ≡ k) where
+  pub prepared-made : z ≡ replicate (length (take (length (g ++ drop k w) - k) (drop k (g ++ drop k w)))) 0
+      → Prepared k m g (take k (g ++ drop k w) ++ (z ++ drop (length (g ++ drop k w) - k) (drop k (g ++ drop k w))))
+  prepared-made ez =
+      let r = length-replicate {A = ℕ} (m - k) 0 in record {
+        sized = ap length whole ∙ length-append g (replicate (m - k) 0) ∙ omega arith;
+        front = ap (take k) whole ∙ take-at g (replicate (m - k) 0) k lg;
+        behind = ap (drop k) whole ∙ drop-at g (replicate (m - k) 0) k lg;
+      }
+    where
+      zeros : z ≡ replicate (m - k) 0
+      zeros =
+          ez ∙ ap (λ (l : List ℕ). replicate (length l) 0) (tail-part (g ++ drop k w) k ∙ drop-at g (drop k w) k lg)
+          ∙ ap (λ (n : ℕ). replicate n 0) (length-drop k w ∙ ap (λ (n : ℕ). n - k) lw)
+
+      whole : take k (g ++ drop k w) ++ (z ++ drop (length (g ++ drop k w) - k) (drop k (g ++ drop k w))) ≡ g ++ replicate (m - k) 0
+      whole =
+          let l = length-append g (drop k w) in
+          tail-back (g ++ drop k w) z k (omega arith) ∙ ap₂ _++_ (take-at g (drop k w) k lg) zeros
+
+pub prepared-image : (k m : ℕ) (g w matrix : List ℕ) → k ≤ m → length matrix ≡ (m - k) * k → Prepared k m g w
+    → (k ≤ length w) × ((length w - k) * k ≤ length matrix) × (drop k w ≡ replicate (length w - k) 0)
+prepared-image k m g w matrix h e r = rw (r .sized) (h, le-of-eq (sym e), r .behind)
+
+-- ---- x
+
+share-constant : (i : ℕ) (first : Bool) (y : List ℕ) → i < 8 → ((k : ℕ) → getD y k 0 < 256)
+    → share i (cond first (map spread y) []) ≡ cond first y []
+unfolding share
+share-constant i true y hi bytes = share-spread i y hi bytes
+share-constant i false y hi bytes = refl
+
+module _ (p : Parameters) (matrix y : List ℕ) (first : Bool) (s : List ℕ) (i : ℕ) (hi : i < 8) (bytes : (k : ℕ) → getD y k 0 < 256)
+    (ly : length y ≡ p .m - p .k) where
+  joined : (g h : List ℕ) → share i g ≡ bytesAt s (atX p) (p .k) → share i h ≡ rows (p .m - p .k) matrix (share i g)
+      → share i (g ++ xorList h (cond first (map spread y) [])) ≡ xOf p (keyOf matrix y) first s
+  unfolding xOf xAOf imageOf
+  joined g h eg eh =
+      share-append i g (xorList h (cond first (map spread y) []))
+      ∙ ap₂ _++_ eg
+      (share-sum i h (cond first (map spread y) [])
+      ∙ ap₂ xorList (eh ∙ ap (rows (p .m - p .k) matrix) eg)
+      (share-constant i first y hi bytes ∙ ap (λ (z : List ℕ). cond first z []) (sym (bytesAt-all y (p .m - p .k) ly))))
+
+  pub vector-made : (g w v u : List ℕ) → p .k ≤ p .m → Prepared (p .k) (p .m) g w → length v ≡ length w → take (p .k) v ≡ take (p .k) w
+      → share i (drop (p .k) v) ≡ rows (length w - p .k) matrix (share i (take (p .k) w))
+      → u ≡ xorList (take (length v - p .k) (drop (p .k) v)) (cond first (map spread y) []) → share i g ≡ bytesAt s (atX p) (p .k)
+      → share i (take (p .k) v ++ (u ++ drop (length v - p .k) (drop (p .k) v))) ≡ xOf p (keyOf matrix y) first s
+  vector-made g w v u h r lv ev ei eu eg =
+      let l = r .sized in
+      ap (share i)
+      (tail-back v u (p .k) (omega arith)
+      ∙ ap₂ _++_ (ev ∙ r .front) (eu ∙ ap (λ (q : List ℕ). xorList q (cond first (map spread y) [])) (tail-part v (p .k))))
+      ∙ joined g (drop (p .k) v) eg (ei ∙ ap₂ (λ (n : ℕ) (q : List ℕ). rows (n - p .k) matrix (share i q)) (r .sized) (r .front))

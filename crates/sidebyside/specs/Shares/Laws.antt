@@ -1,0 +1,102 @@
+-- The laws of shares side by side.
+--
+--   zeros-share                    a share of words that are zero
+--   share-append                   a share of joined words
+--   share-fits                     what is read of share i stands within all shares
+--   gathered-none, gathered-more   no share is in words that are zero; one share more
+use mathlib.Core.Path.{_≡_, refl, sym, ap, ap₂, _∙_}
+use mathlib.Core.List.{List, [], _∷_, _++_, map}
+use Prim.Native.Nat.{ℕ, zero, suc, _+_, _-_, _*_, _≤_, _<_}
+use native.Mathlib.Decide.{ℕ-discrete}
+use native.Mathlib.Nat.{le-of-eq, not-suc-le-zero}
+use native.Mathlib.Omega.{arith}
+use lib.Dec.{lit<}
+use lib.ListN.{length, getD, take, drop, replicate, length-map, length-replicate}
+use Rattle.lists.specs.Additive.{additive-zero}
+use Rattle.lists.specs.Part.{part}
+use Rattle.lists.specs.Part.Laws.{length-part, part-part, part-fits}
+use Rattle.lists.specs.Sum.{xorList}
+use Rattle.lists.specs.Sum.Laws.{xorList-comm, xorList-zeros, length-xorList}
+use Rattle.exchange.specs.Reading.{bytesAt}
+use Rattle.exchange.specs.Reading.Laws.{length-bytesAt, bytesAt-part}
+use Rattle.packed.specs.Share.{byteAt, share, placed}
+use Rattle.packed.specs.Share.Laws.{byteAt-sum, share-own, share-rest}
+use Rattle.sidebyside.specs.Shares.{Gathered}
+
+pub zeros-share : (i n : ℕ) → share i (replicate n 0) ≡ replicate n 0
+unfolding share
+zeros-share i zero = refl
+zeros-share i (suc n) = ap₂ _∷_ (additive-zero (byteAt i) (byteAt-sum i)) (zeros-share i n)
+
+pub share-append : (i : ℕ) (v w : List ℕ) → share i (v ++ w) ≡ share i v ++ share i w
+unfolding share
+share-append i [] w = refl
+share-append i (a ∷ v) w = ap (_∷_ (byteAt i a)) (share-append i v w)
+
+lent-bytes : (n a : ℕ) (d : List ℕ) → ((k : ℕ) → getD d k 0 < 256) → (k : ℕ) → getD (take n (drop a d)) k 0 < 256
+lent-bytes zero a d h k = lit< tt
+lent-bytes (suc n) zero [] h k = lit< tt
+lent-bytes (suc n) zero (x ∷ d) h zero = h 0
+lent-bytes (suc n) zero (x ∷ d) h (suc k) = lent-bytes n zero d (λ j. h (suc j)) k
+lent-bytes (suc n) (suc a) [] h k = lit< tt
+lent-bytes (suc n) (suc a) (x ∷ d) h k = lent-bytes (suc n) a d (λ j. h (suc j)) k
+
+-- ---- gathering
+
+module _ (size : ℕ) (shares : List ℕ) (from count : ℕ) where
+  pub gathered-none : (words : List ℕ) → words ≡ replicate count 0 → Gathered size shares from count 0 words
+  gathered-none words e = record {
+    sized = ap length e ∙ length-replicate count 0;
+    done = λ j h. absurd (not-suc-le-zero h);
+    rest = λ j h. ap (share j) e ∙ zeros-share j count;
+  }
+
+  module _ (i : ℕ) (words x : List ℕ) (g : Gathered size shares from count i words) (e : x ≡ bytesAt (part shares (i * size) size) from count)
+      (bytes : (k : ℕ) → getD x k 0 < 256) where
+    fits : length x ≡ count
+    fits = ap length e ∙ length-bytesAt (part shares (i * size) size) from count
+
+    own : share i (xorList words (map (placed i) x)) ≡ bytesAt (part shares (i * size) size) from count
+    own =
+        let f = fits in
+        share-own i words x bytes ∙ ap (λ (l : List ℕ). xorList l x) (g .rest i (le-of-eq refl)) ∙ xorList-comm (replicate count 0) x
+        ∙ xorList-zeros x count (omega arith) ∙ e
+
+    other : (j : ℕ) → (j ≡ i → ⊥) → share j (xorList words (map (placed i) x)) ≡ share j words
+    other j n = let f = fits in let s = g .sized in share-rest j i n words x (omega arith) bytes
+
+    added : Gathered size shares from count (i + 1) (xorList words (map (placed i) x))
+    added =
+        let f = fits in
+        let s = g .sized in
+        let l = length-map x (placed i) in record {
+          sized = length-xorList words (map (placed i) x) (omega arith) ∙ g .sized;
+          done = λ j h. at j h (ℕ-discrete j i);
+          rest = λ j h. other j (λ o. omega arith) ∙ g .rest j (omega arith);
+        }
+      where
+        at : (j : ℕ) → j < i + 1 → Dec (j ≡ i) → share j (xorList words (map (placed i) x)) ≡ bytesAt (part shares (j * size) size) from count
+        at j h (yes q) =
+            ap (λ (k : ℕ). share k (xorList words (map (placed i) x))) q ∙ own ∙ ap (λ (k : ℕ). bytesAt (part shares (k * size) size) from count) (sym q)
+        at j h (no q) = other j q ∙ g .done j (omega arith)
+
+  module _ (i n : ℕ) (h : i < n) (sized : length shares ≡ n * size) (room : from + count ≤ size) where
+    pub share-fits : i * size + from + count ≤ length shares
+    share-fits = let f = part-fits i n size h in omega arith
+
+    share-lent : take (i * size + from + count - (i * size + from)) (drop (i * size + from) shares)
+        ≡ bytesAt (part shares (i * size) size) from count
+    unfolding part
+    share-lent =
+        let f = part-fits i n size h in
+        let l : length (part shares (i * size) size) ≡ size = length-part shares (i * size) size (omega arith) in
+        let e : i * size + from + count - (i * size + from) ≡ count = omega arith in
+        ap (λ (k : ℕ). take k (drop (i * size + from) shares)) e
+        ∙ sym (bytesAt-part (part shares (i * size) size) from count (omega arith) ∙ part-part shares (i * size) size from count room)
+
+    pub gathered-more : (words out : List ℕ) → Gathered size shares from count i words → ((k : ℕ) → getD shares k 0 < 256)
+        → out ≡ xorList words (map (placed i) (take (i * size + from + count - (i * size + from)) (drop (i * size + from) shares)))
+        → Gathered size shares from count (i + 1) out
+    gathered-more words out g bytes e =
+        rw e
+        (added i words _ g share-lent (lent-bytes (i * size + from + count - (i * size + from)) (i * size + from) shares bytes))

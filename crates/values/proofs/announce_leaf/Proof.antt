@@ -1,0 +1,29 @@
+-- The arrays have room for all parameters.
+use mathlib.Core.Path.{sym}
+use native.Mathlib.Omega.{arith}
+use borrow.Author.Needs.{needs}
+use Rattle.encoding.specs.Written.{front-length}
+use Rattle.values.proofs.announce_leaf.Statement.{statement}
+use Rattle.values.proofs.announce_leaf.Tie as tie
+
+announce-single-requires : tie.Need-announce-single-requires
+announce-single-requires c κs =
+    let s : tie.Start = search in
+    let w = s .pre .0 .within in
+    let m = w .m-most in
+    let k = w .k-least in
+    let t = w .t-most in (
+      s .pre .0,
+      record { sized-y = sym (front-length _ _ (omega arith)); sized-rows = sym (front-length _ _ (omega arith)); sized-block = sym (front-length _ _ (omega arith)) },
+      s .pre .1,
+      s .pre .2,
+    )
+
+pub announce-leaf-spec : {M : Type 1} → statement M
+announce-leaf-spec =
+    tie.close
+    (tie.spec (λ c. search needs) (λ c. search needs) (λ c. search needs)
+    (λ c. let s : tie.Start = search in let w = s .pre .0 .within in front-length _ _ (omega (arith, w .m-most, w .k-least))) (λ c. search needs)
+    (λ c. let s : tie.Start = search in let w = s .pre .0 .within in front-length _ _ (omega (arith, w .m-most))) (λ c. search needs)
+    (λ c. let s : tie.Start = search in let w = s .pre .0 .within in front-length _ _ (omega (arith, w .t-most))) announce-single-requires
+    (λ c. search needs) (λ c. search needs))

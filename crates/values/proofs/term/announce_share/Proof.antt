@@ -1,0 +1,55 @@
+-- Three points are written, one after another.
+use mathlib.Core.Path.{_≡_, ap, ap₂, _∙_}
+use mathlib.Core.List.{List}
+use Prim.Native.Nat.{ℕ, _+_, _*_}
+use native.Mathlib.Omega.{arith}
+use borrow.Author.Needs.{needs}
+use Rattle.lists.specs.Part.{putAt}
+use Rattle.tower.specs.Field.{bytesOf}
+use Rattle.exchange.specs.Reading.{pointAt, _⊞_, _⊠_}
+use Rattle.exchange.specs.Values.{aOf, bOf, cOf}
+use Rattle.values.specs.Terms.{written-made}
+use Rattle.values.proofs.term.announce_share.Statement.{statement}
+use Rattle.values.proofs.term.announce_share.Tie as tie
+
+abbrev back-to-start : tie.After-put-term → tie.Start
+back-to-start c = search
+
+point-at-requires-3 : tie.Need-point-at-requires-3
+point-at-requires-3 c κs = let s : tie.Start = search back-to-start in omega (arith, s .pre .0, s .pre .0 .within)
+
+put-term-requires-2 : tie.Need-put-term-requires-2
+put-term-requires-2 c κs =
+    let b : tie.After-put-sum = search in
+    let a : tie.After-put-term = search in
+    let s : tie.Start = search back-to-start in
+    let f = s .pre .0 in
+    (omega (arith, f .position, f .sized-out, b .put-sum .kept .0, a .put-term .kept .0), f .sized-factor, omega (arith, a .put-term .ensures .1, s .pre .1))
+
+returns : tie.Need-returns
+unfolding aOf bOf cOf
+returns c =
+    let e : tie.After-put-term2 = search in
+    let w : tie.After-point-at3 = search in
+    let d : tie.After-put-sum = search in
+    let v : tie.After-point-at2 = search in
+    let b : tie.After-put-term = search in
+    let u : tie.After-point-at = search in
+    let s : tie.Start = search back-to-start in
+    let p = s .args .p in
+    let place : 8 * p .t + 4 * s .args .l + p .k + 2 * p .w ≡ 8 * p .t + p .k + p .w + p .w + 4 * s .args .l = omega arith in (
+      λ ε φ Q S P eε eφ eQ eS eP. written-made p (s .args .l) _ _ _ (s .args .out .now) _ _ _ (b .put-term .ensures .0 ε Q _ eε eQ (u .point-at .ensures))
+          (d .put-sum .ensures S _ eS (v .point-at2 .ensures))
+          (e .put-term2 .ensures .0 φ P _ eφ eP (w .point-at3 .ensures ∙ ap (λ (n : ℕ). bytesOf (pointAt (s .args .s .now) n)) place)),
+      omega (arith, e .put-term2 .ensures .1, b .put-term .ensures .1),
+    )
+
+pub announce-share-spec : {M : Type 1} → statement M
+announce-share-spec =
+    tie.close
+    (tie.spec (λ c. search needs) (λ c. search needs) (λ c. search needs) (λ c. search needs) (λ c. search needs) (λ c κs. search needs)
+    (λ c κs. search needs) (λ c κs. search needs) (λ c κs. search needs)
+    (λ c. let s : tie.Start = search back-to-start in omega (arith, s .pre .0 .within, s .pre .0 .position))
+    (λ c. let s : tie.Start = search back-to-start in omega (arith, s .pre .0 .within))
+    (λ c. let s : tie.Start = search back-to-start in omega (arith, s .pre .0 .within, s .pre .0 .position))
+    point-at-requires-3 put-term-requires-2 (λ c. search needs) returns)

@@ -1,0 +1,63 @@
+-- What a leaf's share announces on its own: 'The hidden leaf's own α and β have none' of the constants, so y does not enter.
+--
+-- leafValues p matrix m2 s   α (4t) and β (4t) of the share s
+-- LeafAsked                  the share, message 2 and the matrix, and room for α and β
+-- RoomAsked                  room for what is made on the way
+-- leafValues-any             it is α and β of the exchange without the constants, for every y
+-- leaf-front, leaf-made      it is the front of what the share announces
+use mathlib.Core.Path.{_≡_, refl, sym, ap, _∙_}
+use mathlib.Core.Bool.{false}
+use mathlib.Core.List.{List, [], _++_, append-assoc}
+use Prim.Native.Nat.{ℕ, _+_, _-_, _*_}
+use native.Mathlib.Nat.{le-of-eq, zero-mul}
+use native.Mathlib.Omega.{arith}
+use lib.ListN.{length, take, length-append}
+use lib.Seq.{take-at}
+use Rattle.lists.specs.Part.{part}
+use Rattle.lists.specs.Part.Laws.{part-whole}
+use Rattle.parameters.specs.declared.Parameters.{Parameters}
+use Rattle.parameters.specs.Limits.{Within}
+use Rattle.exchange.specs.Layout.{shareLength, message2Length}
+use Rattle.exchange.specs.Reading.{encode}
+use Rattle.exchange.specs.Reading.Laws.{length-encode}
+use Rattle.exchange.specs.Values.{Key, keyOf, imageOf, xOf, SOf, alpha, beta}
+use Rattle.values.specs.Announced.{announcedOf}
+use Rattle.values.specs.Shares.{Announcements}
+
+unfoldable pub leafValues : Parameters → List ℕ → List ℕ → List ℕ → List ℕ
+leafValues p matrix m2 s = encode (alpha p (keyOf matrix []) m2 false s) (p .t) ++ encode (beta p (keyOf matrix []) m2 false s) (p .t)
+
+pub record LeafAsked (p : Parameters) (s m2 matrix out : List ℕ) : Type 0 where
+  pub within : Within p
+  pub sized-s : length s ≡ shareLength p
+  pub sized-m2 : length m2 ≡ message2Length p
+  pub sized-matrix : length matrix ≡ (p .m - p .k) * p .k
+  pub sized-out : length out ≡ 8 * p .t
+
+pub record RoomAsked (p : Parameters) (y rows block : List ℕ) : Type 0 where
+  pub sized-y : length y ≡ p .m - p .k
+  pub sized-rows : length rows ≡ p .m
+  pub sized-block : length block ≡ 12 * p .t
+
+pub leafValues-any : (p : Parameters) (key : Key) (m2 s : List ℕ)
+    → leafValues p (key .matrix) m2 s ≡ encode (alpha p key m2 false s) (p .t) ++ encode (beta p key m2 false s) (p .t)
+unfolding leafValues alpha beta SOf xOf imageOf
+leafValues-any p key m2 s = refl
+
+pub leaf-front : (p : Parameters) (key : Key) (m2 s block : List ℕ) → block ≡ announcedOf p key m2 false s
+    → take (8 * p .t) block ≡ leafValues p (key .matrix) m2 s
+unfolding announcedOf
+leaf-front p key m2 s block e =
+    let a = length-encode (alpha p key m2 false s) (p .t) in
+    let b = length-encode (beta p key m2 false s) (p .t) in
+    let c = length-append (encode (alpha p key m2 false s) (p .t)) (encode (beta p key m2 false s) (p .t)) in
+    ap (take (8 * p .t)) (e ∙ sym (append-assoc (encode (alpha p key m2 false s) (p .t)) (encode (beta p key m2 false s) (p .t)) _))
+    ∙ take-at (encode (alpha p key m2 false s) (p .t) ++ encode (beta p key m2 false s) (p .t)) _ (8 * p .t) (omega arith)
+    ∙ sym (leafValues-any p key m2 s)
+
+pub leaf-made : (p : Parameters) (key : Key) (m2 s u : List ℕ) → length s ≡ shareLength p → length u ≡ 12 * p .t → Announcements p key m2 false s 1 u
+    → take (8 * p .t) u ≡ leafValues p (key .matrix) m2 s
+leaf-made p key m2 s u ls lu h =
+    leaf-front p key m2 s u
+    (sym (part-whole u (12 * p .t) (le-of-eq lu)) ∙ ap (λ (i : ℕ). part u i (12 * p .t)) (sym (zero-mul (12 * p .t))) ∙ h 0 (omega arith)
+    ∙ ap (announcedOf p key m2 false) (ap (λ (i : ℕ). part s i (shareLength p)) (zero-mul (shareLength p)) ∙ part-whole s (shareLength p) (le-of-eq ls)))
