@@ -49,17 +49,7 @@ pub fn evaluate(
 {
     let mut rows = [0u8; 2295];
     let e = (p.d + 1) * p.m;
-    evaluate_with(
-        p,
-        parts,
-        m2,
-        matrix,
-        y,
-        &mut rows[..e],
-        blocks,
-        log,
-        pow,
-    )
+    evaluate_with(p, parts, m2, matrix, y, &mut rows[..e], blocks, log, pow)
 }
 
 // sums and total become α̂ and β̂, and the row of the last of the D + 1 shares, which is the sum of all disclosed leaves.

@@ -17,7 +17,7 @@ use lib.Dec.{lit<}
 use Rattle.algebra.specs.Operations.{Homomorphism}
 use Rattle.algebra.specs.Ring.{Ring2, ops}
 use Rattle.algebra.specs.Field.{Field2}
-use Rattle.lists.specs.Xor.{_⊕_, ⊕-assoc, ⊕-comm, ⊕-zero, ⊕-self, ⊕-lt, ⊕-mod}
+use Rattle.lists.specs.Xor.{_⊕_, ⊕-assoc, ⊕-comm, ⊕-zero, ⊕-self, ⊕-lt, ⊕-mod, positive}
 use Rattle.bytefield.specs.Product.{_⊗_, byteOps}
 use Rattle.bytefield.specs.Product.Laws.{⊗-comm, ⊗-assoc, ⊗-lt, ⊗-low, ⊗-add, one-⊗}
 use Rattle.bytefield.specs.Inverse.{inverse}
@@ -56,9 +56,6 @@ byteInverse a = (inverse (a .0), inverse-lt (a .0))
 pub byte-mul-inverse : (a : Byte) → (a ≡ byteRing .zero → ⊥) → byteRing .mul a (byteInverse a) ≡ byteRing .one
 unfolding byteRing byteInverse
 byte-mul-inverse a n = byte-path (⊗-inverse (a .0) (positive (a .0) (λ z. n (byte-path z))) (a .1))
-  where
-    positive : (m : ℕ) → (m ≡ 0 → ⊥) → 0 < m
-    positive m h = omega (arith, h)
 
 pub byte-one≢zero : byteRing .one ≡ byteRing .zero → ⊥
 unfolding byteRing

@@ -1,32 +1,23 @@
 -- Points as the code has them, four bytes each, and tables of points one after another.
 --
 --   scalar b                    the byte b as a point: 'A byte b is the point b 00 00 00'
---   tableAt d i                 point i of the table d
---   times-point, times-bytes, sum-bytes   what product and sum of points give on their bytes
+--   times-point, sum-bytes      what product and sum of points give on their bytes
 --   lone-bytes, scalar-bytes    a byte as a point, and a product with a byte
 --   whole-point                 the bytes of a point stand for it
 --   bytes-read                  four bytes that are read are a point's
 --   bytes-put                   four writes are one
---   tableAt-encode              a point is read back
---   table-encode                points one after another are a table of them
---   take-encode                 the first points of a table
---   tableAt-drop                a table from point k on
 --   write-none, -turn, -end     a table that is written from its front on
---   tableAt-behind              what stands behind the points that are written
---   putAt-encode                one point of a table is replaced
 --   front-length, front-kept, middle-kept   the length of a front; a slice keeps its length where a front, or a middle part, was lent
---   parts-made                  a slice of which a front, a middle part and the last four bytes are written
 use mathlib.Core.Path.{_≡_, refl, sym, ap, ap₂, _∙_}
-use mathlib.Core.List.{List, [], _∷_, _++_, append-nil, append-assoc}
-use Prim.Native.Nat.{ℕ, zero, suc, _+_, _-_, _*_, _≤_, _<_}
-use native.Mathlib.Decide.{ℕ-discrete}
+use mathlib.Core.List.{List, [], _∷_, _++_}
+use Prim.Native.Nat.{ℕ, suc, _+_, _-_, _*_, _≤_, _<_}
 use native.Mathlib.Numerals.{add-one}
 use native.Mathlib.Omega.{arith}
 use lib.Dec.{lit<}
 use lib.ListN.{length, getD, set, take, drop, length-append, length-drop}
-use lib.Seq.{take-at, drop-at, take-append-le, drop-append-le, drop-append-add, drop-length, length-take-le, paste}
+use lib.Seq.{length-take-le, paste}
 use Rattle.lists.specs.Part.{part, putAt}
-use Rattle.lists.specs.Part.Laws.{putAt-none, putAt-more, putAt-all, putAt-whole, putAt-putAt, part-putAt-behind}
+use Rattle.lists.specs.Part.Laws.{putAt-none, putAt-more, putAt-all, putAt-whole, putAt-putAt}
 use Rattle.bytefield.specs.Byte.{byte, byteRing, val-byte}
 use Rattle.tower.specs.Point.{pointOps, quad, lone, fourSum, fourTimes}
 use Rattle.tower.specs.Point.Laws.{bytes-times}
@@ -34,23 +25,16 @@ use Rattle.tower.specs.Point.Written.{four-path}
 use Rattle.tower.specs.Field.{Point, point, bytesOf, bytesOf-point, point-bytesOf, point-times}
 use Rattle.exchange.specs.Sequences.{joined}
 use Rattle.exchange.specs.Reading.{points, bytesAt, pointAt, encode, _⊞_, _⊠_}
-use Rattle.exchange.specs.Reading.Laws.{length-bytesOf, length-encode, encode-ext, bytesAt-part, pointAt-drop, pointAt-encode}
+use Rattle.exchange.specs.Reading.Laws.{length-bytesOf, length-encode}
 
 abbrev pub scalar : ℕ → Point
 scalar b = point (lone b)
-
-abbrev pub tableAt : List ℕ → ℕ → Point
-tableAt d i = pointAt d (4 * i)
 
 -- ---- arithmetic
 
 pub times-point : (a b : List ℕ) → fourTimes a b ≡ bytesOf (point a ⊠ point b)
 unfolding fourTimes points
 times-point a b = sym (bytesOf-point (pointOps .mul (quad a) (quad b)) (bytes-times (quad a) (quad b))) ∙ ap bytesOf (point-times a b)
-
-pub times-bytes : (a b c : List ℕ) (x y : Point) → a ≡ bytesOf x → b ≡ bytesOf y → c ≡ fourTimes a b → c ≡ bytesOf (x ⊠ y)
-times-bytes a b c x y ea eb ec =
-    ec ∙ times-point a b ∙ ap₂ (λ (u v : Point). bytesOf (u ⊠ v)) (ap point ea ∙ point-bytesOf x) (ap point eb ∙ point-bytesOf y)
 
 pub scalar-bytes : (b : ℕ) (a c : List ℕ) (x : Point) → a ≡ bytesOf x → c ≡ fourTimes (lone b) a → c ≡ bytesOf (scalar b ⊠ x)
 scalar-bytes b a c x ea ec = ec ∙ times-point (lone b) a ∙ ap (λ (v : Point). bytesOf (scalar b ⊠ v)) (ap point ea ∙ point-bytesOf x)
@@ -98,33 +82,6 @@ bytes-put d at x e h =
 
 -- ---- tables
 
-pub tableAt-encode : (f : ℕ → Point) (n i : ℕ) → i < n → tableAt (encode f n) i ≡ f i
-tableAt-encode f n i l =
-    ap (λ (d : List ℕ). pointAt d (4 * i)) (sym (append-nil (encode f n)))
-    ∙ (let z : 4 * i ≡ 0 + 4 * i = omega arith in ap (pointAt (encode f n ++ [])) z)
-    ∙ pointAt-encode [] f n [] 0 i refl l
-
-pub table-encode : (f : ℕ → Point) (n : ℕ) (d : List ℕ) → d ≡ encode f n → d ≡ encode (tableAt d) n
-table-encode f n d e =
-    e ∙ encode-ext f (tableAt d) n (λ i l. sym (ap (λ (q : List ℕ). tableAt q i) e ∙ tableAt-encode f n i l))
-
-encode-split : (f : ℕ → Point) (k n : ℕ) → encode f (k + n) ≡ encode f k ++ encode (λ j. f (k + j)) n
-unfolding encode joined
-encode-split f k zero = let e : k + 0 ≡ k = omega arith in ap (encode f) e ∙ sym (append-nil (encode f k))
-encode-split f k (suc n) =
-    let e : k + suc n ≡ suc (k + n) = omega arith in
-    ap (encode f) e ∙ ap (λ (q : List ℕ). q ++ bytesOf (f (k + n))) (encode-split f k n)
-    ∙ append-assoc (encode f k) (encode (λ j. f (k + j)) n) (bytesOf (f (k + n)))
-
-pub take-encode : (f : ℕ → Point) (k m : ℕ) → k ≤ m → take (4 * k) (encode f m) ≡ encode f k
-take-encode f k m l =
-    let e : m ≡ k + (m - k) = omega arith in
-    ap (λ (n : ℕ). take (4 * k) (encode f n)) e ∙ ap (take (4 * k)) (encode-split f k (m - k))
-    ∙ take-at (encode f k) (encode (λ j. f (k + j)) (m - k)) (4 * k) (length-encode f k)
-
-pub tableAt-drop : (d : List ℕ) (k j : ℕ) → tableAt (drop (4 * k) d) j ≡ tableAt d (k + j)
-tableAt-drop d k j = let e : 4 * k + 4 * j ≡ 4 * (k + j) = omega arith in pointAt-drop (4 * k) d (4 * j) ∙ ap (pointAt d) e
-
 pub write-none : (f : ℕ → Point) (d : List ℕ) → d ≡ putAt d 0 (encode f 0)
 unfolding putAt encode joined
 write-none f d = refl
@@ -143,53 +100,7 @@ write-turn f d p x i h ep ex =
 pub write-end : (f : ℕ → Point) (d p : List ℕ) (i n : ℕ) → i ≡ n → 4 * n ≡ length d → p ≡ putAt d 0 (encode f i) → p ≡ encode f n
 write-end f d p i n e h ep = ep ∙ ap (λ (k : ℕ). putAt d 0 (encode f k)) e ∙ putAt-whole d (encode f n) (length-encode f n ∙ h)
 
-pub tableAt-behind : (f : ℕ → Point) (d p : List ℕ) (i : ℕ) → 4 * i + 4 ≤ length d → p ≡ putAt d 0 (encode f i) → length p ≡ length d → tableAt p i ≡ tableAt d i
-unfolding pointAt
-tableAt-behind f d p i h ep el =
-    let n = length-encode f i in
-    ap point
-    (bytesAt-part p (4 * i) 4 (omega arith)
-    ∙ ap (λ (q : List ℕ). part q (4 * i) 4) ep
-    ∙ part-putAt-behind d 0 (encode f i) (omega arith) (4 * i) 4 (omega arith)
-    ∙ sym (bytesAt-part d (4 * i) 4 (omega arith)))
-
--- ---- one point replaced
-
-putAt-left : (a b s : List ℕ) (at : ℕ) → at + length s ≤ length a → putAt (a ++ b) at s ≡ putAt a at s ++ b
-unfolding putAt
-putAt-left a b s at h =
-    ap₂ (λ (u v : List ℕ). u ++ (s ++ v)) (take-append-le at a b (omega arith)) (drop-append-le (at + length s) a b h)
-    ∙ ap (_++_ (take at a)) (sym (append-assoc s (drop (at + length s) a) b))
-    ∙ sym (append-assoc (take at a) (s ++ drop (at + length s) a) b)
-
-putAt-last : (a b s : List ℕ) → length s ≡ length b → putAt (a ++ b) (length a) s ≡ a ++ s
-unfolding putAt
-putAt-last a b s e =
-    ap₂ (λ (u v : List ℕ). u ++ (s ++ v)) (take-at a b (length a) refl)
-    (drop-append-add a b (length s) ∙ ap (λ (k : ℕ). drop k b) e ∙ drop-length b)
-    ∙ ap (_++_ a) (append-nil s)
-
-pub putAt-encode : (f g : ℕ → Point) (x : List ℕ) (n i : ℕ) → i < n → x ≡ bytesOf (g i) → ((j : ℕ) → j < n → (j ≡ i → ⊥) → f j ≡ g j)
-    → putAt (encode f n) (4 * i) x ≡ encode g n
-unfolding encode joined
-putAt-encode f g x zero i l ex h = absurd (omega arith)
-putAt-encode f g x (suc n) i l ex h =
-    go (ℕ-discrete i n) (λ q. putAt-encode f g x n i q ex (λ j b o. h j (omega arith) o))
-  where
-    go : Dec (i ≡ n) → (i < n → putAt (encode f n) (4 * i) x ≡ encode g n) → putAt (encode f n ++ bytesOf (f n)) (4 * i) x ≡ encode g n ++ bytesOf (g n)
-    go (yes e) ih =
-        let a = length-encode f n in
-        let k : 4 * i ≡ length (encode f n) = omega arith in
-        ap₂ (λ (m : ℕ) (y : List ℕ). putAt (encode f n ++ bytesOf (f n)) m y) k (ex ∙ ap (λ (m : ℕ). bytesOf (g m)) e)
-        ∙ putAt-last (encode f n) (bytesOf (f n)) (bytesOf (g n)) (length-bytesOf (g n) ∙ sym (length-bytesOf (f n)))
-        ∙ ap (λ (q : List ℕ). q ++ bytesOf (g n)) (encode-ext f g n (λ j b. h j (omega arith) (λ o. omega arith)))
-    go (no e) ih =
-        let a = length-encode f n in
-        let b : length x ≡ 4 = ap length ex ∙ length-bytesOf (g i) in
-        putAt-left (encode f n) (bytesOf (f n)) x (4 * i) (omega arith)
-        ∙ ap₂ _++_ (ih (omega arith)) (ap bytesOf (h n (omega arith) (λ o. e (sym o))))
-
--- ---- a slice in three parts
+-- ---- lengths
 
 pub front-length : (n : ℕ) (l : List ℕ) → n ≤ length l → n ≡ length (take n l)
 front-length n l h = sym (length-take-le n l h)
@@ -203,16 +114,3 @@ middle-kept a n u l e h =
     let b = length-drop a l in
     let t = length-take-le a l (omega arith) in
     length-append (take a l) (u ++ drop n (drop a l)) ∙ (let q = length-append u (drop n (drop a l)) in omega arith)
-
-pub parts-made : (q z q₁ u q₂ x out z′ u′ x′ : List ℕ) (a b : ℕ) → length z ≡ a → a ≤ b → length u ≡ b - a → length q ≡ b + 4 → length x ≡ 4
-    → q₁ ≡ z ++ drop a q → q₂ ≡ take a q₁ ++ (u ++ drop (b - a) (drop a q₁)) → out ≡ putAt q₂ b x → z ≡ z′ → u ≡ u′ → x ≡ x′
-    → out ≡ z′ ++ (u′ ++ x′)
-parts-made q z q₁ u q₂ x out z′ u′ x′ a b lz l lu lq lx e₁ e₂ eo ez eu ex =
-    let rest : List ℕ = drop (b - a) (drop a q) in
-    let n : length rest ≡ 4 = length-drop (b - a) (drop a q) ∙ (let k = length-drop a q in omega arith) in
-    let m : length (z ++ u) ≡ b = length-append z u ∙ omega arith in
-    let e : q₂ ≡ (z ++ u) ++ rest
-    = e₂ ∙ ap₂ (λ (f d : List ℕ). f ++ (u ++ drop (b - a) d)) (ap (take a) e₁ ∙ take-at z (drop a q) a lz) (ap (drop a) e₁ ∙ drop-at z (drop a q) a lz)
-    ∙ sym (append-assoc z u rest) in
-    eo ∙ ap₂ (λ (d : List ℕ) (i : ℕ). putAt d i x) e (sym m) ∙ putAt-last (z ++ u) rest x (lx ∙ sym n) ∙ append-assoc z u x
-    ∙ ap₂ _++_ ez (ap₂ _++_ eu ex)

@@ -1,6 +1,5 @@
 -- What differs stays apart: nonzero factors of bytes cancel, and no nonzero byte is two of the first 255 powers of 03.
 --
---   positive        what is not zero is positive
 --   ⊗-cancel        a factor that is not zero cancels
 --   ⊗-some          a product of nonzero bytes is not zero
 --   power-once      two of the first 255 powers of 03 are equal only if their exponents are
@@ -9,6 +8,7 @@ use Prim.Native.Nat.{ℕ, _<_}
 use native.Mathlib.Omega.{arith}
 use lib.Dec.{T, eqb, eqb→eq, lit<}
 use lib.ListN.{getD}
+use Rattle.lists.specs.Xor.{positive}
 use Rattle.lists.specs.Computed.{all, below}
 use Rattle.bytefield.specs.Product.{_⊗_}
 use Rattle.bytefield.specs.Product.Laws.{⊗-comm, ⊗-assoc, ⊗-zero, one-⊗}
@@ -16,9 +16,6 @@ use Rattle.bytefield.specs.Inverse.{inverse}
 use Rattle.bytefield.specs.Inverse.Laws.{⊗-inverse}
 use Rattle.bytefield.specs.Tables.{powers, logs}
 use Rattle.bytefield.specs.Powers.{power, powers-at}
-
-pub positive : (n : ℕ) → (n ≡ 0 → ⊥) → 0 < n
-positive n h = omega (arith, h)
 
 undo : (a b : ℕ) → 0 < a → a < 256 → b < 256 → inverse a ⊗ (a ⊗ b) ≡ b
 undo a b z h k =

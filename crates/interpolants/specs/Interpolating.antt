@@ -1,12 +1,11 @@
 -- S from power sums: T is the polynomial of the power sums of the weighted entries of x, and G the complement. T divided by G is S.
 --
---   timesEach-at        an entry of timesEach
 --   interpolant-made    if T = r + G·s at every byte, with r shorter than G and m coefficients s, then s is S
 --
 -- At the bytes above m both T and G are zero, so r is zero there, and then everywhere. At each point f_i the value of T is G(f_i)·x_i.
-use mathlib.Core.Path.{_≡_, refl, sym, ap, _∙_}
-use mathlib.Core.List.{List, [], _∷_}
-use Prim.Native.Nat.{ℕ, zero, suc, _+_, _-_, _<_}
+use mathlib.Core.Path.{_≡_, sym, ap, _∙_}
+use mathlib.Core.List.{List}
+use Prim.Native.Nat.{ℕ, zero, _+_, _-_, _<_}
 use native.Mathlib.Omega.{arith}
 use lib.Dec.{lit<}
 use lib.ListN.{length, getD, length-map, List·getD-eq-default}
@@ -19,27 +18,21 @@ use Rattle.algebra.specs.Polynomial.Evaluation.{eval-zeros}
 use Rattle.algebra.specs.Polynomial.Roots.{root-bound}
 use Rattle.algebra.specs.Polynomial.Maps.{map-eval}
 use Rattle.bytefield.specs.Product.{_⊗_, byteOps}
-use Rattle.bytefield.specs.Product.Laws.{⊗-lt, ⊗-zero, zero-⊗, one-⊗, bytefield}
+use Rattle.bytefield.specs.Product.Laws.{⊗-lt, one-⊗, bytefield}
 use Rattle.bytefield.specs.Inverse.{inverse}
 use Rattle.bytefield.specs.Inverse.Laws.{⊗-inverse}
 use Rattle.bytefield.specs.Byte.{byte, byteRing, byteField, byte-zero, byte-homomorphism}
 use Rattle.packed.specs.Maps.{getD-map-in}
 use Rattle.powersums.specs.PowerSum.{timesEach, PowerSums}
+use Rattle.powersums.specs.Classes.Laws.{getD-timesEach}
 use Rattle.polynomial.specs.Bytes.{Bytes, inField, byte-equal, byte-at, byte-eval}
 use Rattle.polynomial.specs.Interpolant.{interpolationPoints, interpolantOf}
-use Rattle.polynomial.specs.Interpolant.Laws.{length-ascending, ascending-at, interpolant-unique}
+use Rattle.polynomial.specs.Interpolant.Laws.{length-ascending, ascending-at, ascending-distinct, interpolant-unique}
 use Rattle.interpolants.specs.Cancel.{⊗-cancel}
 use Rattle.interpolants.specs.Complement.{complementOf, weightsOf}
-use Rattle.interpolants.specs.Complement.Laws.{missing, missing-at, length-missing, missing-distinct, bytes-complement, complement-zero, complement-some, weight-at}
+use Rattle.interpolants.specs.Complement.Laws.{missing, missing-at, length-missing, bytes-complement, complement-zero, complement-some, weight-at}
 use Rattle.interpolants.specs.Interpolating.Transform.{transform-value}
 pub mod Transform
-
-pub timesEach-at : (x w : List ℕ) (i : ℕ) → getD (timesEach x w) i 0 ≡ getD x i 0 ⊗ getD w i 0
-unfolding timesEach
-timesEach-at [] w i = sym (zero-⊗ (getD w i 0))
-timesEach-at (a ∷ x) [] i = sym (⊗-zero (getD (a ∷ x) i 0))
-timesEach-at (a ∷ x) (b ∷ w) zero = refl
-timesEach-at (a ∷ x) (b ∷ w) (suc i) = timesEach-at x w i
 
 -- ---- what the power sums are at the points, and elsewhere
 
@@ -48,14 +41,14 @@ module _ (m : ℕ) (x t : List ℕ) (short : m < 256) (long : length x ≡ m) (s
   transform-elsewhere z h k =
       transform-value (timesEach x (weightsOf m)) t z sums (omega arith) k
       ∙ ap (λ (c : ℕ). c ⊗ inverse z)
-      (timesEach-at x (weightsOf m) (z - 1) ∙ ap (λ (a : ℕ). a ⊗ getD (weightsOf m) (z - 1) 0) (List·getD-eq-default x 0 (omega arith)))
+      (getD-timesEach x (weightsOf m) (z - 1) ∙ ap (λ (a : ℕ). a ⊗ getD (weightsOf m) (z - 1) 0) (List·getD-eq-default x 0 (omega arith)))
       ∙ simp bytefield
 
   transform-here : (i : ℕ) → i < m → eval byteOps t (1 + i) ≡ eval byteOps (complementOf m) (1 + i) ⊗ getD x i 0
   transform-here i h =
       transform-value (timesEach x (weightsOf m)) t (1 + i) sums (omega arith) (omega arith)
       ∙ ap (λ (c : ℕ). c ⊗ inverse (1 + i))
-      (ap (λ (j : ℕ). getD (timesEach x (weightsOf m)) j 0) place ∙ timesEach-at x (weightsOf m) i ∙ ap (_⊗_ (getD x i 0)) (weight-at m i h))
+      (ap (λ (j : ℕ). getD (timesEach x (weightsOf m)) j 0) place ∙ getD-timesEach x (weightsOf m) i ∙ ap (_⊗_ (getD x i 0)) (weight-at m i h))
       ∙ weighed (getD x i 0) (1 + i) (eval byteOps (complementOf m) (1 + i)) (inverse (1 + i)) (⊗-inverse (1 + i) (omega arith) (omega arith))
     where
       place : 1 + i - 1 ≡ i
@@ -80,7 +73,7 @@ module _ (m : ℕ) (x t r s : List ℕ) (short : m < 256) (long : length x ≡ m
   remainder-zeros : Zeros (ops byteRing) (inField r)
   remainder-zeros =
       root-bound byteField (inField (missing m)) (inField r)
-      (omega (arith, length-map r byte, length-map (missing m) byte, length-missing m)) (missing-distinct m)
+      (omega (arith, length-map r byte, length-map (missing m) byte, length-missing m)) (ascending-distinct (1 + m) (255 - m) (omega arith))
       (each-to-map (λ f. eval (ops byteRing) (inField r) f ≡ byteRing .zero) byte (missing m)
       (each-from (λ f. eval (ops byteRing) (inField r) (byte f) ≡ byteRing .zero) 0 (missing m) root))
     where

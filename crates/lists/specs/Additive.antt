@@ -7,7 +7,7 @@
 -- biadditive-ext                         two functions, additive in each argument, that agree at the 64 pairs of bits agree on bytes
 use mathlib.Core.Path.{_≡_, sym, ap, ap₂, _∙_, subst}
 use Prim.Native.Nat.{ℕ, zero, suc, _+_, _*_, _/_, _%_, _^_, _<_}
-use native.Mathlib.Nat.{mod-lt, zero-lt-suc, zero-mul, one-mul}
+use native.Mathlib.Nat.{mod-lt, zero-mul, one-mul}
 use native.Mathlib.Omega.{arith}
 use lib.Pow.{pow-pos, split, shr-lt}
 use lib.Dec.{T, eqb, eqb→eq}
@@ -19,9 +19,6 @@ Additive f = (a b : ℕ) → f (a ⊕ b) ≡ f a ⊕ f b
 
 -- ---- a digit times a number
 
-two-pos : zero < 2
-two-pos = zero-lt-suc 1
-
 digit-mul : (p q b : ℕ) → p < 2 → q < 2 → (p ⊕ q) * b ≡ p * b ⊕ q * b
 unfolding _⊕_
 digit-mul p q b hp hq =
@@ -32,13 +29,13 @@ digit-mul p q b hp hq =
 
 pub digit-additive-l : (b : ℕ) → Additive (λ a. a % 2 * b)
 digit-additive-l b a a′ =
-    ap (λ (x : ℕ). x * b) (⊕-mod 1 a a′) ∙ digit-mul (a % 2) (a′ % 2) b (mod-lt a two-pos) (mod-lt a′ two-pos)
+    ap (λ (x : ℕ). x * b) (⊕-mod 1 a a′) ∙ digit-mul (a % 2) (a′ % 2) b (omega arith) (omega arith)
 
 pub digit-additive-r : (a : ℕ) → Additive (λ b. a % 2 * b)
 digit-additive-r a b b′ =
     digit (λ (p : ℕ). p * (b ⊕ b′) ≡ p * b ⊕ p * b′)
     (zero-mul (b ⊕ b′) ∙ sym (ap₂ _⊕_ (zero-mul b) (zero-mul b′) ∙ zero-⊕ 0))
-    (one-mul (b ⊕ b′) ∙ sym (ap₂ _⊕_ (one-mul b) (one-mul b′))) (a % 2) (mod-lt a two-pos)
+    (one-mul (b ⊕ b′) ∙ sym (ap₂ _⊕_ (one-mul b) (one-mul b′))) (a % 2) (omega arith)
 
 -- ---- agreement
 

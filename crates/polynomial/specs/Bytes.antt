@@ -12,7 +12,6 @@
 --   byte-eval            the value of a polynomial
 --   bytes-plus, -scale, -times, -expand, -divide, -product, -quotient, -slopes, -interpolate, -over
 --                        the operations of polynomials give bytes
---   xorList-plus         the sum of lists by xor is the sum of polynomials
 use mathlib.Core.Path.{_≡_, refl, sym, ap, ap₂, _∙_}
 use mathlib.Core.List.{List, [], _∷_, _++_, map, map-append}
 use Prim.Native.Nat.{ℕ, zero, suc, _+_, _<_}
@@ -26,7 +25,7 @@ use Rattle.algebra.specs.Ring.{ops}
 use Rattle.algebra.specs.Each.{Each, each-from}
 use Rattle.algebra.specs.Polynomial.{eval, plus, scale, times, behind, expand, divide, product, quotient, slopes, interpolate}
 use Rattle.bytefield.specs.Product.{_⊗_, byteOps}
-use Rattle.bytefield.specs.Product.Laws.{⊗-lt}
+use Rattle.bytefield.specs.Product.Laws.{⊗-lt, xorList-plus}
 use Rattle.bytefield.specs.Inverse.{inverse}
 use Rattle.bytefield.specs.Byte.{Byte, byte, byteRing, byte-one, byte-homomorphism, val-byte}
 use Rattle.polynomial.specs.Division.{degree, remainder, over}
@@ -60,12 +59,6 @@ bytes-equal (a ∷ p) (b ∷ q) h k e =
 
 pub bytes-from : (p : List ℕ) → ((i : ℕ) → getD p i 0 < 256) → Bytes p
 bytes-from p h = each-from (λ a. a < 256) 0 p (λ i l. h i)
-
-pub xorList-plus : (p q : List ℕ) → xorList p q ≡ plus byteOps p q
-unfolding xorList plus
-xorList-plus [] q = refl
-xorList-plus (a ∷ p) [] = refl
-xorList-plus (a ∷ p) (b ∷ q) = ap (_∷_ (a ⊕ b)) (xorList-plus p q)
 
 -- ---- closure
 

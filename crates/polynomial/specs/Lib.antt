@@ -2,5 +2,4 @@ pub mod Sums
 pub mod Division
 pub mod Bytes
 pub mod Interpolant
-pub mod Evaluation
 pub mod Loops

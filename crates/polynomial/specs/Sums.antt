@@ -1,6 +1,6 @@
 -- Sums of lists of coefficients, over any ring of characteristic 2.
 --
---   plus-nil, plus-comm, plus-move    a sum with nothing, and sums regrouped
+--   plus-comm, plus-move              sums regrouped
 --   getD-plus, take-plus              a coefficient of a sum, and its lowest ones
 --   scale-append                      a multiple of joined lists
 --   plus-twice                        what is added twice is gone
@@ -15,6 +15,7 @@ use lib.ListN.{length, take, getD, replicate}
 use Rattle.algebra.specs.Operations.{Operations}
 use Rattle.algebra.specs.Ring.{Ring2, ops, ring, zero-add}
 use Rattle.algebra.specs.Polynomial.{plus, scale}
+use Rattle.algebra.specs.Polynomial.Products.{plus-nil}
 
 module _ {K : Type 0} (R : Ring2 K) where
   infixl 60 _+_
@@ -24,14 +25,9 @@ module _ {K : Type 0} (R : Ring2 K) where
   abbrev O : Operations K
   O = ops R
 
-  pub plus-nil : (p : List K) → plus O p [] ≡ p
-  unfolding plus
-  plus-nil [] = refl
-  plus-nil (a ∷ p) = refl
-
   pub plus-comm : (p q : List K) → plus O p q ≡ plus O q p
   unfolding plus
-  plus-comm [] q = sym (plus-nil q)
+  plus-comm [] q = sym (plus-nil R q)
   plus-comm (a ∷ p) [] = refl
   plus-comm (a ∷ p) (b ∷ q) = ap₂ _∷_ (R .add-comm a b) (plus-comm p q)
 
@@ -66,7 +62,7 @@ module _ {K : Type 0} (R : Ring2 K) where
 
   pub plus-twice : (p q : List K) → length p ≤ length q → plus O (plus O p q) p ≡ q
   unfolding plus
-  plus-twice [] q h = plus-nil q
+  plus-twice [] q h = plus-nil R q
   plus-twice (a ∷ p) [] h = absurd (not-suc-le-zero h)
   plus-twice (a ∷ p) (b ∷ q) h = ap₂ _∷_ (twice a b) (plus-twice p q (le-of-suc-le-suc h))
     where
@@ -75,7 +71,7 @@ module _ {K : Type 0} (R : Ring2 K) where
 
   pub plus-none : (p q : List K) → length q ≤ length p → plus O p (scale O 𝟘 q) ≡ p
   unfolding plus scale
-  plus-none p [] h = plus-nil p
+  plus-none p [] h = plus-nil R p
   plus-none [] (a ∷ q) h = absurd (not-suc-le-zero h)
   plus-none (c ∷ p) (a ∷ q) h = ap₂ _∷_ (none c a) (plus-none p q (le-of-suc-le-suc h))
     where
@@ -84,7 +80,7 @@ module _ {K : Type 0} (R : Ring2 K) where
 
   pub plus-zeros : (p : List K) (k : ℕ) → k ≤ length p → plus O p (replicate k 𝟘) ≡ p
   unfolding plus
-  plus-zeros p zero h = plus-nil p
+  plus-zeros p zero h = plus-nil R p
   plus-zeros [] (suc k) h = absurd (not-suc-le-zero h)
   plus-zeros (a ∷ p) (suc k) h = ap₂ _∷_ (R .add-zero a) (plus-zeros p k (le-of-suc-le-suc h))
 

@@ -15,12 +15,12 @@ use Prim.Native.Nat.{ℕ, _+_, _-_, _≤_, _<_}
 use native.Mathlib.Decide.{decLt}
 use native.Mathlib.Numerals.{add-one}
 use native.Mathlib.Omega.{arith}
-use lib.ListN.{length, take, drop, getD, set, length-set, List·getD-append}
-use lib.Seq.{getD-set-other, getD-take, getD-drop, getD-append-add, length-take-le}
+use lib.ListN.{length, take, drop, getD, set, length-set}
+use lib.Seq.{getD-set-other}
 use Rattle.cube.specs.Sum.{sum}
 use Rattle.lists.specs.Xor.{_⊕_, ⊕-assoc, ⊕-zero, zero-⊕}
 use Rattle.lists.specs.Part.{part, putAt}
-use Rattle.lists.specs.Part.Laws.{length-part, getD-part, length-putAt, lent-back}
+use Rattle.lists.specs.Part.Laws.{length-part, getD-part, length-putAt, lent-back, part-putAt-same, part-putAt-before, part-putAt-behind}
 use Rattle.powersums.specs.Sums.{total}
 use Rattle.powersums.specs.Filled.{Filled, filled-more}
 
@@ -64,29 +64,19 @@ added-zeros {n} {g} z p k h = p .added k h ∙ ap (λ (x : ℕ). x ⊕ g k) (z k
 -- ---- a part that was lent
 
 module _ (d : List ℕ) (j : ℕ) (ys : List ℕ) (fits : j + length ys ≤ length d) where
-  front : length (take j d) ≡ j
-  front = length-take-le j d (omega arith)
+  same-at : (k : ℕ) → part (putAt d j ys) k 1 ≡ part d k 1 → getD (putAt d j ys) k 0 ≡ getD d k 0
+  same-at k e =
+      let z : k ≡ k + 0 = omega arith in
+      rw z (sym (getD-part (putAt d j ys) k 1 0 (omega arith)) ∙ ap (λ (l : List ℕ). getD l 0 0) e ∙ getD-part d k 1 0 (omega arith))
 
   put-before : (k : ℕ) → k < j → getD (putAt d j ys) k 0 ≡ getD d k 0
-  unfolding putAt
-  put-before k h = let f = front in List·getD-append (take j d) (ys ++ drop (j + length ys) d) 0 k (omega arith) ∙ getD-take j d k 0 h
-
-  from : (i : ℕ) → getD (putAt d j ys) (j + i) 0 ≡ getD (ys ++ drop (j + length ys) d) i 0
-  unfolding putAt
-  from i =
-      ap (λ (m : ℕ). getD (take j d ++ (ys ++ drop (j + length ys) d)) (m + i) 0) (sym front)
-      ∙ getD-append-add (take j d) (ys ++ drop (j + length ys) d) i 0
+  put-before k h = same-at k (part-putAt-before d j ys fits k 1 (omega arith))
 
   put-within : (i : ℕ) → i < length ys → getD (putAt d j ys) (j + i) 0 ≡ getD ys i 0
-  put-within i h = from i ∙ List·getD-append ys (drop (j + length ys) d) 0 i h
+  put-within i h = sym (getD-part (putAt d j ys) j (length ys) i h) ∙ ap (λ (l : List ℕ). getD l i 0) (part-putAt-same d j ys fits)
 
   put-behind : (k : ℕ) → j + length ys ≤ k → getD (putAt d j ys) k 0 ≡ getD d k 0
-  put-behind k h =
-      let i : ℕ = k - (j + length ys) in
-      let e : k ≡ j + (length ys + i) = omega arith in
-      let e′ : j + length ys + i ≡ k = omega arith in
-      ap (λ (m : ℕ). getD (putAt d j ys) m 0) e ∙ from (length ys + i) ∙ getD-append-add ys (drop (j + length ys) d) i 0
-      ∙ getD-drop (j + length ys) d i 0 ∙ ap (λ (m : ℕ). getD d m 0) e′
+  put-behind k h = same-at k (part-putAt-behind d j ys fits k 1 h)
 
 -- the last list is what the borrow checker has
 pub added-part : {j end : ℕ} {g h : ℕ → ℕ} {c d ys : List ℕ} → Added j g c d → j ≤ end → end ≤ length c

@@ -23,7 +23,6 @@ use Rattle.polynomial.specs.Interpolant.{interpolationPoints, interpolantOf, va
 pub mod Vector
 pub mod Positions
 pub mod Polynomials
-pub mod AtPoint
 
 -- ---- the vector
 

@@ -22,8 +22,7 @@ use Rattle.bytefield.specs.Product.Laws.{bytefield, ⊗-zero}
 use Rattle.relation.specs.Key.{dot, rows}
 use Rattle.packed.specs.Word.{scaled}
 use Rattle.packed.specs.Share.{share}
-use Rattle.packed.specs.Share.Laws.{length-share, getD-share, share-added}
-use Rattle.sidebyside.specs.Shares.Laws.{zeros-share}
+use Rattle.packed.specs.Share.Laws.{length-share, getD-share, zeros-share, share-added}
 
 unfoldable pub column : ℕ → ℕ → ℕ → List ℕ → List ℕ
 column zero k i h = []
@@ -112,7 +111,7 @@ turn s n i h x out hs hi e =
     let l = length-share s x in
     share-added s (getD x i 0) out (column n (length x) i h) hs
     ∙ ap₂ (plus byteOps) e
-    (ap₂ (scale byteOps) (sym (getD-share s x i hi)) (ap (λ (k : ℕ). column n k i h) (sym l)))
+    (ap₂ (scale byteOps) (sym (getD-share s x i)) (ap (λ (k : ℕ). column n k i h) (sym l)))
     ∙ sym (ap (λ (j : ℕ). rows n h (front j (share s x))) (add-one i) ∙ rows-more n i h (share s x) (omega arith))
 
 pub turn-all : (s n i : ℕ) (h x out : List ℕ) → i ≡ length x → share s out ≡ rows n h (front i (share s x)) → share s out ≡ rows n h (share s x)

@@ -1,7 +1,6 @@
 -- What the functions of this crate leave in the words.
 --
 --   Prepared k m g w                 m words: g, of which there are k, and zeros behind them
---   front-length                     the length of a front that is lent
 --   prepared-made, prepared-image    a front is lent and comes back as g, the rest as zeros; what `image` requires then holds
 --   vector-made                      x of share i: x_A in front, and behind it H'x_A, with y added where `first`
 use mathlib.Core.Path.{_≡_, refl, sym, ap, ap₂, _∙_}
@@ -11,7 +10,7 @@ use Prim.Native.Nat.{ℕ, _+_, _-_, _*_, _≤_, _<_}
 use native.Mathlib.Nat.{le-of-eq}
 use native.Mathlib.Omega.{arith}
 use lib.ListN.{length, getD, take, drop, replicate, length-append, length-drop, length-replicate}
-use lib.Seq.{take-at, drop-at, length-take-le}
+use lib.Seq.{take-at, drop-at}
 use Rattle.lists.specs.Part.Laws.{tail-part, tail-back}
 use Rattle.lists.specs.Sum.{xorList}
 use Rattle.parameters.specs.declared.Parameters.{Parameters}
@@ -21,9 +20,8 @@ use Rattle.exchange.specs.Reading.{bytesAt}
 use Rattle.exchange.specs.Reading.Laws.{bytesAt-all}
 use Rattle.exchange.specs.Values.{keyOf, xAOf, imageOf, xOf}
 use Rattle.packed.specs.Share.{share}
-use Rattle.packed.specs.Share.Laws.{share-sum}
+use Rattle.packed.specs.Share.Laws.{share-append, share-sum}
 use Rattle.sidebyside.specs.Spread.{spread, share-spread}
-use Rattle.sidebyside.specs.Shares.Laws.{share-append}
 
 -- ---- the words before the matrix is applied
 
@@ -31,9 +29,6 @@ pub record Prepared (k m : ℕ) (g w : List ℕ) : Type 0 where
   pub sized : length w ≡ m
   pub front : take k w ≡ g
   pub behind : drop k w ≡ replicate (m - k) 0
-
-pub front-length : (n : ℕ) (l : List ℕ) → n ≤ length l → n ≡ length (take n l)
-front-length n l h = sym (length-take-le n l h)
 
 module _ (k m : ℕ) (w g z : List ℕ) (h : k ≤ m) (lw : length w ≡ m) (lg : length g ≡ k) where
   pub prepared-made : z ≡ replicate (length (take (length (g ++ drop k w) - k) (drop k (g ++ drop k w)))) 0

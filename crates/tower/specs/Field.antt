@@ -6,12 +6,11 @@
 --   point a                      the point that a list of four bytes stands for
 --   bytesOf x                    the four bytes of a point
 --   point-sum, -times            sums and products go over, whatever the numbers
---   point-value, -power          so do values of polynomials and powers
 --   point-lone, loneField        a byte as a point, and that this is a homomorphism of fields
 --   bytesOf-point, point-bytesOf from four bytes to a point and back
 use mathlib.Core.Path.{_≡_, refl, sym, ap, _∙_, subst}
 use mathlib.Core.Bool.{Bool, not}
-use mathlib.Core.List.{List, [], _∷_, map}
+use mathlib.Core.List.{List, [], _∷_}
 use Prim.Native.Nat.{ℕ}
 use lib.Dec.{T, T-not, eqb}
 use Rattle.algebra.specs.Operations.{Homomorphism}
@@ -19,8 +18,6 @@ use Rattle.algebra.specs.Ring.{ops}
 use Rattle.algebra.specs.Field.{Field2}
 use Rattle.algebra.specs.Extension.{extMap, Irreducible}
 use Rattle.algebra.specs.Extension.Laws.{pair, extField, tower, embed, ext-homomorphism}
-use Rattle.algebra.specs.Polynomial.{eval, pow}
-use Rattle.algebra.specs.Polynomial.Maps.{map-eval, map-pow}
 use Rattle.lists.specs.Xor.{_⊕_}
 use Rattle.lists.specs.Computed.{all, below}
 use Rattle.bytefield.specs.Product.{reduction, xtime, timesBits, _⊗_, byteOps}
@@ -28,7 +25,6 @@ use Rattle.bytefield.specs.Byte.{Byte, byte, byteRing, byteField, byte-zero, by
 use Rattle.tower.specs.Point.{pairOps, pointOps, Quad, quad, four, lone, fourSum, fourTimes}
 use Rattle.tower.specs.Point.Laws.{Bytes}
 use Rattle.tower.specs.Point.Written.{four-path}
-use Rattle.tower.specs.Value.{coefficients, valueAt, powerAt}
 
 -- ---- u² + u is never 20
 differs-at : ℕ → Bool
@@ -83,21 +79,6 @@ point-sum a b = point-homomorphism .add (quad a) (quad b)
 pub point-times : (a b : List ℕ) → point (fourTimes a b) ≡ pointField .base .mul (point a) (point b)
 unfolding point fourTimes
 point-times a b = point-homomorphism .mul (quad a) (quad b)
-
-map-coefficients : (p : List ℕ) → map pointOf (coefficients p) ≡ map (λ b. point (lone b)) p
-unfolding point
-map-coefficients [] = refl
-map-coefficients (b ∷ p) = ap (_∷_ (pointOf (quad (lone b)))) (map-coefficients p)
-
-pub point-value : (p r : List ℕ) → point (valueAt p r) ≡ eval (ops (pointField .base)) (map (λ b. point (lone b)) p) (point r)
-unfolding valueAt point
-point-value p r =
-    map-eval pointOps (ops (pointField .base)) pointOf point-homomorphism (coefficients p) (quad r)
-    ∙ ap (λ (l : List Point). eval (ops (pointField .base)) l (pointOf (quad r))) (map-coefficients p)
-
-pub point-power : (r : List ℕ) (n : ℕ) → point (powerAt r n) ≡ pow (ops (pointField .base)) (point r) n
-unfolding powerAt point
-point-power r n = map-pow pointOps (ops (pointField .base)) pointOf point-homomorphism (quad r) n
 
 -- ---- and back
 pub point-bytesOf : (x : Point) → point (bytesOf x) ≡ x

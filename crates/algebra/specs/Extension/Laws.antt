@@ -5,7 +5,6 @@
 --   extField F c irr      the field of pairs
 --   tower                 the step can be made a second time: c·T is irreducible over the pairs where c is over the field
 --   embed                 u ↦ (u, 0) is a homomorphism
---   three-products        the product of pairs by three products (Karatsuba), over any operations with its law of cross terms
 --   ext-homomorphism      a homomorphism of the parts is one of the pairs
 use mathlib.Core.Path.{_≡_, refl, sym, ap, ap₂, _∙_}
 use Rattle.algebra.specs.Operations.{Operations, Homomorphism}
@@ -68,17 +67,6 @@ module _ {K : Type 0} (R : Ring2 K) (c : K) where
     add = λ u v. pair refl (sym (R .add-zero 𝟘));
     mul = embed-mul;
   }
-
--- ---- the product of pairs by three products, where the cross terms are one product and a product that is there already (Karatsuba).
--- The parameters are the intermediate values
-pub three-products : {K : Type 0} (O : Operations K) (c al ah bl bh h p q lo s t m hi : K)
-    → O .add (O .mul (O .add al ah) (O .add bl bh)) (O .mul al bl) ≡ O .add (O .add (O .mul al bh) (O .mul ah bl)) (O .mul ah bh)
-    → h ≡ O .mul ah bh → p ≡ O .mul al bl → q ≡ O .mul h c → lo ≡ O .add p q
-    → s ≡ O .add al ah → t ≡ O .add bl bh → m ≡ O .mul s t → hi ≡ O .add m p → (lo, hi) ≡ extOps O c .mul (al, ah) (bl, bh)
-three-products {K = K} O c al ah bl bh h p q lo s t m hi cross eh ep eq elo es et em ehi =
-    pair
-    (elo ∙ ap₂ (O .add) ep (eq ∙ ap (λ (z : K). O .mul z c) eh))
-    (ehi ∙ ap₂ (O .add) (em ∙ ap₂ (O .mul) es et) ep ∙ cross)
 
 -- ---- what carries the operations over does so for pairs
 pub ext-homomorphism : {K L : Type 0} (O : Operations K) (P : Operations L) (h : K → L) (c : K) → Homomorphism O P h

@@ -1,13 +1,12 @@
 -- A homomorphism carries over whatever is made of the operations: map h (eval O ..) is eval P of what h makes of the arguments.
 --
---   map-plus, -scale, -times, -eval, -pow              sums, multiples, products, values, powers
+--   map-plus, -scale, -times, -eval                    sums, multiples, products, values
 --   map-expand, -divide, -product, -quotient           the steps by X + f
 --   map-slopes, -interpolate                           interpolation, where h carries the inverse over too
 use mathlib.Core.Path.{_≡_, refl, ap, ap₂, _∙_}
 use mathlib.Core.List.{List, [], _∷_, map}
-use Prim.Native.Nat.{ℕ, zero, suc}
 use Rattle.algebra.specs.Operations.{Operations, Homomorphism}
-use Rattle.algebra.specs.Polynomial.{eval, plus, scale, times, pow, first, behind, expand, divide, product, quotient, slopes, interpolate}
+use Rattle.algebra.specs.Polynomial.{eval, plus, scale, times, first, behind, expand, divide, product, quotient, slopes, interpolate}
 
 module _ {K L : Type 0} (O : Operations K) (P : Operations L) (h : K → L) (k : Homomorphism O P h) where
   step : (a f c : K) → h (O .add a (O .mul f c)) ≡ P .add (h a) (P .mul (h f) (h c))
@@ -35,11 +34,6 @@ module _ {K L : Type 0} (O : Operations K) (P : Operations L) (h : K → L) (k :
   unfolding eval
   map-eval [] x = k .zero
   map-eval (a ∷ p) x = step a x (eval O p x) ∙ ap (λ (v : L). P .add (h a) (P .mul (h x) v)) (map-eval p x)
-
-  pub map-pow : (x : K) (n : ℕ) → h (pow O x n) ≡ pow P (h x) n
-  unfolding pow
-  map-pow x zero = k .one
-  map-pow x (suc n) = k .mul (pow O x n) x ∙ ap (λ (v : L). P .mul v (h x)) (map-pow x n)
 
   -- ---- by roots
   pub map-expand : (f : K) (l : List K) → map h (expand O f l) ≡ expand P (h f) (map h l)

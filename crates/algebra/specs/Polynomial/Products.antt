@@ -6,6 +6,7 @@
 --   expand-plus, -scale      multiplying by X + f is linear
 --   times-expand, -product   a product of polynomials with a factor X + f, and with several
 --   times-one, -vanishing    p times 1, and p times the product of X + f over fs
+--   plus-nil                 a sum with nothing
 --   product-roots            a product vanishes at its roots
 --   eval-product-step        the value of a product with one factor more
 --   leading-product          the highest coefficient of a product is that of the polynomial it started from: vanishing fs is monic
@@ -88,10 +89,10 @@ module _ {K : Type 0} (R : Ring2 K) where
   expand-plus-left : (a b f c : K) → a + b + f * c ≡ a + f * c + b
   expand-plus-left a b f c = simp (ring, R)
 
-  pad-nil : (l : List K) → plus O l [] ≡ l
+  pub plus-nil : (l : List K) → plus O l [] ≡ l
   unfolding plus
-  pad-nil [] = refl
-  pad-nil (x ∷ l) = refl
+  plus-nil [] = refl
+  plus-nil (x ∷ l) = refl
 
   pub expand-plus : (f : K) (l m : List K) → expand O f (plus O l m) ≡ plus O (expand O f l) (expand O f m)
   unfolding expand plus
@@ -100,7 +101,7 @@ module _ {K : Type 0} (R : Ring2 K) where
   expand-plus f (a ∷ []) (b ∷ []) = refl
   expand-plus f (a ∷ []) (b ∷ d ∷ m) = ap (λ (v : K). v ∷ expand O f (d ∷ m)) (add-right a b (f * d))
   expand-plus f (a ∷ c ∷ l) [] = refl
-  expand-plus f (a ∷ c ∷ l) (b ∷ []) = ap₂ _∷_ (expand-plus-left a b f c) (sym (pad-nil (expand O f (c ∷ l))))
+  expand-plus f (a ∷ c ∷ l) (b ∷ []) = ap₂ _∷_ (expand-plus-left a b f c) (sym (plus-nil (expand O f (c ∷ l))))
   expand-plus f (a ∷ c ∷ l) (b ∷ d ∷ m) = ap₂ _∷_ (expand-plus-step a b f c d) (expand-plus f (c ∷ l) (d ∷ m))
 
   scale-ring : (s a f c : K) → s * a + f * (s * c) ≡ s * (a + f * c)
@@ -134,7 +135,7 @@ module _ {K : Type 0} (R : Ring2 K) where
   top-scale a l m = ap (λ (v : K). v ∷ plus O (scale O a l) m) (top-zero a)
 
   nil : (a b : K) (q : List K) → plus O (scale O a (b ∷ q)) [] ≡ plus O (scale O a (b ∷ q)) (𝟘 ∷ [])
-  nil a b q = pad-nil (scale O a (b ∷ q)) ∙ sym (add-nothing (scale O a (b ∷ q)) 0 (omega (arith, length-scale O a (b ∷ q))))
+  nil a b q = plus-nil (scale O a (b ∷ q)) ∙ sym (add-nothing (scale O a (b ∷ q)) 0 (omega (arith, length-scale O a (b ∷ q))))
 
   -- p times (X + f) q, where neither is empty
   pub times-expand : (f a : K) (p : List K) (b : K) (q : List K)

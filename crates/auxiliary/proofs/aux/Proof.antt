@@ -10,53 +10,20 @@ use borrow.Author.Needs.{needs}
 use Rattle.auxiliary.proofs.aux.Statement.{statement}
 use Rattle.auxiliary.proofs.aux.Tie as tie
 
-mul-a : tie.Need-mul-a
-mul-a c = search needs
-
-array-borrow-prefix-work : tie.Need-array-borrow-prefix-work
-array-borrow-prefix-work c = search needs
-
-slice-aggregate-wanted : tie.Need-slice-aggregate-wanted
-slice-aggregate-wanted c = let s = c .before .before .before .before .before in front-length _ _ (omega (arith, s .pre .0 .within .m-most))
-
 wanted-requires : tie.Need-wanted-requires
 wanted-requires c κs =
-    let s = c .before .before .before .before .before .before in
+    let s : tie.Start = search in
     (s .pre .0, sym (front-length _ _ (omega (arith, s .pre .0 .within .m-most))), s .pre .1, s .pre .2)
-
-sub-xor-into : tie.Need-sub-xor-into
-sub-xor-into c = search needs
-
-part-xor-into-start : tie.Need-part-xor-into-start
-part-xor-into-start c = search needs
-
-part-xor-into-end : tie.Need-part-xor-into-end
-part-xor-into-end c = search needs
-
-xor-into-requires : tie.Need-xor-into-requires
-xor-into-requires c κs = search needs
-
-same-length : tie.Need-same-length
-same-length c = search needs
 
 returns : tie.Need-returns
 unfolding auxFor
 returns c =
-    let s = c .before .before .before .before .before .before .before .before .before .before .before .before .before .before .before in
+    let after-wanted : tie.After-wanted = search in
+    let s : tie.Start = search in
     c .before .before .xor-into .ensures
-    ∙ ap₂ xorList (c .before .before .before .before .before .before .before .before .wanted .ensures .0) (tail-part (s .args .drawn .now) (8 * s .args .p .t))
+    ∙ ap₂ xorList (after-wanted .wanted .ensures .0) (tail-part (s .args .drawn .now) (8 * s .args .p .t))
 
 pub aux-spec : {M : Type 1} → statement M
-aux-spec =
-    tie.close
-    (tie.spec
-    mul-a
-    array-borrow-prefix-work
-    slice-aggregate-wanted
-    wanted-requires
-    sub-xor-into
-    part-xor-into-start
-    part-xor-into-end
-    xor-into-requires
-    same-length
-    returns)
+aux-spec = tie.close (tie.spec (λ c. search needs) (λ c. search needs)
+    (λ c. let s : tie.Start = search in front-length _ _ (omega (arith, s .pre .0 .within .m-most))) wanted-requires
+    (λ c. search needs) (λ c. search needs) (λ c. search needs) (λ c κs. search needs) (λ c. search needs) returns)

@@ -14,86 +14,43 @@ use borrow.Author.Needs.{needs}
 use Rattle.auxiliary.proofs.wanted.Statement.{statement}
 use Rattle.auxiliary.proofs.wanted.Tie as tie
 
-add-a : tie.Need-add-a
-add-a c = search needs
-
-add-e : tie.Need-add-e
-add-e c = search needs
-
-add-b : tie.Need-add-b
-add-b c = search needs
-
 slice-aggregate-put-at : tie.Need-slice-aggregate-put-at
-slice-aggregate-put-at c = let s = c .before .before .before .before .before .before in let f = s .pre .0 in front-length _ _ (omega (arith, f .within .k-most, f .sized-x))
-
-put-at-requires : tie.Need-put-at-requires
-put-at-requires c κs = let s = c .before .before .before .before .before .before in let f = s .pre .0 in simp length-take (omega (arith, f .sized-out))
-
-sub-locator : tie.Need-sub-locator
-sub-locator c = search needs
-
-part-locator-start : tie.Need-part-locator-start
-part-locator-start c = search needs
-
-part-locator-end : tie.Need-part-locator-end
-part-locator-end c = search needs
-
-locator-requires : tie.Need-locator-requires
-locator-requires c κs = search needs
-
-sub-quotient : tie.Need-sub-quotient
-sub-quotient c = search needs
-
-part-quotient-start : tie.Need-part-quotient-start
-part-quotient-start c = search needs
-
-part-quotient-end : tie.Need-part-quotient-end
-part-quotient-end c = search needs
+slice-aggregate-put-at c =
+    let s : tie.Start = search in
+    let f = s .pre .0 in front-length _ _ (omega (arith, f .within .k-most, f .sized-x))
 
 quotient-requires : tie.Need-quotient-requires
 quotient-requires c κs =
-    let s = c .before .before .before .before .before .before .before .before .before .before .before .before .before .before .before in
+    let q : tie.After-locator = search in
+    let put : tie.After-put-at = search in
+    let s : tie.Start = search in
     let f = s .pre .0 in
-    let put = c .before .before .before .before .before .before .before .before .put-at in
-    let q = c .before .before .before .before .locator in
-    let n = put .kept .0 ∙ f .sized-out in
-    let lo = left-q (s .args .p .k) (s .args .p .w) (s .args .p .t) (put .last .0) (q .last .1 .1 .0) [] n (f .within .w-least) (q .kept .1 .1 .0) in
+    let n = put .put-at .kept .0 ∙ f .sized-out in
+    let lo = left-q (s .args .p .k) (s .args .p .w) (s .args .p .t) (put .put-at .last .0) (q .locator .last .1 .1 .0) [] n (f .within .w-least) (q .locator .kept .1 .1 .0) in
     (f .light, f .within .w-least, s .pre .1 ∙ sym (f .sized-x), simp (length-take, length-drop) (omega (arith, lo, n)), s .pre .2, s .pre .3)
-
-sub-products : tie.Need-sub-products
-sub-products c = search needs
-
-part-products-start : tie.Need-part-products-start
-part-products-start c = search needs
-
-part-products-end : tie.Need-part-products-end
-part-products-end c = search needs
 
 products-requires : tie.Need-products-requires
 products-requires c κs =
-    let s = c .before .before .before .before .before .before .before .before .before .before .before .before .before .before .before .before .before .before .before .before .before in
+    let u : tie.After-quotient = search in
+    let q : tie.After-locator = search in
+    let put : tie.After-put-at = search in
+    let s : tie.Start = search in
     let f = s .pre .0 in
-    let put = c .before .before .before .before .before .before .before .before .before .before .before .before .before .before .put-at in
-    let q = c .before .before .before .before .before .before .before .before .before .before .locator in
-    let u = c .before .before .before .before .before .quotient in
-    let n = put .kept .0 ∙ f .sized-out in
-    let lo = left-u (s .args .p .k) (s .args .p .w) (s .args .p .t) (put .last .0) (q .last .1 .1 .0) (u .last .1 .1 .1 .0) n (f .within .w-least) (q .kept .1 .1 .0) (u .kept .1 .1 .1 .0) in
+    let n = put .put-at .kept .0 ∙ f .sized-out in
+    let lo = left-u (s .args .p .k) (s .args .p .w) (s .args .p .t) (put .put-at .last .0) (q .locator .last .1 .1 .0) (u .quotient .last .1 .1 .1 .0) n (f .within .w-least) (q .locator .kept .1 .1 .0) (u .quotient .kept .1 .1 .1 .0) in
     (record { within = f .within; sized-drawn = f .sized-drawn; sized-out = simp (length-take, length-drop) (omega (arith, lo, n)) }, s .pre .2, s .pre .3)
-
-same-length : tie.Need-same-length
-same-length c = search needs
-
-same-length-2 : tie.Need-same-length-2
-same-length-2 c = search needs
 
 returns : tie.Need-returns
 unfolding wantedFor
 returns c =
-    let s = c .before .before .before .before .before .before .before .before .before .before .before .before .before .before .before .before .before .before .before .before .before .before .before .before in
+    let after-quotient : tie.After-quotient = search in
+    let after-locator : tie.After-locator = search in
+    let after-put-at : tie.After-put-at = search in
+    let s : tie.Start = search in
     let f = s .pre .0 in
-    let put = c .before .before .before .before .before .before .before .before .before .before .before .before .before .before .before .before .before .put-at in
-    let q = c .before .before .before .before .before .before .before .before .before .before .before .before .before .locator in
-    let u = c .before .before .before .before .before .before .before .before .quotient in
+    let put = after-put-at .put-at in
+    let q = after-locator .locator in
+    let u = after-quotient .quotient in
     let v = c .before .before .products in
     let k : ℕ = s .args .p .k in
     let w : ℕ = s .args .p .w in
@@ -109,26 +66,8 @@ returns c =
     )
 
 pub wanted-spec : {M : Type 1} → statement M
-wanted-spec =
-    tie.close
-    (tie.spec
-    add-a
-    add-e
-    add-b
-    slice-aggregate-put-at
-    put-at-requires
-    sub-locator
-    part-locator-start
-    part-locator-end
-    locator-requires
-    sub-quotient
-    part-quotient-start
-    part-quotient-end
-    quotient-requires
-    sub-products
-    part-products-start
-    part-products-end
-    products-requires
-    same-length
-    same-length-2
-    returns)
+wanted-spec = tie.close (tie.spec (λ c. search needs) (λ c. search needs) (λ c. search needs) slice-aggregate-put-at
+    (λ c κs. let s : tie.Start = search in let f = s .pre .0 in simp length-take (omega (arith, f .sized-out)))
+    (λ c. search needs) (λ c. search needs) (λ c. search needs) (λ c κs. search needs) (λ c. search needs)
+    (λ c. search needs) (λ c. search needs) quotient-requires (λ c. search needs) (λ c. search needs)
+    (λ c. search needs) products-requires (λ c. search needs) (λ c. search needs) returns)

@@ -9,18 +9,8 @@ use Rattle.bytefield.proofs.inverse.Tie as tie
 returns : tie.Need-returns
 returns c = let e : c .before .args .a ≡ 0 = omega arith in rw e (sym inverse-zero)
 
-log-of-requires : tie.Need-log-of-requires
-log-of-requires c κs = search needs
-
-sub-power-of : tie.Need-sub-power-of
-sub-power-of c = search needs
-
-power-of-requires : tie.Need-power-of-requires
-power-of-requires c κs = search needs
-
 returns-2 : tie.Need-returns-2
 returns-2 c = log-inverse _ _ _ (omega arith) (search needs) (omega arith) (c .before .log-of .ensures .1) (c .power-of .ensures)
 
 pub inverse-spec : {M : Type 1} → statement M
-inverse-spec =
-    tie.close (tie.spec returns log-of-requires sub-power-of power-of-requires returns-2)
+inverse-spec = tie.close (tie.spec returns (λ c κs. search needs) (λ c. search needs) (λ c κs. search needs) returns-2)

@@ -10,9 +10,6 @@ use Rattle.bytefield.specs.Powers.{power, logs-at, logs-small}
 use Rattle.bytefield.proofs.log_of.Statement.{statement}
 use Rattle.bytefield.proofs.log_of.Tie as tie
 
-element-copy-out-result : tie.Need-element-copy-out-result
-element-copy-out-result c = search needs
-
 cast-result : tie.Need-cast-result
 cast-result c =
     let a = c .before .args in
@@ -26,4 +23,4 @@ returns c =
     (omega (arith, e, logs-small (a .a) (c .before .pre .1) (search needs)), ap power e ∙ logs-at (a .a) (c .before .pre .1) (search needs))
 
 pub log-of-spec : {M : Type 1} → statement M
-log-of-spec = tie.close (tie.spec element-copy-out-result cast-result returns)
+log-of-spec = tie.close (tie.spec (λ c. search needs) cast-result returns)

@@ -8,11 +8,8 @@ use Rattle.bytefield.specs.Powers.{powers-at}
 use Rattle.bytefield.proofs.power_of.Statement.{statement}
 use Rattle.bytefield.proofs.power_of.Tie as tie
 
-element-copy-out-result : tie.Need-element-copy-out-result
-element-copy-out-result c = search needs
-
 returns : tie.Need-returns
 returns c = ap (λ (l : List ℕ). getD l (c .before .args .i) 0) (c .before .pre .0) ∙ powers-at (c .before .args .i) (c .before .pre .1)
 
 pub power-of-spec : {M : Type 1} → statement M
-power-of-spec = tie.close (tie.spec element-copy-out-result returns)
+power-of-spec = tie.close (tie.spec (λ c. search needs) returns)

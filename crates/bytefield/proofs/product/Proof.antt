@@ -14,35 +14,11 @@ returns c = sym (ap (λ (x : ℕ). x ⊗ c .before .args .b) (c .if1 .taken) ∙
 returns-2 : tie.Need-returns-2
 returns-2 c = sym (ap (λ (x : ℕ). c .before .before .args .a ⊗ x) (c .if2 .taken) ∙ ⊗-zero (c .before .before .args .a))
 
-log-of-requires : tie.Need-log-of-requires
-log-of-requires c κs = search needs
-
-log-of-requires-2 : tie.Need-log-of-requires-2
-log-of-requires-2 c κs = search needs
-
-add-wrapped : tie.Need-add-wrapped
-add-wrapped c = search needs
-
-wrapped-requires : tie.Need-wrapped-requires
-wrapped-requires c κs = search needs
-
-power-of-requires : tie.Need-power-of-requires
-power-of-requires c κs = search needs
-
 returns-3 : tie.Need-returns-3
 returns-3 c =
     c .power-of .ensures ∙ c .before .wrapped .ensures .1
     ∙ log-sum _ _ _ _ (c .before .before .before .log-of .ensures .1) (c .before .before .log-of2 .ensures .1)
 
 pub product-spec : {M : Type 1} → statement M
-product-spec =
-    tie.close
-    (tie.spec
-    returns
-    returns-2
-    log-of-requires
-    log-of-requires-2
-    add-wrapped
-    wrapped-requires
-    power-of-requires
-    returns-3)
+product-spec = tie.close (tie.spec returns returns-2 (λ c κs. search needs) (λ c κs. search needs) (λ c. search needs)
+    (λ c κs. search needs) (λ c κs. search needs) returns-3)

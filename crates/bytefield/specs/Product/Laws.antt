@@ -6,14 +6,18 @@
 --   ⊗-low                          only the low bytes count
 --   one-⊗, ⊗-one                   1 times a byte, and the low byte of a number
 --   bytefield                      the rule set for `simp bytefield`
+--   xorList-plus                   the sum of lists by xor is the sum of polynomials
 --   byte-linear                    evaluation and interpolation over numbers are linear
 use mathlib.Core.Path.{_≡_, refl, sym, ap, ap₂, _∙_}
 use mathlib.Core.Bool.{Bool}
+use mathlib.Core.List.{List, [], _∷_}
 use Prim.Native.Nat.{ℕ, zero, suc, _*_, _/_, _%_, _^_, _<_}
 use native.Mathlib.Omega.{arith}
 use lib.Dec.{T, eqb, eqb→eq}
+use Rattle.algebra.specs.Polynomial.{plus}
 use Rattle.algebra.specs.Polynomial.Linear.{Linear}
-use Rattle.lists.specs.Xor.{_⊕_, xors, zero-⊕, ⊕-div, ⊕-mod, ⊕-double}
+use Rattle.lists.specs.Xor.{_⊕_, xors, zero-⊕, ⊕-div, ⊕-mod, ⊕-shl}
+use Rattle.lists.specs.Sum.{xorList}
 use Rattle.lists.specs.Computed.{all, below}
 use Rattle.lists.specs.Additive.{Additive, digit-additive-l, digit-additive-r, additive-zero, additive-ext, biadditive-ext}
 use Rattle.bytefield.specs.Product.{reduction, xtime, timesBits, _⊗_, byteOps}
@@ -21,7 +25,7 @@ use Rattle.bytefield.specs.Product.{reduction, xtime, timesBits, _⊗_, 
 xtime-additive : Additive xtime
 unfolding xtime
 xtime-additive a b =
-    ap₂ _⊕_ (ap (λ (x : ℕ). x % 256) (⊕-double a b) ∙ ⊕-mod 8 (a * 2) (b * 2))
+    ap₂ _⊕_ (ap (λ (x : ℕ). x % 256) (⊕-shl 1 a b) ∙ ⊕-mod 8 (a * 2) (b * 2))
     (ap (λ (x : ℕ). x % 2 * reduction) (⊕-div 7 a b) ∙ digit-additive-l reduction (a / 128) (b / 128))
     ∙ simp xors
 
@@ -146,6 +150,13 @@ pub zero-⊗ : (b : ℕ) → 0 ⊗ b ≡ 0
 zero-⊗ b = additive-zero (λ a. a ⊗ b) (⊗-additive-l b)
 
 pub ruleset bytefield = (xors, ⊗-comm, ⊗-assoc, ⊗-left-comm, ⊗-add, add-⊗, ⊗-zero, zero-⊗)
+
+-- ---- polynomials
+pub xorList-plus : (p q : List ℕ) → xorList p q ≡ plus byteOps p q
+unfolding xorList plus
+xorList-plus [] q = refl
+xorList-plus (a ∷ p) [] = refl
+xorList-plus (a ∷ p) (b ∷ q) = ap (_∷_ (a ⊕ b)) (xorList-plus p q)
 
 linear-step : (a b f c d : ℕ) → a ⊕ b ⊕ f ⊗ (c ⊕ d) ≡ a ⊕ f ⊗ c ⊕ (b ⊕ f ⊗ d)
 linear-step a b f c d = simp bytefield

@@ -75,8 +75,7 @@ returns c =
     (drop (a .p .m) (a .a .now)) (d .interpolate .last .0) _ (s .pre .1) (made v) (v .vectors .ensures) (d .interpolate .ensures) (u .unpack .ensures)
 
 pub interpolate-group-spec : {M : Type 1} → statement M
-interpolate-group-spec =
-    tie.close
-    (tie.spec (λ c. search needs) (λ c. let s : tie.Start = search in front s) vectors-requires interpolate-requires (λ c. search needs)
-    (λ c. search needs) (λ c. search needs) (λ c. search needs) (λ c. search needs) unpack-requires (λ c. search needs) (λ c. search needs)
+interpolate-group-spec = tie.close (tie.spec (λ c. search needs) (λ c. let s : tie.Start = search in front s)
+    vectors-requires interpolate-requires (λ c. search needs) (λ c. search needs) (λ c. search needs)
+    (λ c. search needs) (λ c. search needs) unpack-requires (λ c. search needs) (λ c. search needs)
     (λ c. search needs) returns)

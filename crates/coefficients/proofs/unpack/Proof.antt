@@ -28,13 +28,6 @@ inside q =
 loop-holds : tie.Need-loop-holds Inv-loop μ-loop
 loop-holds c = let e = zero-mul (length (c .before .before .args .words .now)) in (omega arith, omega arith, blocks-none _ _ _, refl)
 
-share-requires : tie.Need-share-requires Inv-loop μ-loop
-share-requires c κs =
-    let q : tie.In-loop Inv-loop μ-loop = search in
-    let s : tie.Start Inv-loop μ-loop = search in
-    let e = length-block (q .before .loop .at) (length (s .args .words .now)) (q .before .loop .rows) (inside q) in
-    (omega arith, omega arith)
-
 loop-again : tie.Need-loop-again Inv-loop μ-loop
 loop-again c =
     let d : tie.After-share Inv-loop μ-loop = search in
@@ -60,7 +53,6 @@ returns c =
     blocks-end (λ j. share j w) (length w) (s .args .n) (s .args .rows .now) (s .pre .1) (p .loop .rows) (p .loop .i) (omega arith) (p .loop .inv .2)
 
 pub unpack-spec : {M : Type 1} → statement M
-unpack-spec =
-    tie.close
-    (tie.spec Inv-loop μ-loop loop-holds (λ c. omega (arith, inside c)) (λ c. search needs) (λ c. search needs) (λ c. omega (arith, inside c)) share-requires
-    (λ c. search needs) (λ c. search needs) loop-again (λ c. search needs) returns)
+unpack-spec = tie.close (tie.spec Inv-loop μ-loop loop-holds (λ c. omega (arith, inside c)) (λ c. search needs)
+    (λ c. search needs) (λ c. omega (arith, inside c)) (λ c κs. search needs) (λ c. search needs) (λ c. search needs)
+    loop-again (λ c. search needs) returns)

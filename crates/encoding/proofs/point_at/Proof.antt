@@ -5,40 +5,11 @@ use Rattle.encoding.specs.Written.{bytes-read}
 use Rattle.encoding.proofs.point_at.Statement.{statement}
 use Rattle.encoding.proofs.point_at.Tie as tie
 
-shared-slice-read-t4 : tie.Need-shared-slice-read-t4
-shared-slice-read-t4 c = search needs
-
-add-t5 : tie.Need-add-t5
-add-t5 c = search needs
-
-shared-slice-read-t7 : tie.Need-shared-slice-read-t7
-shared-slice-read-t7 c = search needs
-
-add-t8 : tie.Need-add-t8
-add-t8 c = search needs
-
-shared-slice-read-t10 : tie.Need-shared-slice-read-t10
-shared-slice-read-t10 c = search needs
-
-add-t11 : tie.Need-add-t11
-add-t11 c = search needs
-
-shared-slice-read-t13 : tie.Need-shared-slice-read-t13
-shared-slice-read-t13 c = search needs
-
 returns : tie.Need-returns
 returns c =
-    let s = c .before .before .before .before .args in bytes-read (s .s .now) (s .at) (λ j. omega (arith, c .shared-slice-known4 .given j))
+    let start : tie.Start = search in
+    let s = start .args in bytes-read (s .s .now) (s .at) (λ j. omega (arith, c .shared-slice-known4 .given j))
 
 pub point-at-spec : {M : Type 1} → statement M
-point-at-spec =
-    tie.close
-    (tie.spec
-    shared-slice-read-t4
-    add-t5
-    shared-slice-read-t7
-    add-t8
-    shared-slice-read-t10
-    add-t11
-    shared-slice-read-t13
-    returns)
+point-at-spec = tie.close (tie.spec (λ c. search needs) (λ c. search needs) (λ c. search needs) (λ c. search needs)
+    (λ c. search needs) (λ c. search needs) (λ c. search needs) returns)

@@ -6,59 +6,10 @@ use Rattle.encoding.specs.Written.{bytes-put}
 use Rattle.encoding.proofs.put_point.Statement.{statement}
 use Rattle.encoding.proofs.put_point.Tie as tie
 
-array-read-out : tie.Need-array-read-out
-array-read-out c = search needs
-
-slice-write-out : tie.Need-slice-write-out
-slice-write-out c = search needs
-
-array-read-out-2 : tie.Need-array-read-out-2
-array-read-out-2 c = search needs
-
-add-out : tie.Need-add-out
-add-out c = search needs
-
-slice-write-out-2 : tie.Need-slice-write-out-2
-slice-write-out-2 c = simp length-set (omega arith)
-
-array-read-out-3 : tie.Need-array-read-out-3
-array-read-out-3 c = search needs
-
-add-out-2 : tie.Need-add-out-2
-add-out-2 c = search needs
-
-slice-write-out-3 : tie.Need-slice-write-out-3
-slice-write-out-3 c = simp length-set (omega arith)
-
-array-read-out-4 : tie.Need-array-read-out-4
-array-read-out-4 c = search needs
-
-add-out-3 : tie.Need-add-out-3
-add-out-3 c = search needs
-
-slice-write-out-4 : tie.Need-slice-write-out-4
-slice-write-out-4 c = simp length-set (omega arith)
-
-same-length : tie.Need-same-length
-same-length c = search needs
-
 returns : tie.Need-returns
 returns c = bytes-put _ _ _ (c .good .1 .1 .0 .1 .0 .1) (c .pre)
 
 pub put-point-spec : {M : Type 1} → statement M
-put-point-spec =
-    tie.close
-    (tie.spec
-    array-read-out
-    slice-write-out
-    array-read-out-2
-    add-out
-    slice-write-out-2
-    array-read-out-3
-    add-out-2
-    slice-write-out-3
-    array-read-out-4
-    add-out-3
-    slice-write-out-4
-    same-length
-    returns)
+put-point-spec = tie.close (tie.spec (λ c. search needs) (λ c. search needs) (λ c. search needs) (λ c. search needs)
+    (λ c. simp length-set (omega arith)) (λ c. search needs) (λ c. search needs) (λ c. simp length-set (omega arith))
+    (λ c. search needs) (λ c. search needs) (λ c. simp length-set (omega arith)) (λ c. search needs) returns)

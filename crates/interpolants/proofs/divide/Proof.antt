@@ -40,9 +40,7 @@ returns c =
     divided-end (s .args .g .now) (l .loop .t) (s .args .t .now) (l .loop .i) (omega arith) (l .loop .inv .2)
 
 pub divide-spec : {M : Type 1} → statement M
-divide-spec =
-    tie.close
-    (tie.spec Inv-loop μ-loop loop-holds
-    (λ c. search needs) (λ c. search needs) (λ c. search needs) (λ c. search needs) (λ c κs. search needs)
-    (λ c. search needs) (λ c. search needs) (λ c. search needs) (λ c. search needs) (λ c κs. search needs)
-    (λ c. search needs) loop-again (λ c. search needs) returns)
+divide-spec = tie.close (tie.spec Inv-loop μ-loop loop-holds (λ c. search needs) (λ c. search needs)
+    (λ c. search needs) (λ c. search needs) (λ c κs. search needs) (λ c. search needs) (λ c. search needs)
+    (λ c. search needs) (λ c. search needs) (λ c κs. search needs) (λ c. search needs) loop-again (λ c. search needs)
+    returns)

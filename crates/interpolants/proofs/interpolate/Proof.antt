@@ -28,9 +28,6 @@ power-sums-requires c κs =
       lb,
     )
 
-slice-aggregate-divide : tie.Need-slice-aggregate-divide
-slice-aggregate-divide c = let s : tie.Start = search in sym (low s)
-
 divide-requires : tie.Need-divide-requires
 divide-requires c κs =
     let p : tie.After-power-sums = search in
@@ -47,6 +44,5 @@ returns c =
     (omega (arith, d .divide, p .power-sums)) ew eg (p .power-sums .ensures i h) (d .divide .ensures)
 
 pub interpolate-spec : {M : Type 1} → statement M
-interpolate-spec =
-    tie.close
-    (tie.spec power-sums-requires (λ c. search needs) slice-aggregate-divide divide-requires (λ c. search needs) (λ c. search needs) returns)
+interpolate-spec = tie.close (tie.spec power-sums-requires (λ c. search needs)
+    (λ c. let s : tie.Start = search in sym (low s)) divide-requires (λ c. search needs) (λ c. search needs) returns)

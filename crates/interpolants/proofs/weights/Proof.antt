@@ -39,8 +39,6 @@ returns c =
     weights-end (s .args .g .now) _ (l .loop .i) (l .loop .f) (l .loop .out) (omega arith) (omega arith) (s .pre .1) (l .loop .inv .2)
 
 pub weights-spec : {M : Type 1} → statement M
-weights-spec =
-    tie.close
-    (tie.spec Inv-loop μ-loop loop-holds
-    (λ c. search needs) (λ c κs. search needs) (λ c κs. search needs) (λ c. search needs) (λ c. search needs) (λ c. search needs)
-    loop-again (λ c. search needs) returns)
+weights-spec = tie.close (tie.spec Inv-loop μ-loop loop-holds (λ c. search needs) (λ c κs. search needs)
+    (λ c κs. search needs) (λ c. search needs) (λ c. search needs) (λ c. search needs) loop-again (λ c. search needs)
+    returns)

@@ -1,8 +1,7 @@
 -- The laws of the complement G and of the weights.
 --
 --   missing m             the bytes above m, the roots of G
---   missing-at, length-missing, missing-distinct
---                         where they stand, how many there are, and that no two are equal in the field
+--   missing-at, length-missing     where they stand, and how many there are
 --   length-complement     G has 256 − m coefficients
 --   bytes-complement      they are bytes
 --   complement-monic      the highest is 1
@@ -12,28 +11,27 @@
 --   length-weights        there are m weights
 --   weight-at             the weight of the byte f is f times G(f)
 --   weight-some           it is not zero
---   weight-lt             it is a byte
 use mathlib.Core.Path.{_≡_, refl, sym, ap, _∙_}
 use mathlib.Core.List.{List, [], _∷_, _++_}
 use Prim.Native.Nat.{ℕ, zero, suc, _+_, _-_, _≤_, _<_}
 use native.Mathlib.Nat.{not-suc-le-zero, le-of-suc-le-suc}
 use native.Mathlib.Omega.{arith}
 use lib.Dec.{lit<}
-use lib.ListN.{length, take, getD, length-map, List·getD-map}
+use lib.ListN.{length, take, getD}
+use Rattle.lists.specs.Xor.{positive}
 use Rattle.algebra.specs.Ring.{ops}
-use Rattle.algebra.specs.Each.{Distinct, each-from, each-at, each-of-map, each-to-map, distinct-from}
+use Rattle.algebra.specs.Each.{each-from, each-at, each-of-map, each-to-map}
 use Rattle.algebra.specs.Polynomial.{eval, product, vanishing}
 use Rattle.algebra.specs.Polynomial.Lengths.{length-product}
 use Rattle.algebra.specs.Polynomial.Products.{product-roots, leading-product}
 use Rattle.algebra.specs.Polynomial.Quotients.{vanishing-elsewhere}
 use Rattle.algebra.specs.Polynomial.Maps.{map-eval, map-product}
 use Rattle.bytefield.specs.Product.{_⊗_, byteOps}
-use Rattle.bytefield.specs.Product.Laws.{⊗-lt}
 use Rattle.bytefield.specs.Byte.{Byte, byte, byteRing, byteField, byte-zero, byte-one, byte-homomorphism}
 use Rattle.polynomial.specs.Bytes.{Bytes, inField, byte-equal, byte-eval, bytes-monic, bytes-product}
 use Rattle.polynomial.specs.Interpolant.{ascending}
 use Rattle.polynomial.specs.Interpolant.Laws.{length-ascending, ascending-at}
-use Rattle.interpolants.specs.Cancel.{positive, ⊗-some}
+use Rattle.interpolants.specs.Cancel.{⊗-some}
 use Rattle.interpolants.specs.Complement.{complementOf, weightsFrom, weightsOf}
 
 abbrev pub missing : ℕ → List ℕ
@@ -44,20 +42,6 @@ missing-at m i h = ascending-at (1 + m) (255 - m) i h
 
 pub length-missing : (m : ℕ) → length (missing m) ≡ 255 - m
 length-missing m = length-ascending (1 + m) (255 - m)
-
-pub missing-distinct : (m : ℕ) → Distinct (inField (missing m))
-missing-distinct m = distinct-from (byte 0) (inField (missing m)) apart
-  where
-    apart : (i j : ℕ) → i < j → j < length (inField (missing m)) → getD (inField (missing m)) j (byte 0) ≡ getD (inField (missing m)) i (byte 0) → ⊥
-    apart i j h k e =
-        let l = length-map (missing m) byte in
-        let n = length-missing m in
-        let a = missing-at m i (omega arith) in
-        let b = missing-at m j (omega arith) in
-        let c : getD (missing m) j 0 ≡ getD (missing m) i 0 =
-        byte-equal (getD (missing m) j 0) (getD (missing m) i 0) (omega arith) (omega arith)
-        (sym (List·getD-map byte (missing m) j 0) ∙ e ∙ List·getD-map byte (missing m) i 0) in
-        omega arith
 
 -- ---- the complement
 
@@ -132,12 +116,6 @@ from-at g a zero i h = absurd (not-suc-le-zero h)
 from-at g a (suc n) zero h = ap (λ (f : ℕ). f ⊗ eval byteOps g f) (omega arith)
 from-at g a (suc n) (suc i) h = from-at g (suc a) n i (le-of-suc-le-suc h) ∙ ap (λ (f : ℕ). f ⊗ eval byteOps g f) (omega arith)
 
-from-lt : (g : List ℕ) (a n i : ℕ) → getD (weightsFrom g a n) i 0 < 256
-unfolding weightsFrom
-from-lt g a zero i = lit< tt
-from-lt g a (suc n) zero = ⊗-lt a (eval byteOps g a)
-from-lt g a (suc n) (suc i) = from-lt g (suc a) n i
-
 pub length-weights : (m : ℕ) → length (weightsOf m) ≡ m
 unfolding weightsOf
 length-weights m = length-from (complementOf m) 1 m
@@ -145,10 +123,6 @@ length-weights m = length-from (complementOf m) 1 m
 pub weight-at : (m i : ℕ) → i < m → getD (weightsOf m) i 0 ≡ (1 + i) ⊗ eval byteOps (complementOf m) (1 + i)
 unfolding weightsOf
 weight-at m i h = from-at (complementOf m) 1 m i h
-
-pub weight-lt : (m i : ℕ) → getD (weightsOf m) i 0 < 256
-unfolding weightsOf
-weight-lt m i = from-lt (complementOf m) 1 m i
 
 pub weight-some : (m i : ℕ) → i < m → m < 256 → 0 < getD (weightsOf m) i 0
 weight-some m i h k =

@@ -1,17 +1,15 @@
 -- Division of shares, place by place.
 --
 --   eval-append, eval-scale     the value of joined lists, and of a multiple
---   share-append, bytes-share   the shares of joined lists; a share is bytes
+--   bytes-share                 a share is bytes
 --   value-turn, share-turn      one place a of the quotient: a·X^d = a·(X^d + g) + a·g; over bytes, and in each share
 --   divided-start               nothing is divided yet
 --   divided-turn                one place: the multiple of g by the word at place k − 1 is added to the d places before it
 --   divided-end                 all places from d on are the quotient
 use mathlib.Core.Path.{_≡_, sym, ap, ap₂, _∙_}
-use mathlib.Core.List.{List, [], _∷_, _++_, map, map-append, append-assoc}
-use Prim.Native.Nat.{ℕ, suc, _+_, _-_, _*_, _/_, _^_, _≤_, _<_}
-use native.Mathlib.Nat.{mod-lt}
+use mathlib.Core.List.{List, [], _∷_, _++_, map, append-assoc}
+use Prim.Native.Nat.{ℕ, suc, _+_, _-_, _^_, _≤_, _<_}
 use native.Mathlib.Omega.{arith}
-use lib.Dec.{lit<}
 use lib.ListN.{length, take, drop, getD, length-append, length-take, length-drop, length-map, take-append-drop, drop-of-length-le}
 use lib.Seq.{take-all, take-at, drop-at, drop-cons, drop-drop, length-take-le}
 use Rattle.lists.specs.Xor.{_⊕_, zero-⊕}
@@ -25,7 +23,7 @@ use Rattle.bytefield.specs.Product.Laws.{bytefield, byte-linear, one-⊗, ⊗-l
 use Rattle.polynomial.specs.Bytes.{Bytes, bytes-from, bytes-plus, bytes-scale, bytes-append, byte-eval}
 use Rattle.packed.specs.Word.{scaled}
 use Rattle.packed.specs.Share.{byteAt, share}
-use Rattle.packed.specs.Share.Laws.{length-share, share-byte, share-added}
+use Rattle.packed.specs.Share.Laws.{byteAt-lt, length-share, share-byte, share-append, share-added}
 use Rattle.interpolants.specs.Division.{monicAt, withQuotient, Reduced, Divided}
 
 -- ---- values
@@ -71,16 +69,8 @@ module _ (g p q r : List ℕ) (a z : ℕ) (sized : length q ≡ length g) (bytes
 
 -- ---- shares
 
-pub share-append : (i : ℕ) (s t : List ℕ) → share i (s ++ t) ≡ share i s ++ share i t
-unfolding share
-share-append i s t = map-append (byteAt i) s t
-
 pub bytes-share : (i : ℕ) (t : List ℕ) → Bytes (share i t)
 bytes-share i t = bytes-from (share i t) (share-byte i t)
-
-byte-of-word : (i v : ℕ) → byteAt i v < 256
-unfolding byteAt
-byte-of-word i v = mod-lt (v / 2 ^ (8 * i)) (lit< tt)
 
 -- the front and the back of a list told apart
 apart : (g : List ℕ) (k n : ℕ) (s f b : List ℕ) (i z : ℕ) → s ≡ f ++ b → length f ≡ k → k - length g ≡ n
@@ -101,7 +91,7 @@ module _ (g p q r : List ℕ) (v : ℕ) (sized : length q ≡ length g) where
       let n : length (share i p) ≡ length p = length-share i p in
       ap₂ (λ (x : List ℕ) (m : ℕ). withQuotient g m x (share i (v ∷ r)) z)
       (share-append i p (xorList q (map (scaled v) g)) ∙ ap (_++_ (share i p)) (share-added i v q g few)) (sym n)
-      ∙ value-turn g (share i p) (share i q) (share i r) (byteAt i v) z (length-share i q ∙ sized) (bytes-share i q) (byte-of-word i v)
+      ∙ value-turn g (share i p) (share i q) (share i r) (byteAt i v) z (length-share i q ∙ sized) (bytes-share i q) (byteAt-lt i v)
       ∙ ap₂ (λ (x : List ℕ) (m : ℕ). withQuotient g (suc m) x (share i r) z)
       (sym (share-append i p (q ++ (v ∷ [])) ∙ ap (_++_ (share i p)) (share-append i q (v ∷ [])))) n
 

@@ -16,30 +16,16 @@ Inv-loop w x s inside out₀ n left₀ at₀ i₀ out left at i =
 abbrev μ-loop : tie.MeasureT-loop
 μ-loop w x s inside out₀ n left₀ at₀ i₀ out left at i = n - i
 
-to-fill-requires : tie.Need-to-fill-requires Inv-loop μ-loop
-to-fill-requires c κs = search needs
-
 loop-holds : tie.Need-loop-holds Inv-loop μ-loop
 loop-holds c =
-    let a = c .before .before .before .before .args in
+    let start : tie.Start Inv-loop μ-loop = search in
+    let a = start .args in
     (omega arith, gathered-start (a .inside) (a .x .now) (a .s .now) (a .out .now) (a .w) _ (c .to-fill .ensures), refl)
-
-shared-slice-read-b : tie.Need-shared-slice-read-b Inv-loop μ-loop
-shared-slice-read-b c = search needs
-
-is-chosen-requires : tie.Need-is-chosen-requires Inv-loop μ-loop
-is-chosen-requires c κs = search needs
-
-is-wanted-requires : tie.Need-is-wanted-requires Inv-loop μ-loop
-is-wanted-requires c κs = search needs
-
-shared-slice-read-put-if : tie.Need-shared-slice-read-put-if Inv-loop μ-loop
-shared-slice-read-put-if c = search needs
 
 put-if-requires : tie.Need-put-if-requires Inv-loop μ-loop
 put-if-requires c κs =
-    let p = c .before .before .before .before .before .before in
-    let s = p .before .before .before .before .before in
+    let p : tie.At-loop Inv-loop μ-loop = search in
+    let s : tie.Start Inv-loop μ-loop = search in
     let a = s .args in
     let l = p .loop in (
       λ t.
@@ -48,56 +34,30 @@ put-if-requires c κs =
       l .inv .1 .0,
     )
 
-left-after-requires : tie.Need-left-after-requires Inv-loop μ-loop
-left-after-requires c κs = search needs
-
-add-i : tie.Need-add-i Inv-loop μ-loop
-add-i c = search needs
-
-loop-less : tie.Need-loop-less Inv-loop μ-loop
-loop-less c = search needs
-
 loop-again : tie.Need-loop-again Inv-loop μ-loop
 loop-again c =
-    let t = c .before .before .before .before .before .before .before .before .before in
-    let p = t .before in
-    let s = p .before .before .before .before .before in
+    let after-is-wanted : tie.After-is-wanted Inv-loop μ-loop = search in
+    let h : tie.After-is-chosen Inv-loop μ-loop = search in
+    let t : tie.In-loop Inv-loop μ-loop = search in
+    let p : tie.At-loop Inv-loop μ-loop = search in
+    let s : tie.Start Inv-loop μ-loop = search in
     let a = s .args in
     let l = p .loop in
-    let r = c .before .before .before .put-if in
-    let h = c .before .before .before .before .before .before .before .is-chosen in (
+    let r = c .before .before .before .put-if in (
       omega arith,
-      gathered-turn (a .inside) (a .x .now) (a .s .now) (l .out) _ (l .left) (l .i) (l .at) (h .result) _ (omega arith) (omega (arith, s .pre .1)) (h .ensures)
-          (c .before .before .before .before .before .before .is-wanted .ensures) (l .inv .1) _ _ _ (l .inv .2 ∙ s .pre .2) (r .kept .0) (r .ensures .0) (r .ensures .1) (c .left-after .ensures),
+      gathered-turn (a .inside) (a .x .now) (a .s .now) (l .out) _ (l .left) (l .i) (l .at) (h .is-chosen .result) _ (omega arith) (omega (arith, s .pre .1)) (h .is-chosen .ensures)
+          (after-is-wanted .is-wanted .ensures) (l .inv .1) _ _ _ (l .inv .2 ∙ s .pre .2) (r .kept .0) (r .ensures .0) (r .ensures .1) (c .left-after .ensures),
       r .kept .0 ∙ l .inv .2,
     )
 
-same-length : tie.Need-same-length Inv-loop μ-loop
-same-length c = c .before .loop .inv .2
-
 returns : tie.Need-returns Inv-loop μ-loop
 returns c =
-    let s = c .before .before .before .before .before .before in
+    let s : tie.Start Inv-loop μ-loop = search in
     let a = s .args in
     let l = c .before .loop in
     gathered-end (a .inside) (a .x .now) (a .s .now) (l .out) _ (l .left) (l .i) (l .at) (omega arith) (s .pre .1) (l .inv .2 ∙ s .pre .2) (l .inv .1)
 
 pub gather-spec : {M : Type 1} → statement M
-gather-spec =
-    tie.close
-    (tie.spec
-    Inv-loop
-    μ-loop
-    to-fill-requires
-    loop-holds
-    shared-slice-read-b
-    is-chosen-requires
-    is-wanted-requires
-    shared-slice-read-put-if
-    put-if-requires
-    left-after-requires
-    add-i
-    loop-less
-    loop-again
-    same-length
-    returns)
+gather-spec = tie.close (tie.spec Inv-loop μ-loop (λ c κs. search needs) loop-holds (λ c. search needs)
+    (λ c κs. search needs) (λ c κs. search needs) (λ c. search needs) put-if-requires (λ c κs. search needs)
+    (λ c. search needs) (λ c. search needs) loop-again (λ c. search needs) returns)

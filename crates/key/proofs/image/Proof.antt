@@ -32,34 +32,11 @@ inside p h =
 loop-holds : tie.Need-loop-holds Inv-loop μ-loop
 loop-holds c = (omega arith, omega arith, blend-none _ _, refl)
 
-add-e : tie.Need-add-e Inv-loop μ-loop
-add-e c = omega (arith, inside (c .before) (c .loop-test .taken))
-
-sub-row : tie.Need-sub-row Inv-loop μ-loop
-sub-row c = search needs
-
-part-row-start : tie.Need-part-row-start Inv-loop μ-loop
-part-row-start c = search needs
-
-part-row-end : tie.Need-part-row-end Inv-loop μ-loop
-part-row-end c = omega (arith, inside (c .before) (c .loop-test .taken))
-
-row-requires : tie.Need-row-requires Inv-loop μ-loop
-row-requires c κs = search needs
-
-slice-write-out : tie.Need-slice-write-out Inv-loop μ-loop
-slice-write-out c = search needs
-
-add-i : tie.Need-add-i Inv-loop μ-loop
-add-i c = search needs
-
-loop-less : tie.Need-loop-less Inv-loop μ-loop
-loop-less c = search needs
-
 loop-again : tie.Need-loop-again Inv-loop μ-loop
 loop-again c =
+    let start : tie.Start Inv-loop μ-loop = search in
     let p = c .before .before .before in
-    let a = p .before .before .before .before .args in
+    let a = start .args in
     let k : (p .loop .a + length (a .x .now)) - p .loop .a ≡ length (a .x .now) = omega arith in (
       omega arith,
       ap (λ (j : ℕ). j + length (a .x .now)) (p .loop .inv .1)
@@ -69,30 +46,15 @@ loop-again c =
       simp length-set (p .loop .inv .3),
     )
 
-same-length : tie.Need-same-length Inv-loop μ-loop
-same-length c = c .before .loop .inv .3
-
 returns : tie.Need-returns Inv-loop μ-loop
 returns c =
-    let a = c .before .before .before .before .before .args in
+    let start : tie.Start Inv-loop μ-loop = search in
+    let a = start .args in
     c .before .loop .inv .2
     ∙ blend-all (c .before .loop .i) _ _ (length-rows (length (a .out .now)) (a .matrix .now) (a .x .now)) (omega arith)
 
 pub image-spec : {M : Type 1} → statement M
-image-spec =
-    tie.close
-    (tie.spec
-    Inv-loop
-    μ-loop
-    loop-holds
-    add-e
-    sub-row
-    part-row-start
-    part-row-end
-    row-requires
-    slice-write-out
-    add-i
-    loop-less
-    loop-again
-    same-length
-    returns)
+image-spec = tie.close (tie.spec Inv-loop μ-loop loop-holds
+    (λ c. omega (arith, inside (c .before) (c .loop-test .taken))) (λ c. search needs) (λ c. search needs)
+    (λ c. omega (arith, inside (c .before) (c .loop-test .taken))) (λ c κs. search needs) (λ c. search needs)
+    (λ c. search needs) (λ c. search needs) loop-again (λ c. search needs) returns)

@@ -11,11 +11,6 @@ returns c = spared-other _ _ (c .if1 .taken)
 returns-2 : tie.Need-returns-2
 returns-2 c = spared-zero _ _ _ (omega arith) (omega arith)
 
-sub-result : tie.Need-sub-result
-sub-result c = search needs
-
-returns-3 : tie.Need-returns-3
-returns-3 c = spared-zero _ _ _ (omega arith) (omega arith)
-
 pub left-after-spec : {M : Type 1} → statement M
-left-after-spec = tie.close (tie.spec returns returns-2 sub-result returns-3)
+left-after-spec = tie.close (tie.spec returns returns-2 (λ c. search needs)
+    (λ c. spared-zero _ _ _ (omega arith) (omega arith)))

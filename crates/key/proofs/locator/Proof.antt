@@ -16,12 +16,6 @@ Inv-loop w x out₀ log pow n left₀ at₀ f₀ i₀ out left at f i =
 abbrev μ-loop : tie.MeasureT-loop
 μ-loop w x out₀ log pow n left₀ at₀ f₀ i₀ out left at f i = n - i
 
-to-fill-requires : tie.Need-to-fill-requires Inv-loop μ-loop
-to-fill-requires c κs = search needs
-
-slice-write-out : tie.Need-slice-write-out Inv-loop μ-loop
-slice-write-out c = search needs
-
 loop-holds : tie.Need-loop-holds Inv-loop μ-loop
 loop-holds c =
     let s = c .before .before .before in
@@ -34,19 +28,10 @@ loop-holds c =
       refl,
     )
 
-shared-slice-read-b : tie.Need-shared-slice-read-b Inv-loop μ-loop
-shared-slice-read-b c = search needs
-
-add-f : tie.Need-add-f Inv-loop μ-loop
-add-f c = search needs
-
-is-chosen-requires : tie.Need-is-chosen-requires Inv-loop μ-loop
-is-chosen-requires c κs = search needs
-
 root-if-requires : tie.Need-root-if-requires Inv-loop μ-loop
 root-if-requires c κs =
-    let p = c .before .before .before .before in
-    let s = p .before .before .before .before in
+    let p : tie.At-loop Inv-loop μ-loop = search in
+    let s : tie.Start Inv-loop μ-loop = search in
     let l = p .loop in (
       λ t. located-positive (s .args .x .now) (l .out) _ (l .left) (l .i) (l .at) _ (omega arith) (c .before .is-chosen .ensures) (l .inv .3) t,
       l .inv .2,
@@ -54,54 +39,29 @@ root-if-requires c κs =
       s .pre .3,
     )
 
-left-after-requires : tie.Need-left-after-requires Inv-loop μ-loop
-left-after-requires c κs = search needs
-
-add-i : tie.Need-add-i Inv-loop μ-loop
-add-i c = search needs
-
-loop-less : tie.Need-loop-less Inv-loop μ-loop
-loop-less c = search needs
-
 loop-again : tie.Need-loop-again Inv-loop μ-loop
 loop-again c =
-    let p = c .before .before .before .before .before .before .before .before in
-    let x = p .before .before .before .before .args .x .now in
+    let b : tie.After-is-chosen Inv-loop μ-loop = search in
+    let p : tie.At-loop Inv-loop μ-loop = search in
+    let start : tie.Start Inv-loop μ-loop = search in
+    let x = start .args .x .now in
     let l = p .loop in
-    let r = c .before .before .before .root-if in
-    let b = c .before .before .before .before .before .is-chosen in (
+    let r = c .before .before .before .root-if in (
       omega arith,
       omega arith,
-      omega (arith, r .ensures .1, r .kept .0, atIf-le (b .result) (l .at)),
-      located-turn x (l .out) _ _ (l .left) (l .i) (l .at) _ _ _ (b .result) (omega arith) (l .inv .2) (omega arith)
-          (b .ensures) (r .ensures .0) (r .ensures .1) (c .left-after .ensures) (l .inv .3),
+      omega (arith, r .ensures .1, r .kept .0, atIf-le (b .is-chosen .result) (l .at)),
+      located-turn x (l .out) _ _ (l .left) (l .i) (l .at) _ _ _ (b .is-chosen .result) (omega arith) (l .inv .2) (omega arith)
+          (b .is-chosen .ensures) (r .ensures .0) (r .ensures .1) (c .left-after .ensures) (l .inv .3),
       r .kept .0 ∙ l .inv .4,
     )
 
-same-length : tie.Need-same-length Inv-loop μ-loop
-same-length c = c .before .loop .inv .4 ∙ simp length-set
-
 returns : tie.Need-returns Inv-loop μ-loop
 returns c =
+    let start : tie.Start Inv-loop μ-loop = search in
     let l = c .before .loop in
-    located-end (c .before .before .before .before .before .args .x .now) (l .out) _ (l .left) (l .i) (l .at) (omega arith) (l .inv .3)
+    located-end (start .args .x .now) (l .out) _ (l .left) (l .i) (l .at) (omega arith) (l .inv .3)
 
 pub locator-spec : {M : Type 1} → statement M
-locator-spec =
-    tie.close
-    (tie.spec
-    Inv-loop
-    μ-loop
-    to-fill-requires
-    slice-write-out
-    loop-holds
-    shared-slice-read-b
-    add-f
-    is-chosen-requires
-    root-if-requires
-    left-after-requires
-    add-i
-    loop-less
-    loop-again
-    same-length
-    returns)
+locator-spec = tie.close (tie.spec Inv-loop μ-loop (λ c κs. search needs) (λ c. search needs) loop-holds
+    (λ c. search needs) (λ c. search needs) (λ c κs. search needs) root-if-requires (λ c κs. search needs)
+    (λ c. search needs) (λ c. search needs) loop-again (λ c. c .before .loop .inv .4 ∙ simp length-set) returns)

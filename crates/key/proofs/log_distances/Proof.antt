@@ -22,33 +22,18 @@ abbrev μ-loop : tie.MeasureT-loop
 loop-holds : tie.Need-loop-holds Inv-loop μ-loop
 loop-holds c = (omega arith, omega arith, distances-start _ _)
 
-shared-slice-read-sum : tie.Need-shared-slice-read-sum Inv-loop μ-loop
-shared-slice-read-sum c = search needs
-
-sum-requires : tie.Need-sum-requires Inv-loop μ-loop
-sum-requires c κs = search needs
-
 log-of-requires : tie.Need-log-of-requires Inv-loop μ-loop
 log-of-requires c κs =
-    let s = c .before .before .before .before .before in
+    let s : tie.Start Inv-loop μ-loop = search in
     let i = c .before .before .before .loop .i in
     let g : ℕ = getD (s .args .gs .now) i 0 in
     let apart : (g ≡ s .args .f → ⊥) = each-at (λ g. g ≡ s .args .f → ⊥) 0 (s .args .gs .now) (s .pre .1) i (omega arith) in
     (s .pre .2, omega (arith, c .sum .ensures, ⊕-apart (s .args .f) g (λ e. apart (sym e))))
 
-add-s : tie.Need-add-s Inv-loop μ-loop
-add-s c = omega (arith, c .log-of .ensures .0)
-
-add-i : tie.Need-add-i Inv-loop μ-loop
-add-i c = search needs
-
-loop-less : tie.Need-loop-less Inv-loop μ-loop
-loop-less c = search needs
-
 loop-again : tie.Need-loop-again Inv-loop μ-loop
 loop-again c =
-    let p = c .before .before .before .before in
-    let s = p .before .before in (
+    let p : tie.At-loop Inv-loop μ-loop = search in
+    let s : tie.Start Inv-loop μ-loop = search in (
       omega arith,
       omega (arith, c .log-of .ensures .0),
       distances-turn (s .args .f) (s .args .gs .now) (p .loop .i) (p .loop .s) _ _ _ (omega arith) (c .before .sum .ensures) (c .log-of .ensures .1) (p .loop .inv .2),
@@ -60,17 +45,5 @@ returns c =
     distances-end (s .args .f) (s .args .gs .now) (c .before .loop .i) (c .before .loop .s) _ (omega arith) (c .before .loop .inv .2)
 
 pub log-distances-spec : {M : Type 1} → statement M
-log-distances-spec =
-    tie.close
-    (tie.spec
-    Inv-loop
-    μ-loop
-    loop-holds
-    shared-slice-read-sum
-    sum-requires
-    log-of-requires
-    add-s
-    add-i
-    loop-less
-    loop-again
-    returns)
+log-distances-spec = tie.close (tie.spec Inv-loop μ-loop loop-holds (λ c. search needs) (λ c κs. search needs)
+    log-of-requires (λ c. search needs) (λ c. search needs) (λ c. search needs) loop-again returns)

@@ -5,15 +5,6 @@ use Rattle.key.specs.Loops.Gather.{put-hit, put-miss}
 use Rattle.key.proofs.put_if.Statement.{statement}
 use Rattle.key.proofs.put_if.Tie as tie
 
-slice-write-out : tie.Need-slice-write-out
-slice-write-out c = c .before .pre .0 (c .if1 .taken)
-
-add-result : tie.Need-add-result
-add-result c = search needs
-
-same-length : tie.Need-same-length
-same-length c = search needs
-
 returns : tie.Need-returns
 returns c = let a = c .before .args in put-hit (a .hit) (a .out .now) (a .at) (a .b) _ (c .if1 .taken) refl
 
@@ -21,4 +12,5 @@ returns-2 : tie.Need-returns-2
 returns-2 c = let a = c .before .args in put-miss (a .hit) (a .out .now) (a .at) (a .b) (c .if1 .left)
 
 pub put-if-spec : {M : Type 1} → statement M
-put-if-spec = tie.close (tie.spec slice-write-out add-result same-length returns returns-2)
+put-if-spec = tie.close (tie.spec (λ c. c .before .pre .0 (c .if1 .taken)) (λ c. search needs) (λ c. search needs)
+    returns returns-2)

@@ -8,28 +8,9 @@ use Rattle.key.proofs.ratio.Tie as tie
 returns : tie.Need-returns
 returns c = ratio-zero _ _ (omega arith)
 
-log-distances-requires : tie.Need-log-distances-requires
-log-distances-requires c κs = search needs
-
-power-of-requires : tie.Need-power-of-requires
-power-of-requires c κs = search needs
-
-inverse-requires : tie.Need-inverse-requires
-inverse-requires c κs = search needs
-
-product-requires : tie.Need-product-requires
-product-requires c κs = search needs
-
 returns-2 : tie.Need-returns-2
 returns-2 c = ratio-made _ _ _ _ _ _ (c .before .before .before .log-distances .ensures) (c .before .before .power-of .ensures) (c .before .inverse .ensures) (c .product .ensures)
 
 pub ratio-spec : {M : Type 1} → statement M
-ratio-spec =
-    tie.close
-    (tie.spec
-    returns
-    log-distances-requires
-    power-of-requires
-    inverse-requires
-    product-requires
-    returns-2)
+ratio-spec = tie.close (tie.spec returns (λ c κs. search needs) (λ c κs. search needs) (λ c κs. search needs)
+    (λ c κs. search needs) returns-2)

@@ -23,32 +23,17 @@ abbrev μ-loop : tie.MeasureT-loop
 loop-holds : tie.Need-loop-holds Inv-loop μ-loop
 loop-holds c = (omega arith, blend-none _ _, refl)
 
-slice-read-ratio : tie.Need-slice-read-ratio Inv-loop μ-loop
-slice-read-ratio c = search needs
-
-shared-slice-read-ratio : tie.Need-shared-slice-read-ratio Inv-loop μ-loop
-shared-slice-read-ratio c = search needs
-
 ratio-requires : tie.Need-ratio-requires Inv-loop μ-loop
 ratio-requires c κs =
-    let s = c .before .before .before .before .before .before .before in
+    let s : tie.Start Inv-loop μ-loop = search in
     let a = s .args in
     let i = c .before .before .before .loop .i in
     (s .pre .1, each-at (λ f. NotIn f (a .gs .now)) 0 (a .fs .now) (s .pre .2) i (omega (arith, s .pre .0)), s .pre .3, s .pre .4)
 
-slice-write-ys : tie.Need-slice-write-ys Inv-loop μ-loop
-slice-write-ys c = search needs
-
-add-i : tie.Need-add-i Inv-loop μ-loop
-add-i c = search needs
-
-loop-less : tie.Need-loop-less Inv-loop μ-loop
-loop-less c = search needs
-
 loop-again : tie.Need-loop-again Inv-loop μ-loop
 loop-again c =
-    let p = c .before .before .before .before in
-    let s = p .before .before .before .before in
+    let p : tie.At-loop Inv-loop μ-loop = search in
+    let s : tie.Start Inv-loop μ-loop = search in
     let a = s .args in
     let l = p .loop in (
       omega arith,
@@ -56,28 +41,12 @@ loop-again c =
       simp length-set (l .inv .2),
     )
 
-same-length : tie.Need-same-length Inv-loop μ-loop
-same-length c = c .before .loop .inv .2
-
 returns : tie.Need-returns Inv-loop μ-loop
 returns c =
-    let s = c .before .before .before .before .before in
+    let s : tie.Start Inv-loop μ-loop = search in
     let l = c .before .loop in
     l .inv .1 ∙ blend-all (l .i) _ _ (length-ratios (s .args .gs .now) (s .args .fs .now) (s .args .ys .now) (s .pre .0)) (omega arith)
 
 pub ratios-spec : {M : Type 1} → statement M
-ratios-spec =
-    tie.close
-    (tie.spec
-    Inv-loop
-    μ-loop
-    loop-holds
-    slice-read-ratio
-    shared-slice-read-ratio
-    ratio-requires
-    slice-write-ys
-    add-i
-    loop-less
-    loop-again
-    same-length
-    returns)
+ratios-spec = tie.close (tie.spec Inv-loop μ-loop loop-holds (λ c. search needs) (λ c. search needs) ratio-requires
+    (λ c. search needs) (λ c. search needs) (λ c. search needs) loop-again (λ c. search needs) returns)

@@ -12,18 +12,9 @@ use Rattle.key.proofs.through_ratios.Tie as tie
 slice-aggregate-ratios : tie.Need-slice-aggregate-ratios
 slice-aggregate-ratios c = let s = c .before .before .before in sym (length-take-le (s .args .w) (s .args .points .now) (s .pre .1))
 
-sub-ratios : tie.Need-sub-ratios
-sub-ratios c = search needs
-
-part-ratios-start : tie.Need-part-ratios-start
-part-ratios-start c = search needs
-
-part-ratios-end : tie.Need-part-ratios-end
-part-ratios-end c = search needs
-
 ratios-requires : tie.Need-ratios-requires
 ratios-requires c κs =
-    let s = c .before .before .before .before .before in
+    let s : tie.Start = search in
     let w = s .args .w in
     let p = s .args .points .now in (
       length-take-le w p (s .pre .1) ∙ sym (s .pre .0),
@@ -34,31 +25,23 @@ ratios-requires c κs =
     )
 
 slice-aggregate-interpolate-at : tie.Need-slice-aggregate-interpolate-at
-slice-aggregate-interpolate-at c = let s = c .before .before .before .before .before .before .before .before .before in sym (length-take-le (s .args .w) (s .args .points .now) (s .pre .1))
+slice-aggregate-interpolate-at c =
+    let s : tie.Start = search in
+    sym (length-take-le (s .args .w) (s .args .points .now) (s .pre .1))
 
 interpolate-at-requires : tie.Need-interpolate-at-requires
 interpolate-at-requires c κs =
-    let s = c .before .before .before .before .before .before .before .before .before .before in
-    (length-take-le (s .args .w) (s .args .points .now) (s .pre .1) ∙ sym (c .before .before .before .before .ratios .kept .1 .1 .0 ∙ s .pre .0), s .pre .4, s .pre .5)
-
-same-length : tie.Need-same-length
-same-length c = search needs
+    let after-ratios : tie.After-ratios = search in
+    let s : tie.Start = search in
+    (length-take-le (s .args .w) (s .args .points .now) (s .pre .1) ∙ sym (after-ratios .ratios .kept .1 .1 .0 ∙ s .pre .0), s .pre .4, s .pre .5)
 
 returns : tie.Need-returns
 returns c =
-    let s = c .before .before .before .before .before .before .before .before .before .before .before .before .before in
-    through-made (s .args .w) (s .args .points .now) (s .args .out .now) _ _ (c .before .before .before .before .before .before .before .ratios .ensures) (c .before .before .interpolate-at .ensures)
+    let after-ratios : tie.After-ratios = search in
+    let s : tie.Start = search in
+    through-made (s .args .w) (s .args .points .now) (s .args .out .now) _ _ (after-ratios .ratios .ensures) (c .before .before .interpolate-at .ensures)
 
 pub through-ratios-spec : {M : Type 1} → statement M
-through-ratios-spec =
-    tie.close
-    (tie.spec
-    slice-aggregate-ratios
-    sub-ratios
-    part-ratios-start
-    part-ratios-end
-    ratios-requires
-    slice-aggregate-interpolate-at
-    interpolate-at-requires
-    same-length
+through-ratios-spec = tie.close (tie.spec slice-aggregate-ratios (λ c. search needs) (λ c. search needs)
+    (λ c. search needs) ratios-requires slice-aggregate-interpolate-at interpolate-at-requires (λ c. search needs)
     returns)

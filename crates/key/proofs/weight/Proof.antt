@@ -19,22 +19,11 @@ abbrev μ-loop : tie.MeasureT-loop
 loop-holds : tie.Need-loop-holds Inv-loop μ-loop
 loop-holds c = (omega arith, omega arith)
 
-shared-slice-read-if1 : tie.Need-shared-slice-read-if1 Inv-loop μ-loop
-shared-slice-read-if1 c = omega arith
-
-add-n : tie.Need-add-n Inv-loop μ-loop
-add-n c = omega (arith, weight-le (c .before .before .before .before .args .x .now))
-
-add-i : tie.Need-add-i Inv-loop μ-loop
-add-i c = omega arith
-
-loop-less : tie.Need-loop-less Inv-loop μ-loop
-loop-less c = omega arith
-
 loop-again : tie.Need-loop-again Inv-loop μ-loop
 loop-again c =
+    let start : tie.Start Inv-loop μ-loop = search in
     let p = c .before .before .before in
-    let x = p .before .args .x .now in (
+    let x = start .args .x .now in (
       omega arith,
       ⊎-elim
           (λ w. omega (arith, w .1, weight-other x (p .loop .i) (omega arith) (w .0 .taken)))
@@ -46,4 +35,6 @@ returns : tie.Need-returns Inv-loop μ-loop
 returns c = omega (arith, weight-end (c .before .before .args .x .now) (c .before .loop .i) (omega arith))
 
 pub weight-spec : {M : Type 1} → statement M
-weight-spec = tie.close (tie.spec Inv-loop μ-loop loop-holds shared-slice-read-if1 add-n add-i loop-less loop-again returns)
+weight-spec = tie.close (tie.spec Inv-loop μ-loop loop-holds (λ c. omega arith)
+    (λ c. let start : tie.Start Inv-loop μ-loop = search in omega (arith, weight-le (start .args .x .now)))
+    (λ c. omega arith) (λ c. omega arith) loop-again returns)

@@ -6,11 +6,8 @@ use lib.Dec.{leb}
 use Rattle.key.proofs.within_weight.Statement.{statement}
 use Rattle.key.proofs.within_weight.Tie as tie
 
-weight-requires : tie.Need-weight-requires
-weight-requires c κs = search needs
-
 returns : tie.Need-returns
 returns c = ap (λ (n : ℕ). leb n (c .before .before .args .w)) (c .weight .ensures)
 
 pub within-weight-spec : {M : Type 1} → statement M
-within-weight-spec = tie.close (tie.spec weight-requires returns)
+within-weight-spec = tie.close (tie.spec (λ c κs. search needs) returns)

@@ -5,16 +5,10 @@ use Rattle.lists.specs.Part.Laws.{putAt-whole}
 use Rattle.lists.proofs.copy.Statement.{statement}
 use Rattle.lists.proofs.copy.Tie as tie
 
-put-at-requires : tie.Need-put-at-requires
-put-at-requires c κs = search needs
-
-same-length : tie.Need-same-length
-same-length c = search needs
-
 returns : tie.Need-returns
 returns c =
-    let s = c .before .before .before .before .before .before in
+    let s : tie.Start = search in
     c .before .before .put-at .ensures ∙ putAt-whole (s .args .out .now) (s .args .s .now) (s .pre)
 
 pub copy-spec : {M : Type 1} → statement M
-copy-spec = tie.close (tie.spec put-at-requires same-length returns)
+copy-spec = tie.close (tie.spec (λ c κs. search needs) (λ c. search needs) returns)

@@ -10,29 +10,12 @@ use Rattle.lists.specs.Sum.{xorList, xorAt}
 use Rattle.lists.proofs.xor_at.Statement.{statement}
 use Rattle.lists.proofs.xor_at.Tie as tie
 
-add-end : tie.Need-add-end
-add-end c = search needs
-
-sub-xor-into : tie.Need-sub-xor-into
-sub-xor-into c = search needs
-
-part-xor-into-start : tie.Need-part-xor-into-start
-part-xor-into-start c = search needs
-
-part-xor-into-end : tie.Need-part-xor-into-end
-part-xor-into-end c = search needs
-
-xor-into-requires : tie.Need-xor-into-requires
-xor-into-requires c κs = search needs
-
-same-length : tie.Need-same-length
-same-length c = search needs
-
 returns : tie.Need-returns
 unfolding part xorAt
 returns c =
+    let start : tie.Start = search in
     let f = c .before .before .xor-into in
-    let a = c .before .before .before .before .before .before .args in
+    let a = start .args in
     let n : ℕ = length (a .s .now) in
     let k : (a .at + n) - a .at ≡ n = omega arith in
     let l : length (f .last .0) ≡ (a .at + n) - a .at = f .kept .0 ∙ sym (c .before .before .before .xor-into-arg .given .1) in
@@ -40,5 +23,5 @@ returns c =
     ∙ ap (putAt (a .d .now) (a .at)) (f .ensures ∙ ap (λ (m : ℕ). xorList (part (a .d .now) (a .at) m) (a .s .now)) k)
 
 pub xor-at-spec : {M : Type 1} → statement M
-xor-at-spec =
-    tie.close (tie.spec add-end sub-xor-into part-xor-into-start part-xor-into-end xor-into-requires same-length returns)
+xor-at-spec = tie.close (tie.spec (λ c. search needs) (λ c. search needs) (λ c. search needs) (λ c. search needs)
+    (λ c κs. search needs) (λ c. search needs) returns)

@@ -21,21 +21,6 @@ abbrev μ-loop : tie.MeasureT-loop
 loop-holds : tie.Need-loop-holds Inv-loop μ-loop
 loop-holds c = (search needs, xorList-none _ (c .args .t .now), refl)
 
-slice-read-s : tie.Need-slice-read-s Inv-loop μ-loop
-slice-read-s c = omega arith
-
-shared-slice-read-s : tie.Need-shared-slice-read-s Inv-loop μ-loop
-shared-slice-read-s c = omega arith
-
-slice-write-s : tie.Need-slice-write-s Inv-loop μ-loop
-slice-write-s c = omega arith
-
-add-i : tie.Need-add-i Inv-loop μ-loop
-add-i c = omega arith
-
-loop-less : tie.Need-loop-less Inv-loop μ-loop
-loop-less c = omega arith
-
 loop-again : tie.Need-loop-again Inv-loop μ-loop
 unfolding _⊕_
 loop-again c =
@@ -47,9 +32,6 @@ loop-again c =
       simp length-set (p .loop .inv .2),
     )
 
-same-length : tie.Need-same-length Inv-loop μ-loop
-same-length c = c .before .loop .inv .2
-
 returns : tie.Need-returns Inv-loop μ-loop
 returns c =
     let p = c .before in
@@ -58,5 +40,5 @@ returns c =
     p .loop .inv .1 ∙ ap (λ (k : ℕ). xorList (a .s .now) (take k (a .t .now))) e ∙ ap (xorList (a .s .now)) (take-length (a .t .now))
 
 pub xor-into-spec : {M : Type 1} → statement M
-xor-into-spec =
-    tie.close (tie.spec Inv-loop μ-loop loop-holds slice-read-s shared-slice-read-s slice-write-s add-i loop-less loop-again same-length returns)
+xor-into-spec = tie.close (tie.spec Inv-loop μ-loop loop-holds (λ c. omega arith) (λ c. omega arith)
+    (λ c. omega arith) (λ c. omega arith) (λ c. omega arith) loop-again (λ c. search needs) returns)

@@ -19,15 +19,6 @@ abbrev μ-loop : tie.MeasureT-loop
 loop-holds : tie.Need-loop-holds Inv-loop μ-loop
 loop-holds c = (search needs, zeroed-none _, refl)
 
-slice-write-w : tie.Need-slice-write-w Inv-loop μ-loop
-slice-write-w c = omega arith
-
-add-i : tie.Need-add-i Inv-loop μ-loop
-add-i c = omega arith
-
-loop-less : tie.Need-loop-less Inv-loop μ-loop
-loop-less c = omega arith
-
 loop-again : tie.Need-loop-again Inv-loop μ-loop
 loop-again c =
     let p = c .before in (
@@ -36,9 +27,6 @@ loop-again c =
       simp length-set (p .loop .inv .2),
     )
 
-same-length : tie.Need-same-length Inv-loop μ-loop
-same-length c = c .before .loop .inv .2
-
 returns : tie.Need-returns Inv-loop μ-loop
 returns c =
     let p = c .before in
@@ -46,4 +34,5 @@ returns c =
     p .loop .inv .1 ∙ ap (λ (k : ℕ). zeroed k (p .before .args .w .now)) e
 
 pub zero-front-spec : {M : Type 1} → statement M
-zero-front-spec = tie.close (tie.spec Inv-loop μ-loop loop-holds slice-write-w add-i loop-less loop-again same-length returns)
+zero-front-spec = tie.close (tie.spec Inv-loop μ-loop loop-holds (λ c. omega arith) (λ c. omega arith)
+    (λ c. omega arith) loop-again (λ c. search needs) returns)

@@ -20,31 +20,10 @@ abbrev μ-loop : tie.MeasureT-loop
 loop-holds : tie.Need-loop-holds Inv-loop μ-loop
 loop-holds c = (omega arith, expanded-start (c .before .before .args .points .now) _ (c .before .before .pre .0), refl)
 
-sub-j : tie.Need-sub-j Inv-loop μ-loop
-sub-j c = search needs
-
-sub-expand : tie.Need-sub-expand Inv-loop μ-loop
-sub-expand c = search needs
-
-part-expand-start : tie.Need-part-expand-start Inv-loop μ-loop
-part-expand-start c = search needs
-
-part-expand-end : tie.Need-part-expand-end Inv-loop μ-loop
-part-expand-end c = search needs
-
-shared-slice-read-expand : tie.Need-shared-slice-read-expand Inv-loop μ-loop
-shared-slice-read-expand c = search needs
-
-expand-requires : tie.Need-expand-requires Inv-loop μ-loop
-expand-requires c κs = search needs
-
-loop-less : tie.Need-loop-less Inv-loop μ-loop
-loop-less c = search needs
-
 loop-again : tie.Need-loop-again Inv-loop μ-loop
 loop-again c =
-    let p = c .before .before .before .before .before .before in
-    let s = p .before .before .before in
+    let p : tie.At-loop Inv-loop μ-loop = search in
+    let s : tie.Start Inv-loop μ-loop = search in
     let x = p .loop .x in
     let j = p .loop .j in
     let d = c .before .before .expand in (
@@ -54,28 +33,12 @@ loop-again c =
       c .before .x .given .1 ∙ p .loop .inv .2,
     )
 
-same-length : tie.Need-same-length Inv-loop μ-loop
-same-length c = c .before .loop .inv .2
-
 returns : tie.Need-returns Inv-loop μ-loop
 returns c =
-    let s = c .before .before .before .before in
+    let s : tie.Start Inv-loop μ-loop = search in
     expanded-end (s .args .points .now) (c .before .loop .j) (c .before .loop .x) (s .args .x .now) (omega arith) (c .before .loop .inv .1)
 
 pub from-newton-spec : {M : Type 1} → statement M
-from-newton-spec =
-    tie.close
-    (tie.spec
-    Inv-loop
-    μ-loop
-    loop-holds
-    sub-j
-    sub-expand
-    part-expand-start
-    part-expand-end
-    shared-slice-read-expand
-    expand-requires
-    loop-less
-    loop-again
-    same-length
-    returns)
+from-newton-spec = tie.close (tie.spec Inv-loop μ-loop loop-holds (λ c. search needs) (λ c. search needs)
+    (λ c. search needs) (λ c. search needs) (λ c. search needs) (λ c κs. search needs) (λ c. search needs) loop-again
+    (λ c. search needs) returns)

@@ -6,33 +6,17 @@ use Rattle.polynomial.specs.Loops.Points.{length-front, at-front}
 use Rattle.polynomial.proofs.interpolate.Statement.{statement}
 use Rattle.polynomial.proofs.interpolate.Tie as tie
 
-points-requires : tie.Need-points-requires
-points-requires c κs = search needs
-
-array-share-prefix-fs : tie.Need-array-share-prefix-fs
-array-share-prefix-fs c = search needs
-
-slice-aggregate-interpolate-at : tie.Need-slice-aggregate-interpolate-at
-slice-aggregate-interpolate-at c = sym (length-front 255 _ _ (omega arith) (c .before .points .ensures))
-
 interpolate-at-requires : tie.Need-interpolate-at-requires
 interpolate-at-requires c κs =
-    let s = c .before .before .before .before in
+    let s : tie.Start = search in
     (length-front 255 _ _ (omega arith) (c .before .before .points .ensures), s .pre .1, s .pre .2)
 
-same-length : tie.Need-same-length
-same-length c = search needs
-
 returns : tie.Need-returns
-returns c = at-front 255 _ _ _ (omega arith) (c .before .before .before .before .before .points .ensures) (c .before .before .interpolate-at .ensures)
+returns c =
+    let after-points : tie.After-points = search in
+    at-front 255 _ _ _ (omega arith) (after-points .points .ensures) (c .before .before .interpolate-at .ensures)
 
 pub interpolate-spec : {M : Type 1} → statement M
-interpolate-spec =
-    tie.close
-    (tie.spec
-    points-requires
-    array-share-prefix-fs
-    slice-aggregate-interpolate-at
-    interpolate-at-requires
-    same-length
-    returns)
+interpolate-spec = tie.close (tie.spec (λ c κs. search needs) (λ c. search needs)
+    (λ c. sym (length-front 255 _ _ (omega arith) (c .before .points .ensures))) interpolate-at-requires
+    (λ c. search needs) returns)

@@ -21,18 +21,6 @@ abbrev μ-loop : tie.MeasureT-loop
 loop-holds : tie.Need-loop-holds Inv-loop μ-loop
 loop-holds c = (omega arith, omega arith, blend-none _ _, refl, refl)
 
-add-f : tie.Need-add-f Inv-loop μ-loop
-add-f c = search needs
-
-array-write-fs : tie.Need-array-write-fs Inv-loop μ-loop
-array-write-fs c = omega arith
-
-add-i : tie.Need-add-i Inv-loop μ-loop
-add-i c = search needs
-
-loop-less : tie.Need-loop-less Inv-loop μ-loop
-loop-less c = search needs
-
 loop-again : tie.Need-loop-again Inv-loop μ-loop
 loop-again c =
     let l = c .before .loop in
@@ -44,6 +32,5 @@ returns c =
     l .inv .2 ∙ blend-all (l .i) _ _ (length-ascending 1 255 ∙ sym (l .inv .3)) (omega arith)
 
 pub points-spec : {M : Type 1} → statement M
-points-spec =
-    tie.close
-    (tie.spec Inv-loop μ-loop loop-holds add-f array-write-fs add-i loop-less loop-again returns)
+points-spec = tie.close (tie.spec Inv-loop μ-loop loop-holds (λ c. search needs) (λ c. omega arith)
+    (λ c. search needs) (λ c. search needs) loop-again returns)

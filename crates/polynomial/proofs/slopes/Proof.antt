@@ -23,69 +23,26 @@ abbrev μ-loop : tie.MeasureT-loop
 loop-holds : tie.Need-loop-holds Inv-loop μ-loop
 loop-holds c = (omega arith, blend-none _ _, refl)
 
-slice-read-sum : tie.Need-slice-read-sum Inv-loop μ-loop
-slice-read-sum c = search needs
-
-sum-requires : tie.Need-sum-requires Inv-loop μ-loop
-sum-requires c κs = search needs
-
-shared-slice-read-sum : tie.Need-shared-slice-read-sum Inv-loop μ-loop
-shared-slice-read-sum c = search needs
-
-sum-requires-2 : tie.Need-sum-requires-2 Inv-loop μ-loop
-sum-requires-2 c κs = search needs
-
-inverse-requires : tie.Need-inverse-requires Inv-loop μ-loop
-inverse-requires c κs = search needs
-
-product-requires : tie.Need-product-requires Inv-loop μ-loop
-product-requires c κs = search needs
-
-slice-write-zs : tie.Need-slice-write-zs Inv-loop μ-loop
-slice-write-zs c = search needs
-
-add-i : tie.Need-add-i Inv-loop μ-loop
-add-i c = search needs
-
-loop-less : tie.Need-loop-less Inv-loop μ-loop
-loop-less c = search needs
-
 loop-again : tie.Need-loop-again Inv-loop μ-loop
 loop-again c =
-    let p = c .before .before .before .before .before .before .before in
-    let a = p .before .before .before .args in (
+    let after-sum : tie.After-sum Inv-loop μ-loop = search in
+    let p : tie.At-loop Inv-loop μ-loop = search in
+    let start : tie.Start Inv-loop μ-loop = search in
+    let a = start .args in (
       omega arith,
-      slopes-turn (a .f) (a .y) (p .loop .i) (a .gs .now) (a .zs .now) (p .loop .zs) _ _ _ _ (p .before .before .before .pre .0) (omega arith) (p .loop .inv .1)
-          (c .before .before .before .before .sum .ensures) (c .before .before .sum2 .ensures) (c .before .inverse .ensures) (c .product .ensures),
+      slopes-turn (a .f) (a .y) (p .loop .i) (a .gs .now) (a .zs .now) (p .loop .zs) _ _ _ _ (start .pre .0) (omega arith) (p .loop .inv .1)
+          (after-sum .sum .ensures) (c .before .before .sum2 .ensures) (c .before .inverse .ensures) (c .product .ensures),
       simp length-set (p .loop .inv .2),
     )
 
-same-length : tie.Need-same-length Inv-loop μ-loop
-same-length c = c .before .loop .inv .2
-
 returns : tie.Need-returns Inv-loop μ-loop
 returns c =
-    let s = c .before .before .before .before in
+    let s : tie.Start Inv-loop μ-loop = search in
     let a = s .args in
     c .before .loop .inv .1
     ∙ blend-all (c .before .loop .i) _ _ (length-slopes byteOps inverse (a .f) (a .y) (a .gs .now) (a .zs .now) (s .pre .0)) (omega arith)
 
 pub slopes-spec : {M : Type 1} → statement M
-slopes-spec =
-    tie.close
-    (tie.spec
-    Inv-loop
-    μ-loop
-    loop-holds
-    slice-read-sum
-    sum-requires
-    shared-slice-read-sum
-    sum-requires-2
-    inverse-requires
-    product-requires
-    slice-write-zs
-    add-i
-    loop-less
-    loop-again
-    same-length
-    returns)
+slopes-spec = tie.close (tie.spec Inv-loop μ-loop loop-holds (λ c. search needs) (λ c κs. search needs)
+    (λ c. search needs) (λ c κs. search needs) (λ c κs. search needs) (λ c κs. search needs) (λ c. search needs)
+    (λ c. search needs) (λ c. search needs) loop-again (λ c. search needs) returns)

@@ -21,43 +21,10 @@ abbrev μ-loop : tie.MeasureT-loop
 loop-holds : tie.Need-loop-holds Inv-loop μ-loop
 loop-holds c = (omega arith, refl, refl)
 
-slice-read-y : tie.Need-slice-read-y Inv-loop μ-loop
-slice-read-y c = search needs
-
-shared-slice-read-f : tie.Need-shared-slice-read-f Inv-loop μ-loop
-shared-slice-read-f c = search needs
-
-add-j : tie.Need-add-j Inv-loop μ-loop
-add-j c = search needs
-
-sub-slopes : tie.Need-sub-slopes Inv-loop μ-loop
-sub-slopes c = search needs
-
-part-slopes-start : tie.Need-part-slopes-start Inv-loop μ-loop
-part-slopes-start c = search needs
-
-part-slopes-end : tie.Need-part-slopes-end Inv-loop μ-loop
-part-slopes-end c = search needs
-
-sub-slopes-2 : tie.Need-sub-slopes-2 Inv-loop μ-loop
-sub-slopes-2 c = search needs
-
-part-slopes-start-2 : tie.Need-part-slopes-start-2 Inv-loop μ-loop
-part-slopes-start-2 c = search needs
-
-part-slopes-end-2 : tie.Need-part-slopes-end-2 Inv-loop μ-loop
-part-slopes-end-2 c = search needs
-
-slopes-requires : tie.Need-slopes-requires Inv-loop μ-loop
-slopes-requires c κs = search needs
-
-loop-less : tie.Need-loop-less Inv-loop μ-loop
-loop-less c = search needs
-
 loop-again : tie.Need-loop-again Inv-loop μ-loop
 loop-again c =
-    let p = c .before .before .before .before .before .before .before .before in
-    let s = p .before .before .before in
+    let p : tie.At-loop Inv-loop μ-loop = search in
+    let s : tie.Start Inv-loop μ-loop = search in
     let fs = s .args .points .now in
     let x = p .loop .x in
     let j = p .loop .j in
@@ -68,33 +35,14 @@ loop-again c =
       c .before .x .given .1 ∙ p .loop .inv .2,
     )
 
-same-length : tie.Need-same-length Inv-loop μ-loop
-same-length c = c .before .loop .inv .2
-
 returns : tie.Need-returns Inv-loop μ-loop
 returns c =
-    let s = c .before .before .before .before in
+    let s : tie.Start Inv-loop μ-loop = search in
     let l = c .before .loop in
     newton-end (s .args .points .now) (l .j) (l .x) (s .args .x .now) (omega (arith, s .pre .0)) (omega arith) (l .inv .1)
 
 pub to-newton-spec : {M : Type 1} → statement M
-to-newton-spec =
-    tie.close
-    (tie.spec
-    Inv-loop
-    μ-loop
-    loop-holds
-    slice-read-y
-    shared-slice-read-f
-    add-j
-    sub-slopes
-    part-slopes-start
-    part-slopes-end
-    sub-slopes-2
-    part-slopes-start-2
-    part-slopes-end-2
-    slopes-requires
-    loop-less
-    loop-again
-    same-length
+to-newton-spec = tie.close (tie.spec Inv-loop μ-loop loop-holds (λ c. search needs) (λ c. search needs)
+    (λ c. search needs) (λ c. search needs) (λ c. search needs) (λ c. search needs) (λ c. search needs)
+    (λ c. search needs) (λ c. search needs) (λ c κs. search needs) (λ c. search needs) loop-again (λ c. search needs)
     returns)

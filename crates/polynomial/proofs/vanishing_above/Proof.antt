@@ -33,7 +33,7 @@ loop-holds c =
 
 loop-again : tie.Need-loop-again Inv-loop μ-loop
 loop-again c =
-    let p = c .before .before .before .before .before in
+    let p : tie.At-loop Inv-loop μ-loop = search in
     let d = c .before .before .add-root in (
       omega arith,
       all-turn (p .loop .out) (d .last .0) _ (p .loop .at) (p .loop .g) _ (omega arith) (omega arith) refl (d .ensures) (p .loop .inv .1),
@@ -52,7 +52,5 @@ returns c =
     ∙ ap (λ (m : ℕ). vanishing byteOps (ascending (c .before .before .before .args .f + 1) (m - 1))) (length-set o (length o - 1) 1)
 
 pub vanishing-above-spec : {M : Type 1} → statement M
-vanishing-above-spec =
-    tie.close
-    (tie.spec Inv-loop μ-loop (λ c. search needs) (λ c. search needs) loop-holds
+vanishing-above-spec = tie.close (tie.spec Inv-loop μ-loop (λ c. search needs) (λ c. search needs) loop-holds
     (λ c. search needs) (λ c. search needs) (λ c κs. search needs) (λ c. search needs) loop-again same-length returns)

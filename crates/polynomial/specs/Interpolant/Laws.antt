@@ -2,7 +2,7 @@
 --
 --   length-ascending, ascending-at    the points in a row
 --   distinct-ascending                no two of them are equal
---   points-distinct                   no two interpolation points are equal bytes
+--   ascending-distinct, points-distinct     no two of them are equal bytes
 --   length-interpolant                S has m coefficients
 --   interpolant-takes                 S(f_i) = x_i for all i
 --   interpolant-unique                no other m bytes as coefficients have these values
@@ -34,10 +34,10 @@ use Rattle.algebra.specs.Polynomial.Products.{product-roots, leading-product}
 use Rattle.algebra.specs.Polynomial.Quotients.{vanishing-elsewhere}
 use Rattle.algebra.specs.Polynomial.Maps.{map-eval, map-interpolate, map-product}
 use Rattle.bytefield.specs.Product.{byteOps}
-use Rattle.bytefield.specs.Product.Laws.{byte-linear}
+use Rattle.bytefield.specs.Product.Laws.{byte-linear, xorList-plus}
 use Rattle.bytefield.specs.Inverse.{inverse}
-use Rattle.bytefield.specs.Byte.{Byte, byte, byteRing, byteField, byteInverse, byte-one, byte-inverse, byte-homomorphism, val-byte}
-use Rattle.polynomial.specs.Bytes.{Bytes, inField, xorList-plus, bytes-equal, byte-eval, bytes-monic, bytes-interpolate, bytes-product}
+use Rattle.bytefield.specs.Byte.{Byte, byte, byteRing, byteField, byteInverse, byte-one, byte-inverse, byte-homomorphism}
+use Rattle.polynomial.specs.Bytes.{Bytes, inField, byte-equal, bytes-equal, byte-eval, bytes-monic, bytes-interpolate, bytes-product}
 use Rattle.polynomial.specs.Interpolant.{ascending, interpolationPoints, interpolantOf, vanishingOf}
 
 -- ---- the points
@@ -63,16 +63,13 @@ unfolding ascending
 distinct-ascending a zero = tt
 distinct-ascending a (suc n) = (later a (suc a) n (omega arith), distinct-ascending (suc a) n)
 
-byte-differs : (a b : ℕ) → a < 256 → b < 256 → (a ≡ b → ⊥) → byte a ≡ byte b → ⊥
-byte-differs a b ha hb n e = n (sym (val-byte a ha) ∙ ap (λ (x : Byte). x .0) e ∙ val-byte b hb)
-
 ascending-differs : (f a n : ℕ) → f < a → a + n ≤ 256 → Each (λ y. y ≡ byte f → ⊥) (inField (ascending a n))
 unfolding ascending
 ascending-differs f a zero h k = tt
 ascending-differs f a (suc n) h k =
-    (byte-differs a f (omega arith) (omega arith) (λ e. omega arith), ascending-differs f (suc a) n (omega arith) (omega arith))
+    ((λ e. let q = byte-equal a f (omega arith) (omega arith) e in omega arith), ascending-differs f (suc a) n (omega arith) (omega arith))
 
-ascending-distinct : (a n : ℕ) → a + n ≤ 256 → Distinct (inField (ascending a n))
+pub ascending-distinct : (a n : ℕ) → a + n ≤ 256 → Distinct (inField (ascending a n))
 unfolding ascending
 ascending-distinct a zero k = tt
 ascending-distinct a (suc n) k = (ascending-differs a (suc a) n (omega arith) (omega arith), ascending-distinct (suc a) n (omega arith))

@@ -12,6 +12,5 @@ returns c =
     class-of _ _ _ _ _ _ (λ k h. getD-replicate 17 k 0 0 h) (g .gather .ensures) (r .scatter .ensures)
 
 pub add-class-spec : {M : Type 1} → statement M
-add-class-spec =
-    tie.close
-    (tie.spec (λ c. search needs) (λ c κs. search needs) (λ c. search needs) (λ c. search needs) (λ c κs. search needs) (λ c. search needs) returns)
+add-class-spec = tie.close (tie.spec (λ c. search needs) (λ c κs. search needs) (λ c. search needs)
+    (λ c. search needs) (λ c κs. search needs) (λ c. search needs) returns)

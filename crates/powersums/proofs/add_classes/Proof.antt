@@ -32,6 +32,5 @@ returns c =
     rw n at (p .loop .inv .2)
 
 pub add-classes-spec : {M : Type 1} → statement M
-add-classes-spec =
-    tie.close
-    (tie.spec Inv-loop μ-loop loop-holds (λ c κs. search needs) (λ c. search needs) (λ c. search needs) loop-again (λ c. search needs) returns)
+add-classes-spec = tie.close (tie.spec Inv-loop μ-loop loop-holds (λ c κs. search needs) (λ c. search needs)
+    (λ c. search needs) loop-again (λ c. search needs) returns)

@@ -33,6 +33,5 @@ returns c =
     (added-to (s .pre .1) (a .add-powers .ensures _ (t .multiples .ensures)))
 
 pub add-entry-spec : {M : Type 1} → statement M
-add-entry-spec =
-    tie.close
-    (tie.spec (λ c κs. search needs) entry-of-requires (λ c κs. search needs) weight-log-requires (λ c κs. search needs) (λ c. search needs) returns)
+add-entry-spec = tie.close (tie.spec (λ c κs. search needs) entry-of-requires (λ c κs. search needs)
+    weight-log-requires (λ c κs. search needs) (λ c. search needs) returns)

@@ -20,6 +20,5 @@ returns c =
     (d .add-classes .ensures) (r .reorder .ensures)
 
 pub power-sums-spec : {M : Type 1} → statement M
-power-sums-spec =
-    tie.close
-    (tie.spec (λ c κs. search needs) (λ c κs. search needs) (λ c κs. search needs) (λ c. search needs) (λ c. search needs) returns)
+power-sums-spec = tie.close (tie.spec (λ c κs. search needs) (λ c κs. search needs) (λ c κs. search needs)
+    (λ c. search needs) (λ c. search needs) returns)

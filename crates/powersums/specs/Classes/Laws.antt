@@ -13,10 +13,11 @@ use Prim.Native.Nat.{ℕ, zero, suc, _+_, _-_, _*_, _/_, _%_, _≤_, _<_}
 use native.Mathlib.Nat.{zero-add, mul-add}
 use native.Mathlib.Decide.{decLt}
 use native.Mathlib.Omega.{arith}
-use lib.ListN.{length, take, getD, List·getD-map, List·getD-eq-default}
+use lib.ListN.{length, take, getD, List·getD-eq-default}
 use lib.Seq.{length-take-le}
 use Rattle.cube.specs.Sum.{sum}
 use Rattle.cube.specs.Sum.Laws.{sum-ext, sum-swap}
+use Rattle.lists.specs.Xor.{positive}
 use Rattle.lists.specs.Additive.{additive-zero}
 use Rattle.bytefield.specs.Product.{_⊗_}
 use Rattle.bytefield.specs.Product.Laws.{⊗-assoc, ⊗-zero, zero-⊗, ⊗-additive-l, one-⊗}
@@ -24,7 +25,7 @@ use Rattle.bytefield.specs.Powers.{power, power-lt, power-add, power-cycle}
 use Rattle.packed.specs.Word.{scaled}
 use Rattle.packed.specs.Word.Laws.{scaled-sum, scaled-scaled}
 use Rattle.packed.specs.Share.{byteAt, share}
-use Rattle.packed.specs.Share.Laws.{length-share, byteAt-scaled, byteAt-sum}
+use Rattle.packed.specs.Share.Laws.{length-share, getD-share, byteAt-scaled, byteAt-sum}
 use Rattle.powersums.specs.PowerSum.{timesEach, entryOf, powerSum, PowerSums}
 use Rattle.powersums.specs.Sums.{xorGroup, total, total-of, total-blocks, powerSum-total}
 use Rattle.powersums.specs.Filled.{Filled}
@@ -35,18 +36,12 @@ use Rattle.powersums.specs.Classes.{weighed, progression, classSum, clas
 
 -- 03 to the e and to the 254·e give 1 together
 pub power-pos : (e : ℕ) → 0 < power e
-power-pos e = positive (power e) refl
+power-pos e = positive (power e) (λ h. let z : _≡_ {A = ℕ} 0 1 =
+    sym (zero-⊗ (power (254 * e))) ∙ ap (λ (x : ℕ). x ⊗ power (254 * e)) (sym h) ∙ sym (power-add e (254 * e)) ∙ ap power cycle ∙ power-cycle e
+    in omega arith)
   where
-    cycle : (e : ℕ) → e + 254 * e ≡ 255 * e
-    cycle e = omega arith
-
-    positive : (n : ℕ) → power e ≡ n → 0 < n
-    positive zero h =
-        let z : _≡_ {A = ℕ} 0 1 =
-        sym (zero-⊗ (power (254 * e))) ∙ ap (λ (x : ℕ). x ⊗ power (254 * e)) (sym h) ∙ sym (power-add e (254 * e))
-        ∙ ap power (cycle e) ∙ power-cycle e
-        in omega arith
-    positive (suc n) h = omega arith
+    cycle : e + 254 * e ≡ 255 * e
+    cycle = omega arith
 
 pub power-next : (k k′ s e j : ℕ) → power k ≡ power (s + e * j) → power k′ ≡ power (k + e) → power k′ ≡ power (s + e * (j + 1))
 power-next k k′ s e j p q =
@@ -61,13 +56,6 @@ getD-timesEach [] w k = sym (zero-⊗ (getD w k 0))
 getD-timesEach (a ∷ x) [] k = sym (⊗-zero (getD (a ∷ x) k 0))
 getD-timesEach (a ∷ x) (b ∷ w) zero = refl
 getD-timesEach (a ∷ x) (b ∷ w) (suc k) = getD-timesEach x w k
-
-byteAt-zero : (i : ℕ) → byteAt i 0 ≡ 0
-byteAt-zero i = additive-zero (byteAt i) (byteAt-sum i)
-
-getD-lane : (i : ℕ) (v : List ℕ) (k : ℕ) → getD (share i v) k 0 ≡ byteAt i (getD v k 0)
-unfolding share
-getD-lane i v k = ap (getD (share i v) k) (sym (byteAt-zero i)) ∙ List·getD-map (byteAt i) v k 0
 
 scaled-zero : (c : ℕ) → scaled 0 c ≡ 0
 scaled-zero c = additive-zero (λ v. scaled v c) (scaled-sum c)
@@ -122,7 +110,7 @@ module _ (i : ℕ) (small : i < 8) (v w : List ℕ) where
   unfolding weighed
   lane-weighed e =
       byteAt-scaled i (entryOf v (power e)) (entryOf w (power e)) small
-      ∙ ap (λ (x : ℕ). x ⊗ entryOf w (power e)) (sym (getD-lane i v (power e - 1)))
+      ∙ ap (λ (x : ℕ). x ⊗ entryOf w (power e)) (sym (getD-share i v (power e - 1)))
       ∙ sym (getD-timesEach (share i v) w (power e - 1))
 
   entry : ℕ → ℕ
@@ -167,6 +155,6 @@ pub power-sums-of : (v w z b t : List ℕ) → length t ≡ 255 → Filled 255 (
     → Filled 255 (λ j. getD b (place (254 - j)) 0) t → (i : ℕ) → i < 8 → PowerSums (timesEach (share i v) w) (share i t)
 power-sums-of v w z b t n fz ab ft i h = record {
   count = length-share i t ∙ n;
-  sum-at = λ j l. getD-lane i t j ∙ ap (byteAt i) (ft j l ∙ added-zeros fz ab (place (254 - j)) (omega arith))
+  sum-at = λ j l. getD-share i t j ∙ ap (byteAt i) (ft j l ∙ added-zeros fz ab (place (254 - j)) (omega arith))
       ∙ power-sums-at i h v w (254 - j) (omega arith);
 }

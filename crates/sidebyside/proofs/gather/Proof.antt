@@ -3,7 +3,7 @@ use mathlib.Core.Path.{_≡_, refl, ap, _∙_}
 use Prim.Native.Nat.{ℕ, _+_, _-_, _*_, _≤_}
 use native.Mathlib.Omega.{arith}
 use borrow.Author.Needs.{needs}
-use lib.ListN.{length, length-take, length-drop}
+use lib.ListN.{length}
 use Rattle.lists.specs.Part.{part}
 use Rattle.exchange.specs.Reading.{bytesAt}
 use Rattle.sidebyside.specs.Shares.{Gathered}
@@ -43,12 +43,6 @@ loop-holds c =
     let s : tie.Start Inv-loop μ-loop = search in
     (search needs, gathered-none (z .share-length .result) (s .args .shares .now) (s .args .from) (length (s .args .words .now)) _ (d .clear .ensures), refl)
 
-add-share-requires : tie.Need-add-share-requires Inv-loop μ-loop
-add-share-requires c κs =
-    let p : tie.At-loop Inv-loop μ-loop = search in
-    let g = p .loop .inv .1 .sized in
-    (simp (length-take, length-drop) (omega arith), omega (arith, size-at p))
-
 loop-again : tie.Need-loop-again Inv-loop μ-loop
 loop-again c =
     let d : tie.After-add-share Inv-loop μ-loop = search in
@@ -70,8 +64,7 @@ returns c =
     ∙ ap (λ (n : ℕ). bytesAt (part (a .shares .now) (i * n) n) (a .from) (length (a .words .now))) (z .share-length .ensures)
 
 pub gather-spec : {M : Type 1} → statement M
-gather-spec =
-    tie.close
-    (tie.spec Inv-loop μ-loop (λ c κs. search needs) (λ c κs. search needs) loop-holds (λ c. omega (arith, inside c)) (λ c. omega (arith, inside c))
-    (λ c. omega (arith, inside c)) (λ c. search needs) (λ c. search needs) (λ c. omega (arith, inside (c .before))) add-share-requires
-    (λ c. search needs) (λ c. search needs) loop-again (λ c. search needs) returns)
+gather-spec = tie.close (tie.spec Inv-loop μ-loop (λ c κs. search needs) (λ c κs. search needs) loop-holds
+    (λ c. omega (arith, inside c)) (λ c. omega (arith, inside c)) (λ c. omega (arith, inside c)) (λ c. search needs)
+    (λ c. search needs) (λ c. omega (arith, inside (c .before))) (λ c κs. search needs) (λ c. search needs)
+    (λ c. search needs) loop-again (λ c. search needs) returns)

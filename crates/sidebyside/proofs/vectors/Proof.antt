@@ -5,16 +5,17 @@ use Prim.Native.Nat.{_-_, _≤_, _<_}
 use native.Mathlib.Omega.{arith}
 use borrow.Author.Needs.{needs}
 use lib.ListN.{length, take, drop}
+use lib.Seq.{length-take-le}
 use Rattle.exchange.specs.Layout.{atX}
 use Rattle.exchange.specs.Reading.{bytesAt}
 use Rattle.sidebyside.specs.Shares.{shareOf}
-use Rattle.sidebyside.specs.Made.{Prepared, front-length, prepared-made, prepared-image, vector-made}
+use Rattle.sidebyside.specs.Made.{Prepared, prepared-made, prepared-image, vector-made}
 use Rattle.sidebyside.proofs.vectors.Statement.{statement}
 use Rattle.sidebyside.proofs.vectors.Tie as tie
 
 -- k words are lent
 front : (s : tie.Start) → s .args .p .k ≡ length (take (s .args .p .k) (s .args .words .now))
-front s = let f = s .pre .within in front-length (s .args .p .k) (s .args .words .now) (omega (arith, s .pre .sized-words))
+front s = let f = s .pre .within in sym (length-take-le (s .args .p .k) (s .args .words .now) (omega (arith, s .pre .sized-words)))
 
 gather-requires : tie.Need-gather-requires
 gather-requires c κs =
@@ -69,8 +70,7 @@ returns c =
     (d .gather .ensures i h ∙ ap (bytesAt (shareOf p (a .shares .now) i) (atX p)) (sym (front s)))
 
 pub vectors-spec : {M : Type 1} → statement M
-vectors-spec =
-    tie.close
-    (tie.spec (λ c. search needs) (λ c. search needs) (λ c. let s : tie.Start = search in front s) gather-requires (λ c. search needs)
-    (λ c. search needs) (λ c. search needs) (λ c. search needs) (λ c κs. search needs) image-requires (λ c. search needs) (λ c. search needs)
-    (λ c. search needs) (λ c. search needs) (λ c κs. search needs) (λ c. search needs) returns)
+vectors-spec = tie.close (tie.spec (λ c. search needs) (λ c. search needs)
+    (λ c. let s : tie.Start = search in front s) gather-requires (λ c. search needs) (λ c. search needs)
+    (λ c. search needs) (λ c. search needs) (λ c κs. search needs) image-requires (λ c. search needs)
+    (λ c. search needs) (λ c. search needs) (λ c. search needs) (λ c κs. search needs) (λ c. search needs) returns)

@@ -1,37 +1,24 @@
 -- The laws of shares side by side.
 --
---   zeros-share                    a share of words that are zero
---   share-append                   a share of joined words
 --   share-fits                     what is read of share i stands within all shares
 --   gathered-none, gathered-more   no share is in words that are zero; one share more
-use mathlib.Core.Path.{_≡_, refl, sym, ap, ap₂, _∙_}
-use mathlib.Core.List.{List, [], _∷_, _++_, map}
+use mathlib.Core.Path.{_≡_, refl, sym, ap, _∙_}
+use mathlib.Core.List.{List, [], _∷_, map}
 use Prim.Native.Nat.{ℕ, zero, suc, _+_, _-_, _*_, _≤_, _<_}
 use native.Mathlib.Decide.{ℕ-discrete}
 use native.Mathlib.Nat.{le-of-eq, not-suc-le-zero}
 use native.Mathlib.Omega.{arith}
 use lib.Dec.{lit<}
 use lib.ListN.{length, getD, take, drop, replicate, length-map, length-replicate}
-use Rattle.lists.specs.Additive.{additive-zero}
 use Rattle.lists.specs.Part.{part}
 use Rattle.lists.specs.Part.Laws.{length-part, part-part, part-fits}
 use Rattle.lists.specs.Sum.{xorList}
 use Rattle.lists.specs.Sum.Laws.{xorList-comm, xorList-zeros, length-xorList}
 use Rattle.exchange.specs.Reading.{bytesAt}
 use Rattle.exchange.specs.Reading.Laws.{length-bytesAt, bytesAt-part}
-use Rattle.packed.specs.Share.{byteAt, share, placed}
-use Rattle.packed.specs.Share.Laws.{byteAt-sum, share-own, share-rest}
+use Rattle.packed.specs.Share.{share, placed}
+use Rattle.packed.specs.Share.Laws.{zeros-share, share-own, share-rest}
 use Rattle.sidebyside.specs.Shares.{Gathered}
-
-pub zeros-share : (i n : ℕ) → share i (replicate n 0) ≡ replicate n 0
-unfolding share
-zeros-share i zero = refl
-zeros-share i (suc n) = ap₂ _∷_ (additive-zero (byteAt i) (byteAt-sum i)) (zeros-share i n)
-
-pub share-append : (i : ℕ) (v w : List ℕ) → share i (v ++ w) ≡ share i v ++ share i w
-unfolding share
-share-append i [] w = refl
-share-append i (a ∷ v) w = ap (_∷_ (byteAt i a)) (share-append i v w)
 
 lent-bytes : (n a : ℕ) (d : List ℕ) → ((k : ℕ) → getD d k 0 < 256) → (k : ℕ) → getD (take n (drop a d)) k 0 < 256
 lent-bytes zero a d h k = lit< tt

@@ -25,9 +25,6 @@ times₄ x y = (
   plus₂ (plus₂ (times₂ (x .0) (y .1)) (times₂ (x .1) (y .0))) (times₂ (x .1) (y .1)),
 )
 
-same-sum : (x y : Quad) → pointOps .add x y ≡ plus₄ x y
-same-sum x y = refl
-
 same-product : (x y : Quad) → pointOps .mul x y ≡ times₄ x y
 same-product x y = refl
 
