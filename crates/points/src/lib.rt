@@ -86,8 +86,8 @@ fn by_table(a: [u8; 4], table: &[u64]) -> u64
     read_at(table, 0, a[0])
 }
 
-// The product of the four bytes a with the point of which the table has the multiples, and the count one higher: every product of the
-// points field is made here.
+// The product of the four bytes a with the point of which the table has the multiples, and the count one higher. The steps by X and Z that
+// make a table are not counted; every other product of the points field is made here.
 pub fn counted_product(a: [u8; 4], table: &[u64], made: usize) -> Counted
     requires { ⌜ (32 ≤ length (now table)) × ((128 ≤ length (now table)) ⊎ Lower a) × (made < 18446744073709551615) ⌝ }
     ensures { λ r. ⌜ ((b : Point) → Multiplies (now (table .entry)) a b → r .point ≡ bytesOf (point a ⊠ b)) × (r .made ≡ made + 1) ⌝ }
