@@ -10,6 +10,7 @@ use Rattle.exchange.specs.Sequences.{joined}
 use Rattle.exchange.specs.Leaf.{state}
 pub mod Laws
 pub mod Seeds
+pub mod Written
 
 abbrev pub seedAt : List ℕ → ℕ → List ℕ
 seedAt seeds i = part seeds (16 * i) 16

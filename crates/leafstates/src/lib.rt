@@ -1,39 +1,39 @@
 // Layer 2: the states of all leaves, one after another.
 use leaves::STATES;
 use leaves::leaf_state;
+use lists::copy;
 use shake256::Sponge;
 use strings::begin;
 ghost use mathlib.Core.Path.{_≡_};
-ghost use Prim.Native.Nat.{_*_};
+ghost use Prim.Native.Nat.{_+_, _*_, _<_};
+ghost use lib.ListN.{drop};
 ghost use Rattle.lists.specs.Part.{putAt};
 ghost use Rattle.leaves.specs.After.{stateAfter};
 ghost use Rattle.leafstates.specs.States.{seedAt, statesOf};
-ghost use Rattle.leafstates.specs.Shapes.{PutState, States};
+ghost use Rattle.leafstates.specs.Shapes.{States};
 
-// The state of a leaf goes to its place among the states of all leaves, from its seed among the seeds of all leaves.
-fn put_state(start: Sponge, leaf: usize, seeds: &[u8], states: &mut [u8])
-    requires { ⌜ PutState leaf (now seeds) (now states) ⌝ }
-    ensures { λ _. ⌜ now (states .exit) ≡ putAt (now (states .entry)) (32 * leaf) (stateAfter start leaf (seedAt (now (seeds .entry)) leaf)) ⌝ }
+// The state of a leaf goes to its place, from its seed in the second half. The seed is copied first, since that of leaf
+// n−1 lies where its state goes.
+fn put_state(start: Sponge, leaf: usize, n: usize, states: &mut [u8])
+    requires { ⌜ States n (now states) × (leaf < n) ⌝ }
+    ensures { λ _. ⌜ now (states .exit) ≡ putAt (now (states .entry)) (32 * leaf) (stateAfter start leaf (seedAt (now (states .entry)) (n + leaf))) ⌝ }
 {
-    let from = 16 * leaf;
+    let from = 16 * (n + leaf);
     let to = 32 * leaf;
-    leaf_state(
-        start,
-        leaf,
-        &seeds[from..from + 16],
-        &mut states[to..to + 32],
-    );
+    let mut seed = [0u8; 16];
+    copy(&mut seed, &states[from..from + 16]);
+    leaf_state(start, leaf, &seed, &mut states[to..to + 32]);
 }
 
-// Fills `states` with the states of n leaves, from their seeds.
-pub fn leaf_states(prefix: &[u8], n: usize, seeds: &[u8], states: &mut [u8])
-    requires { ⌜ States n (now seeds) (now states) ⌝ }
-    ensures { λ _. ⌜ now (states .exit) ≡ statesOf (now (prefix .entry)) (now (seeds .entry)) n ⌝ }
+// The second half of `states` holds the seeds of n leaves; the states take their place.
+pub fn leaf_states(prefix: &[u8], n: usize, states: &mut [u8])
+    requires { ⌜ States n (now states) ⌝ }
+    ensures { λ _. ⌜ now (states .exit) ≡ statesOf (now (prefix .entry)) (drop (16 * n) (now (states .entry))) n ⌝ }
 {
     let start = begin(STATES, prefix);
     let mut i = 0;
     while i < n {
-        put_state(start, i, seeds, states);
+        put_state(start, i, n, states);
         i += 1;
     }
 }

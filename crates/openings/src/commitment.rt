@@ -6,40 +6,20 @@ use lists::equal;
 use parameters::Parameters;
 use seedtree::opened_seeds;
 ghost use mathlib.Core.Path.{_≡_};
-ghost use Prim.Native.Nat.{_*_};
-ghost use lib.ListN.{length, take, drop};
+ghost use lib.ListN.{take, drop};
 ghost use Rattle.lists.specs.Equal.{eqList};
-ghost use Rattle.exchange.specs.Layout as layout;
 ghost use Rattle.openings.specs.From.{statesFrom, digestFrom};
 ghost use Rattle.openings.specs.Asked.{SiblingsAsked, CommitmentAsked};
-
-// The length of the seeds of all leaves at D 8.
-const MOST_SEEDS: usize = 4096;
-
-// Fills `states` with the states of all leaves, by way of their seeds.
-fn states_by(
-    p: Parameters,
-    prefix: &[u8],
-    leaf: usize,
-    siblings: &[u8],
-    seeds: &mut [u8],
-    states: &mut [u8],
-)
-    requires { ⌜ SiblingsAsked p leaf (now siblings) (now states) × (length (now seeds) ≡ 16 * layout.leaves p) ⌝ }
-    ensures { λ _. ⌜ now (states .exit) ≡ statesFrom p (now (prefix .entry)) leaf (now (siblings .entry)) ⌝ }
-{
-    opened_seeds(prefix, p.d, leaf, siblings, seeds);
-    leaf_states(prefix, leaf_count(p), seeds, states);
-}
 
 // Fills `states` with the states of all leaves, from the sibling seeds of the hidden leaf.
 pub fn opened_states(p: Parameters, prefix: &[u8], leaf: usize, siblings: &[u8], states: &mut [u8])
     requires { ⌜ SiblingsAsked p leaf (now siblings) (now states) ⌝ }
     ensures { λ _. ⌜ now (states .exit) ≡ statesFrom p (now (prefix .entry)) leaf (now (siblings .entry)) ⌝ }
 {
-    let mut seeds = [0u8; MOST_SEEDS];
-    let size = 16 * leaf_count(p);
-    states_by(p, prefix, leaf, siblings, &mut seeds[..size], states);
+    let n = leaf_count(p);
+    let half = 16 * n;
+    opened_seeds(prefix, p.d, leaf, siblings, &mut states[half..]);
+    leaf_states(prefix, n, states);
 }
 
 // Is the recomputed h message 1's? The hidden leaf's commitment is the one given, any other's comes from its state.

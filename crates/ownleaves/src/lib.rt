@@ -24,26 +24,15 @@ pub const MOST_STATES: usize = 8192;
 // The longest aux: k + 2w + 4t at k 254, w 255, t 8.
 pub const LONGEST_AUX: usize = 796;
 
-// The seeds of 256 leaves.
-const MOST_SEEDS: usize = 4096;
-
-// Fills `states` with the states of all leaves, by way of their seeds.
-fn states_by(p: Parameters, salt: &[u8], root: &[u8], seeds: &mut [u8], states: &mut [u8])
-    requires { ⌜ StatesAsked p (now root) (now states) × (length (now seeds) ≡ 16 * spec.leaves p) ⌝ }
-    ensures { λ _. ⌜ now (states .exit) ≡ ownStates p (now (salt .entry)) (now (root .entry)) ⌝ }
-{
-    leaf_seeds(salt, p.d, root, seeds);
-    leaf_states(salt, leaf_count(p), seeds, states);
-}
-
 // Fills `states` with the states of all leaves, from the root's seed.
 pub fn own_states(p: Parameters, salt: &[u8], root: &[u8], states: &mut [u8])
     requires { ⌜ StatesAsked p (now root) (now states) ⌝ }
     ensures { λ _. ⌜ now (states .exit) ≡ ownStates p (now (salt .entry)) (now (root .entry)) ⌝ }
 {
-    let mut seeds = [0u8; MOST_SEEDS];
-    let size = 16 * leaf_count(p);
-    states_by(p, salt, root, &mut seeds[..size], states);
+    let n = leaf_count(p);
+    let half = 16 * n;
+    leaf_seeds(salt, p.d, root, &mut states[half..]);
+    leaf_states(salt, n, states);
 }
 
 // Fills aux with aux for the vector x, by way of the sum of all shares as hashed.

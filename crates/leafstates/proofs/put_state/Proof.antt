@@ -1,6 +1,6 @@
--- The seed's part is lent to be absorbed; the state's part is lent to be filled, and comes back as a write.
+-- The seed is copied before the state's part is lent, and that part comes back as a write.
 use mathlib.Core.Path.{_≡_, ap, _∙_}
-use Prim.Native.Nat.{_*_}
+use Prim.Native.Nat.{_+_, _*_}
 use borrow.Author.Needs.{needs}
 use lib.ListN.{length}
 use Rattle.lists.specs.Part.{putAt}
@@ -13,30 +13,18 @@ use Rattle.leafstates.proofs.put_state.Tie as tie
 
 returns : tie.Need-returns
 returns c =
-    let filled = c .before .before .leaf-state in
-    let args = c .before .before .before .before .before .before .before .args in
-    let w = args .states .now in
-    let seeds = args .seeds .now in
-    let ys = filled .last .1 .1 .1 .0 in
-    let is : ys ≡ stateAfter (args .start) (args .leaf) (seedAt seeds (args .leaf)) =
-    filled .ensures ∙ ap (stateAfter (args .start) (args .leaf)) (lent-part seeds (16 * args .leaf) 16) in
-    part-back w ys (32 * args .leaf) 32 (ap length is ∙ length-bytesAfter (args .start) (args .leaf) (seedAt seeds (args .leaf)) 32)
-    ∙ ap (putAt w (32 * args .leaf)) is
+    let filled : tie.After-leaf-state = search in
+    let copied : tie.After-copy = search in
+    let s : tie.Start = search in
+    let leaf = s .args .leaf in
+    let w = s .args .states .now in
+    let is : filled .leaf-state .last .1 .1 .1 .0 ≡ stateAfter (s .args .start) leaf (seedAt w (s .args .n + leaf)) =
+    filled .leaf-state .ensures ∙ ap (stateAfter (s .args .start) leaf) (copied .copy .ensures ∙ lent-part w (16 * (s .args .n + leaf)) 16) in
+    part-back w _ (32 * leaf) 32 (ap length is ∙ length-bytesAfter (s .args .start) leaf _ 32) ∙ ap (putAt w (32 * leaf)) is
 
 pub put-state-spec : {M : Type 1} → statement M
 put-state-spec =
     tie.close
-    (tie.spec
-    (λ c. search needs)
-    (λ c. search needs)
-    (λ c. search needs)
-    (λ c. search needs)
-    (λ c. search needs)
-    (λ c. search needs)
-    (λ c. search needs)
-    (λ c. search needs)
-    (λ c. search needs)
-    (λ c. search needs)
-    (λ c κs. search needs)
-    (λ c. search needs)
-    returns)
+    (tie.spec (λ c. search needs) (λ c. search needs) (λ c. search needs) (λ c. search needs) (λ c. search needs) (λ c. search needs)
+    (λ c. search needs) (λ c. search needs) (λ c κs. search needs) (λ c. search needs) (λ c. search needs) (λ c. search needs)
+    (λ c. search needs) (λ c. search needs) (λ c κs. search needs) (λ c. search needs) returns)

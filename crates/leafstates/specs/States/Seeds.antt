@@ -1,14 +1,16 @@
 -- The states of all leaves from the seeds that the seed tree gives.
 --
+-- half-back       the seeds, when the second half of the states, `&mut w[a..]`, comes back with them
 -- levels-is       the seed tree has D levels
 -- own-states      from all leaf seeds: the prover's states
 -- opened-states   from the leaf seeds that an opening's siblings give: the states of the leaves that it discloses
 use mathlib.Core.Path.{_≡_, sym, ap, _∙_}
-use mathlib.Core.List.{List}
-use Prim.Native.Nat.{ℕ, _*_, _≤_, _<_}
+use mathlib.Core.List.{List, _++_}
+use Prim.Native.Nat.{ℕ, _-_, _*_, _≤_, _<_}
 use native.Mathlib.Nat.{one-mul}
-use lib.ListN.{length}
-use lib.Seq.{length-take-le}
+use lib.ListN.{length, take, drop}
+use lib.Seq.{drop-at, length-take-le}
+use Rattle.lists.specs.Part.Laws.{tail-back}
 use Rattle.shake256.specs.Fips.{SHAKE256}
 use Rattle.shake256.proofs.Laws.{length-SHAKE256}
 use Rattle.parameters.specs.declared.Parameters.{Parameters}
@@ -23,6 +25,9 @@ use Rattle.seedtree.specs.Opened.{openedSeeds-part}
 use Rattle.leaves.specs.States.{stateAt}
 use Rattle.leafstates.specs.States.{statesOf}
 use Rattle.leafstates.specs.States.Laws.{stateAt-statesOf}
+
+pub half-back : (w seeds : List ℕ) (a : ℕ) → a ≤ length w → drop a (take a w ++ (seeds ++ drop (length w - a) (drop a w))) ≡ seeds
+half-back w seeds a h = ap (drop a) (tail-back w seeds a h) ∙ drop-at (take a w) seeds a (length-take-le a w h)
 
 pub levels-is : (p : Parameters) → levels p ≡ p .d
 unfolding bits

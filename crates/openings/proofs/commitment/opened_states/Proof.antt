@@ -1,37 +1,37 @@
--- The buffer of seeds has room for 256 of them.
-use mathlib.Core.Path.{sym, ap, _∙_}
-use Prim.Native.Nat.{ℕ, _*_}
+-- The seeds are made in the second half of `states`, and from them all states.
+use mathlib.Core.Path.{ap₂, _∙_}
+use Prim.Native.Nat.{_*_}
 use native.Mathlib.Omega.{arith}
 use borrow.Author.Needs.{needs}
-use Rattle.encoding.specs.Written.{front-length}
+use lib.ListN.{length-take, length-drop}
+use Rattle.exchange.specs.Layout.Laws.{leaves-is}
 use Rattle.leaves.specs.Shapes.Laws.{leaves-most}
+use Rattle.leafstates.specs.States.{statesOf}
+use Rattle.leafstates.specs.States.Seeds.{half-back, levels-is}
+use Rattle.openings.specs.From.{statesFrom}
 use Rattle.openings.proofs.commitment.opened_states.Statement.{statement}
 use Rattle.openings.proofs.commitment.opened_states.Tie as tie
 
-array-borrow-prefix-seeds : tie.Need-array-borrow-prefix-seeds
-array-borrow-prefix-seeds c =
-    let start = c .before .before .before .before in
-    omega (arith, c .leaf-count .ensures, leaves-most (start .args .p) (start .pre .within))
+opened-seeds-requires : tie.Need-opened-seeds-requires
+opened-seeds-requires c κs =
+    let s : tie.Start = search in
+    let n = leaves-is (s .args .p) in
+    let l = levels-is (s .args .p) in
+    record { levels = s .pre .within .d-most; is-leaf = omega arith; siblings = omega arith; size = simp (length-take, length-drop) (omega arith) }
 
-slice-aggregate-states-by : tie.Need-slice-aggregate-states-by
-slice-aggregate-states-by c =
-    let start = c .before .before .before .before .before in
-    front-length _ _ (omega (arith, c .before .leaf-count .ensures, leaves-most (start .args .p) (start .pre .within)))
-
-states-by-requires : tie.Need-states-by-requires
-states-by-requires c κs =
-    let start = c .before .before .before .before .before .before in
-    let n = c .before .before .leaf-count .ensures in
-    (start .pre, sym (front-length _ _ (omega (arith, n, leaves-most (start .args .p) (start .pre .within)))) ∙ ap (λ (n : ℕ). 16 * n) n)
+returns : tie.Need-returns
+unfolding statesFrom
+returns c =
+    let filled : tie.After-leaf-states = search in
+    let seeded : tie.After-opened-seeds = search in
+    let counted : tie.After-leaf-count = search in
+    let s : tie.Start = search in
+    filled .leaf-states .ensures
+    ∙ ap₂ (statesOf (s .args .prefix .now)) (half-back (s .args .states .now) _ (16 * counted .leaf-count .result) (omega arith) ∙ seeded .opened-seeds .ensures)
+    (counted .leaf-count .ensures)
 
 pub opened-states-spec : {M : Type 1} → statement M
 opened-states-spec =
     tie.close
-    (tie.spec
-    (λ c κs. search needs)
-    (λ c. search needs)
-    array-borrow-prefix-seeds
-    slice-aggregate-states-by
-    states-by-requires
-    (λ c. search needs)
-    (λ c. search needs))
+    (tie.spec (λ c κs. search needs) (λ c. search needs) (λ c. search needs) (λ c. search needs) (λ c. search needs) opened-seeds-requires
+    (λ c κs. let s : tie.Start = search in let most = leaves-most (s .args .p) (s .pre .within) in search needs) (λ c. search needs) returns)
