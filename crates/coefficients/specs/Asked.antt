@@ -1,7 +1,7 @@
 -- What the functions of this crate ask for.
 --
 --   RowsAsked p n shares matrix y rows   n shares within the limits, up to sixteen, one after another, with the key and room for S of each
---   Lent p weights g a b                 the weights and the complement of the m interpolation points, and two areas of words
+--   Lent p weights g a                   the weights and the complement of the m interpolation points, and an area of words
 use mathlib.Core.Path.{_≡_}
 use mathlib.Core.List.{List}
 use Prim.Native.Nat.{ℕ, _-_, _*_, _≤_}
@@ -19,8 +19,7 @@ pub record RowsAsked (p : Parameters) (n : ℕ) (shares matrix y rows : List ℕ
   pub sized-y : length y ≡ p .m - p .k
   pub sized-rows : length rows ≡ n * p .m
 
-pub record Lent (p : Parameters) (weights g a b : List ℕ) : Type 0 where
+pub record Lent (p : Parameters) (weights g a : List ℕ) : Type 0 where
   pub made-weights : weights ≡ weightsOf (p .m)
   pub made-complement : g ≡ complementOf (p .m)
   pub sized-a : length a ≡ 255
-  pub sized-b : length b ≡ 255

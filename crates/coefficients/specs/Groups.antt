@@ -12,8 +12,8 @@ use mathlib.Core.List.{List, _++_}
 use Prim.Native.Nat.{ℕ, _+_, _-_, _*_, _≤_, _<_}
 use native.Mathlib.Nat.{add-mul, mul-le-mul-right}
 use native.Mathlib.Omega.{arith}
-use lib.ListN.{length, take, drop}
-use lib.Seq.{take-at}
+use lib.ListN.{length, take, drop, replicate, length-replicate}
+use lib.Seq.{take-at, drop-at}
 use Rattle.lists.specs.Part.{part}
 use Rattle.lists.specs.Part.Laws.{part-part, part-fits, tail-part}
 use Rattle.parameters.specs.declared.Parameters.{Parameters}
@@ -23,6 +23,7 @@ use Rattle.exchange.specs.Sequences.Laws.{joined-ext}
 use Rattle.exchange.specs.Layout.{shareLength}
 use Rattle.exchange.specs.Values.{Key, xOf, SOf}
 use Rattle.packed.specs.Share.{share}
+use Rattle.interpolants.specs.Shares.{share-drop}
 use Rattle.sidebyside.specs.Shares.{shareOf}
 
 -- ---- parts of one size
@@ -55,13 +56,14 @@ rowOf p key first shares i = SOf p key first (shareOf p shares i)
 -- v is what the front of the words becomes, and words what interpolates it
 pub rows-made : (p : Parameters) (key : Key) (first : Bool) (shares : List ℕ) (n m : ℕ) (v rest words out : List ℕ) → n ≤ 8 → length v ≡ m
     → ((i : ℕ) → i < n → share i v ≡ xOf p key first (shareOf p shares i))
-    → ((i : ℕ) → i < 8 → share i (drop (255 - m) words) ≡ interpolantOf (share i (take m (v ++ rest))))
+    → ((i : ℕ) → i < 8 → share i words ≡ replicate (255 - m) 0 ++ interpolantOf (share i (take m (v ++ rest))))
     → out ≡ joined (λ i. share i (take (length words - (255 - m)) (drop (255 - m) words))) n
     → out ≡ joined (rowOf p key first shares) n
 unfolding SOf
 rows-made p key first shares n m v rest words out few lv ev ei eo =
     eo ∙ joined-ext _ (rowOf p key first shares) n
-    (λ i h. ap (share i) (tail-part words (255 - m)) ∙ ei i (omega arith)
+    (λ i h. ap (share i) (tail-part words (255 - m)) ∙ share-drop i (255 - m) words ∙ ap (drop (255 - m)) (ei i (omega arith))
+    ∙ drop-at (replicate (255 - m) 0) _ (255 - m) (length-replicate (255 - m) 0)
     ∙ ap (λ (x : List ℕ). interpolantOf (share i x)) (take-at v rest m lv) ∙ ap interpolantOf (ev i h))
 
 -- rows is what the group that is lent from share i on leaves

@@ -26,7 +26,7 @@ fn unpack(words: &[u64], n: usize, rows: &mut [u8])
     }
 }
 
-// rows becomes S of each of n shares, up to eight, from the weights and the complement g. a and b are work areas.
+// rows becomes S of each of n shares, up to eight, from the weights and the complement g. a is a work area.
 fn interpolate_group(
     p: Parameters,
     n: usize,
@@ -37,17 +37,16 @@ fn interpolate_group(
     weights: &[u8],
     g: &[u8],
     a: &mut [u64],
-    b: &mut [u64],
     rows: &mut [u8],
     log: &[u8; 256],
     pow: &[u8; 256],
 )
-    requires { ⌜ RowsAsked p n (now shares) (now matrix) (now y) (now rows) × (n ≤ 8) × Lent p (now weights) (now g) (now a) (now b) × (now log ≡ logs) × (now pow ≡ powers) ⌝ }
+    requires { ⌜ RowsAsked p n (now shares) (now matrix) (now y) (now rows) × (n ≤ 8) × Lent p (now weights) (now g) (now a) × (now log ≡ logs) × (now pow ≡ powers) ⌝ }
     ensures { λ _. ⌜ now (rows .exit) ≡ joined (λ i. SOf p (keyOf (now (matrix .entry)) (now (y .entry))) first (shareOf p (now (shares .entry)) i)) n ⌝ }
 {
     let m = p.m;
     sidebyside::vectors(p, n, shares, matrix, y, first, &mut a[..m]);
-    interpolants::interpolate(a, m, weights, g, b, log, pow);
+    interpolants::interpolate(a, m, weights, g, log, pow);
     let d = 255 - m;
     unpack(&a[d..], n, rows);
 }
@@ -63,7 +62,7 @@ fn group_size(left: usize) -> usize
     8
 }
 
-// rows becomes S of each of n shares, from the weights and the complement g. a and b are work areas.
+// rows becomes S of each of n shares, from the weights and the complement g. a is a work area.
 fn interpolate_with(
     p: Parameters,
     n: usize,
@@ -74,12 +73,11 @@ fn interpolate_with(
     weights: &[u8],
     g: &[u8],
     a: &mut [u64],
-    b: &mut [u64],
     rows: &mut [u8],
     log: &[u8; 256],
     pow: &[u8; 256],
 )
-    requires { ⌜ RowsAsked p n (now shares) (now matrix) (now y) (now rows) × Lent p (now weights) (now g) (now a) (now b) × (now log ≡ logs) × (now pow ≡ powers) ⌝ }
+    requires { ⌜ RowsAsked p n (now shares) (now matrix) (now y) (now rows) × Lent p (now weights) (now g) (now a) × (now log ≡ logs) × (now pow ≡ powers) ⌝ }
     ensures { λ _. ⌜ now (rows .exit) ≡ joined (λ i. SOf p (keyOf (now (matrix .entry)) (now (y .entry))) first (shareOf p (now (shares .entry)) i)) n ⌝ }
 {
     let size = sidebyside::share_length(p);
@@ -101,7 +99,6 @@ fn interpolate_with(
             weights,
             g,
             a,
-            b,
             &mut rows[to..f],
             log,
             pow,
@@ -130,7 +127,6 @@ pub fn interpolate_each(
     let mut g = [0u8; 256];
     let mut weights = [0u8; 255];
     let mut a = [0u64; 255];
-    let mut b = [0u64; 255];
     let m = p.m;
     let e = 256 - m;
     interpolants::complement(&mut g[..e], m, log, pow);
@@ -145,7 +141,6 @@ pub fn interpolate_each(
         &weights[..m],
         &g[..e],
         &mut a,
-        &mut b,
         rows,
         log,
         pow,

@@ -1,20 +1,21 @@
 -- S from power sums: T is the polynomial of the power sums of the weighted entries of x, and G the complement. T divided by G is S.
 --
---   interpolant-made    if T = r + G·s at every byte, with r shorter than G and m coefficients s, then s is S
+--   transform-elsewhere, transform-here
+--                       T is zero at the bytes above m, and G(f_i)·x_i at each point f_i
+--   interpolant-made    if T with these values is r + G·s at every byte, with r shorter than G and m coefficients s, then r is zero and s is S
 --
--- At the bytes above m both T and G are zero, so r is zero there, and then everywhere. At each point f_i the value of T is G(f_i)·x_i.
-use mathlib.Core.Path.{_≡_, sym, ap, _∙_}
-use mathlib.Core.List.{List}
-use Prim.Native.Nat.{ℕ, zero, _+_, _-_, _<_}
+-- At the bytes above m both T and G are zero, so r is zero there, and then everywhere.
+use mathlib.Core.Path.{_≡_, refl, sym, ap, ap₂, _∙_}
+use mathlib.Core.List.{List, [], _∷_, _++_}
+use Prim.Native.Nat.{ℕ, zero, suc, _+_, _-_, _<_}
 use native.Mathlib.Omega.{arith}
 use lib.Dec.{lit<}
-use lib.ListN.{length, getD, length-map, List·getD-eq-default}
+use lib.ListN.{length, getD, replicate, length-map, List·getD-eq-default}
 use lib.Seq.{ext-getD}
 use Rattle.lists.specs.Xor.{_⊕_, zero-⊕}
 use Rattle.algebra.specs.Ring.{ops}
 use Rattle.algebra.specs.Each.{each-from, each-to-map}
 use Rattle.algebra.specs.Polynomial.{eval, values, Zeros}
-use Rattle.algebra.specs.Polynomial.Evaluation.{eval-zeros}
 use Rattle.algebra.specs.Polynomial.Roots.{root-bound}
 use Rattle.algebra.specs.Polynomial.Maps.{map-eval}
 use Rattle.bytefield.specs.Product.{_⊗_, byteOps}
@@ -37,14 +38,14 @@ pub mod Transform
 -- ---- what the power sums are at the points, and elsewhere
 
 module _ (m : ℕ) (x t : List ℕ) (short : m < 256) (long : length x ≡ m) (sums : PowerSums (timesEach x (weightsOf m)) t) where
-  transform-elsewhere : (z : ℕ) → m < z → z < 256 → eval byteOps t z ≡ 0
+  pub transform-elsewhere : (z : ℕ) → m < z → z < 256 → eval byteOps t z ≡ 0
   transform-elsewhere z h k =
       transform-value (timesEach x (weightsOf m)) t z sums (omega arith) k
       ∙ ap (λ (c : ℕ). c ⊗ inverse z)
       (getD-timesEach x (weightsOf m) (z - 1) ∙ ap (λ (a : ℕ). a ⊗ getD (weightsOf m) (z - 1) 0) (List·getD-eq-default x 0 (omega arith)))
       ∙ simp bytefield
 
-  transform-here : (i : ℕ) → i < m → eval byteOps t (1 + i) ≡ eval byteOps (complementOf m) (1 + i) ⊗ getD x i 0
+  pub transform-here : (i : ℕ) → i < m → eval byteOps t (1 + i) ≡ eval byteOps (complementOf m) (1 + i) ⊗ getD x i 0
   transform-here i h =
       transform-value (timesEach x (weightsOf m)) t (1 + i) sums (omega arith) (omega arith)
       ∙ ap (λ (c : ℕ). c ⊗ inverse (1 + i))
@@ -62,20 +63,32 @@ module _ (m : ℕ) (x t : List ℕ) (short : m < 256) (long : length x ≡ m) (s
 
 -- ---- the division by G
 
+zeros-value : (n z : ℕ) → eval byteOps (replicate n 0) z ≡ 0
+unfolding eval
+zeros-value zero z = refl
+zeros-value (suc n) z = ap (λ (v : ℕ). 0 ⊕ z ⊗ v) (zeros-value n z) ∙ simp bytefield
+
+zeros-only : (r : List ℕ) → Bytes r → Zeros (ops byteRing) (inField r) → r ≡ replicate (length r) 0
+zeros-only [] h z = refl
+zeros-only (a ∷ r) h z = ap₂ _∷_ (byte-equal a 0 (h .0) (lit< tt) (z .0 ∙ sym byte-zero)) (zeros-only r (h .1) (z .1))
+
 module _ (m : ℕ) (x t r s : List ℕ) (short : m < 256) (long : length x ≡ m) (bytes-x : Bytes x)
-    (sums : PowerSums (timesEach x (weightsOf m)) t) (few : length r ≡ 255 - m) (bytes-r : Bytes r) (bytes-s : Bytes s)
-    (divided : (z : ℕ) → z < 256 → eval byteOps r z ⊕ eval byteOps (complementOf m) z ⊗ eval byteOps s z ≡ eval byteOps t z) where
+    (elsewhere : (z : ℕ) → m < z → z < 256 → eval byteOps t z ≡ 0)
+    (here : (i : ℕ) → i < m → eval byteOps t (1 + i) ≡ eval byteOps (complementOf m) (1 + i) ⊗ getD x i 0)
+    (few : length r ≡ 255 - m) (bytes-r : Bytes r) (bytes-s : Bytes s)
+    (divided : (z : ℕ) → eval byteOps r z ⊕ eval byteOps (complementOf m) z ⊗ eval byteOps s z ≡ eval byteOps t z) where
   remainder-root : (z : ℕ) → m < z → z < 256 → eval byteOps r z ≡ 0
   remainder-root z h k =
       sym (ap (λ (g : ℕ). eval byteOps r z ⊕ g ⊗ eval byteOps s z) (complement-zero m z h k) ∙ simp bytefield)
-      ∙ divided z k ∙ transform-elsewhere m x t short long sums z h k
+      ∙ divided z ∙ elsewhere z h k
 
-  remainder-zeros : Zeros (ops byteRing) (inField r)
-  remainder-zeros =
-      root-bound byteField (inField (missing m)) (inField r)
+  remainder-none : r ≡ replicate (255 - m) 0
+  remainder-none =
+      zeros-only r bytes-r (root-bound byteField (inField (missing m)) (inField r)
       (omega (arith, length-map r byte, length-map (missing m) byte, length-missing m)) (ascending-distinct (1 + m) (255 - m) (omega arith))
       (each-to-map (λ f. eval (ops byteRing) (inField r) f ≡ byteRing .zero) byte (missing m)
-      (each-from (λ f. eval (ops byteRing) (inField r) (byte f) ≡ byteRing .zero) 0 (missing m) root))
+      (each-from (λ f. eval (ops byteRing) (inField r) (byte f) ≡ byteRing .zero) 0 (missing m) root)))
+      ∙ ap (λ (n : ℕ). replicate n 0) few
     where
       root : (i : ℕ) → i < length (missing m) → eval (ops byteRing) (inField r) (byte (getD (missing m) i 0)) ≡ byteRing .zero
       root i h =
@@ -84,18 +97,14 @@ module _ (m : ℕ) (x t r s : List ℕ) (short : m < 256) (long : length x ≡ m
           sym (map-eval byteOps (ops byteRing) byte byte-homomorphism r (getD (missing m) i 0))
           ∙ ap byte (remainder-root (getD (missing m) i 0) (omega arith) (omega arith)) ∙ byte-zero
 
-  remainder-none : (z : ℕ) → eval byteOps r z ≡ 0
-  remainder-none z =
-      byte-equal (eval byteOps r z) 0 (byte-eval r z bytes-r) (lit< tt)
-      (map-eval byteOps (ops byteRing) byte byte-homomorphism r z ∙ eval-zeros byteRing (inField r) remainder-zeros (byte z) ∙ sym byte-zero)
-
   quotient-at : (i : ℕ) → i < m → eval byteOps s (1 + i) ≡ getD x i 0
   quotient-at i h =
       ⊗-cancel (eval byteOps (complementOf m) (1 + i)) (eval byteOps s (1 + i)) (getD x i 0)
       (complement-some m (1 + i) (omega arith) short) (byte-eval (complementOf m) (1 + i) (bytes-complement m short))
       (byte-eval s (1 + i) bytes-s) (byte-at i x bytes-x)
-      (sym (ap (λ (v : ℕ). v ⊕ eval byteOps (complementOf m) (1 + i) ⊗ eval byteOps s (1 + i)) (remainder-none (1 + i)) ∙ zero-⊕ _)
-      ∙ divided (1 + i) (omega arith) ∙ transform-here m x t short long sums i h)
+      (sym (ap (λ (v : ℕ). v ⊕ eval byteOps (complementOf m) (1 + i) ⊗ eval byteOps s (1 + i))
+      (ap (λ (l : List ℕ). eval byteOps l (1 + i)) remainder-none ∙ zeros-value (255 - m) (1 + i)) ∙ zero-⊕ _)
+      ∙ divided (1 + i) ∙ here i h)
 
   quotient-values : values byteOps s (interpolationPoints (length x)) ≡ x
   quotient-values =
@@ -105,11 +114,5 @@ module _ (m : ℕ) (x t r s : List ℕ) (short : m < 256) (long : length x ≡ m
       (λ i h. getD-map-in (eval byteOps s) (interpolationPoints (length x)) i (omega arith)
       ∙ ap (eval byteOps s) (ascending-at 1 (length x) i (omega arith)) ∙ quotient-at i (omega arith))
 
-pub interpolant-made : (m : ℕ) (x t r s : List ℕ) → 0 < m → m < 256 → length x ≡ m → Bytes x
-    → PowerSums (timesEach x (weightsOf m)) t
-    → length r ≡ 255 - m → length s ≡ m → Bytes r → Bytes s
-    → ((z : ℕ) → z < 256 → eval byteOps r z ⊕ eval byteOps (complementOf m) z ⊗ eval byteOps s z ≡ eval byteOps t z)
-    → s ≡ interpolantOf x
-interpolant-made m x t r s some short long bytes-x sums few same bytes-r bytes-s divided =
-    interpolant-unique x (omega arith) s bytes-x bytes-s (same ∙ sym long)
-    (quotient-values m x t r s short long bytes-x sums few bytes-r bytes-s divided)
+  pub interpolant-made : length s ≡ m → r ++ s ≡ replicate (255 - m) 0 ++ interpolantOf x
+  interpolant-made same = ap₂ _++_ remainder-none (interpolant-unique x (omega arith) s bytes-x bytes-s (same ∙ sym long) quotient-values)

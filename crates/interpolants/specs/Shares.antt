@@ -3,26 +3,27 @@
 --   share-drop           the shares of the end of a list
 --   complement-value     the value of the complement: its leading coefficient is 1
 --   length-low           it has 255 − m others
---   share-made           the end of the divided words is S
-use mathlib.Core.Path.{_≡_, refl, sym, ap, ap₂, subst, _∙_}
+--   quotient-made        what is G(f_i)·x_i at each point and zero at the bytes above m leaves zeros and S of x
+--   share-made           so the power sums leave zeros and S
+use mathlib.Core.Path.{_≡_, refl, sym, ap, _∙_}
 use mathlib.Core.List.{List, [], _∷_, _++_}
-use Prim.Native.Nat.{ℕ, zero, suc, _-_, _<_}
+use Prim.Native.Nat.{ℕ, zero, suc, _+_, _-_, _<_}
 use native.Mathlib.Omega.{arith}
 use lib.Dec.{lit<}
-use lib.ListN.{length, take, drop, length-drop}
+use lib.ListN.{length, take, drop, getD, replicate, length-drop, take-append-drop}
 use lib.Seq.{length-take-le}
 use Rattle.lists.specs.Xor.{_⊕_}
 use Rattle.algebra.specs.Polynomial.{eval, pow}
 use Rattle.bytefield.specs.Product.{_⊗_, byteOps}
 use Rattle.bytefield.specs.Product.Laws.{bytefield, ⊗-lt, one-⊗}
-use Rattle.polynomial.specs.Bytes.{bytes-take}
+use Rattle.polynomial.specs.Bytes.{Bytes, bytes-take}
 use Rattle.polynomial.specs.Interpolant.{interpolantOf}
 use Rattle.packed.specs.Share.{share}
 use Rattle.packed.specs.Share.Laws.{length-share}
 use Rattle.powersums.specs.PowerSum.{timesEach, PowerSums}
 use Rattle.interpolants.specs.Complement.{complementOf, weightsOf}
 use Rattle.interpolants.specs.Complement.Laws.{length-complement, complement-monic}
-use Rattle.interpolants.specs.Interpolating.{interpolant-made}
+use Rattle.interpolants.specs.Interpolating.{transform-elsewhere, transform-here, interpolant-made}
 use Rattle.interpolants.specs.Division.{monicAt, Divided}
 use Rattle.interpolants.specs.Division.Laws.{eval-append, bytes-share}
 
@@ -53,21 +54,26 @@ module _ (m : ℕ) (some : 0 < m) (few : m < 256) where
   pub length-low : (g : List ℕ) → g ≡ complementOf m → length (take (255 - m) g) ≡ 255 - m
   length-low g e = let l : length g ≡ 256 - m = ap length e ∙ length-complement m few in length-take-le (255 - m) g (omega arith)
 
-  quotient-value : (i : ℕ) (t a : List ℕ) → i < 8 → Divided (take (255 - m) (complementOf m)) t a → (z : ℕ)
-      → eval byteOps (take (255 - m) (share i a)) z ⊕ eval byteOps (complementOf m) z ⊗ eval byteOps (share i (drop (255 - m) a)) z ≡ eval byteOps (share i t) z
-  quotient-value i t a h divided z =
-      ap₂ (λ (v : ℕ) (l : List ℕ). eval byteOps (take (255 - m) (share i a)) z ⊕ v ⊗ eval byteOps l z) (complement-value z) (share-drop i (255 - m) a)
-      ∙ ap (λ (n : ℕ). eval byteOps (take n (share i a)) z ⊕ monicAt (take (255 - m) (complementOf m)) z ⊗ eval byteOps (drop n (share i a)) z) (sym (length-low (complementOf m) refl))
-      ∙ divided i h z
+  -- a is what division of t by the complement left
+  pub quotient-made : (i : ℕ) (x t a g : List ℕ) → i < 8 → length a ≡ 255 → g ≡ complementOf m → length x ≡ m → Bytes x
+      → ((z : ℕ) → m < z → z < 256 → eval byteOps (share i t) z ≡ 0)
+      → ((j : ℕ) → j < m → eval byteOps (share i t) (1 + j) ≡ eval byteOps (complementOf m) (1 + j) ⊗ getD x j 0)
+      → Divided (take (255 - m) g) t a → share i a ≡ replicate (255 - m) 0 ++ interpolantOf x
+  quotient-made i x t a g h la eg lx bx elsewhere here divided =
+      let ls = length-share i a in
+      let r = take (255 - m) (share i a) in
+      let s = drop (255 - m) (share i a) in
+      sym (take-append-drop (255 - m) (share i a))
+      ∙ interpolant-made m x (share i t) r s few lx bx elsewhere here (length-take-le (255 - m) (share i a) (omega arith))
+      (bytes-take (255 - m) (share i a) (bytes-share i a)) (rw share-drop at (bytes-share i (drop (255 - m) a)))
+      (λ z. rw (complement-value z, length-low (complementOf m) refl) (rw (eg, length-low (complementOf m) refl) at divided i h z))
+      (simp length-drop (omega arith))
 
   pub share-made : (i : ℕ) (a t a′ w g : List ℕ) → i < 8 → length a ≡ 255 → length a′ ≡ 255 → w ≡ weightsOf m → g ≡ complementOf m
       → PowerSums (timesEach (share i (take m a)) w) (share i t) → Divided (take (255 - m) g) t a′
-      → share i (drop (255 - m) a′) ≡ interpolantOf (share i (take m a))
+      → share i a′ ≡ replicate (255 - m) 0 ++ interpolantOf (share i (take m a))
   share-made i a t a′ w g h la la′ ew eg sums divided =
-      let ls = length-share i a′ in
       let lx : length (share i (take m a)) ≡ m = length-share i (take m a) ∙ length-take-le m a (omega arith) in
-      let lr : length (take (255 - m) (share i a′)) ≡ 255 - m = length-take-le (255 - m) (share i a′) (omega arith) in
-      let lq : length (share i (drop (255 - m) a′)) ≡ m = length-share i (drop (255 - m) a′) ∙ simp length-drop (omega arith) in
-      interpolant-made m (share i (take m a)) (share i t) (take (255 - m) (share i a′)) (share i (drop (255 - m) a′)) some few lx
-      (bytes-share i (take m a)) (rw ew at sums) lr lq (bytes-take (255 - m) (share i a′) (bytes-share i a′)) (bytes-share i (drop (255 - m) a′))
-      (λ z b. quotient-value i t a′ h (subst (λ (l : List ℕ). Divided (take (255 - m) l) t a′) eg divided) z)
+      let p = rw ew at sums in
+      quotient-made i (share i (take m a)) t a′ g h la′ eg lx (bytes-share i (take m a))
+      (transform-elsewhere m (share i (take m a)) (share i t) few lx p) (transform-here m (share i (take m a)) (share i t) few lx p) divided

@@ -1,7 +1,8 @@
 // S of up to eight vectors side by side, by power sums and one division. The complement and the weights depend on m alone and are made once.
 ghost use mathlib.Core.Path.{_≡_};
+ghost use mathlib.Core.List.{_++_};
 ghost use Prim.Native.Nat.{ℕ, _-_, _<_, _≤_};
-ghost use lib.ListN.{length, take, drop};
+ghost use lib.ListN.{length, take, replicate};
 ghost use Rattle.algebra.specs.Polynomial.{eval};
 ghost use Rattle.bytefield.specs.Product.{byteOps};
 ghost use Rattle.bytefield.specs.Tables.{logs, powers};
@@ -62,20 +63,19 @@ fn divide(t: &mut [u64], g: &[u8])
     }
 }
 
-// a, whose first m words are vectors side by side, becomes S of each: it stands in the last m words. b is a work area.
+// a, whose first m words are vectors side by side, becomes S of each in the last m words, behind zeros.
 pub fn interpolate(
     a: &mut [u64],
     m: usize,
     weights: &[u8],
     g: &[u8],
-    b: &mut [u64],
     log: &[u8; 256],
     pow: &[u8; 256],
 )
-    requires { ⌜ (length (now a) ≡ 255) × (length (now b) ≡ 255) × (0 < m) × (m < 256) × (now weights ≡ weightsOf m) × (now g ≡ complementOf m) × (now log ≡ logs) × (now pow ≡ powers) ⌝ }
-    ensures { λ _. ⌜ ((i : ℕ) → i < 8 → share i (drop (255 - m) (now (a .exit))) ≡ interpolantOf (share i (take m (now (a .entry))))) ⌝ }
+    requires { ⌜ (length (now a) ≡ 255) × (0 < m) × (m < 256) × (now weights ≡ weightsOf m) × (now g ≡ complementOf m) × (now log ≡ logs) × (now pow ≡ powers) ⌝ }
+    ensures { λ _. ⌜ ((i : ℕ) → i < 8 → share i (now (a .exit)) ≡ replicate (255 - m) 0 ++ interpolantOf (share i (take m (now (a .entry))))) ⌝ }
 {
-    powersums::power_sums(a, m, weights, b, log, pow);
+    powersums::power_sums(a, m, weights, log, pow);
     let d = 255 - m;
     divide(a, &g[..d]);
 }

@@ -163,19 +163,12 @@ fn reorder(a: &mut [u64], b: &[u64])
     }
 }
 
-// a, whose first m words are the vectors, becomes their power sums, each entry weighed; b is a work area.
-pub fn power_sums(
-    a: &mut [u64],
-    m: usize,
-    weights: &[u8],
-    b: &mut [u64],
-    log: &[u8; 256],
-    pow: &[u8; 256],
-)
-    requires { ⌜ Asked (now a) m (now weights) (now log) (now pow) × (length (now b) ≡ 255) ⌝ }
+// a, whose first m words are the vectors, becomes their power sums, each entry weighed.
+pub fn power_sums(a: &mut [u64], m: usize, weights: &[u8], log: &[u8; 256], pow: &[u8; 256])
+    requires { ⌜ Asked (now a) m (now weights) (now log) (now pow) ⌝ }
     ensures { λ _. ⌜ ((i : ℕ) → i < 8 → PowerSums (timesEach (share i (take m (now (a .entry)))) (now (weights .entry))) (share i (now (a .exit)))) ⌝ }
 {
-    packed::clear(b);
-    add_classes(b, a, m, weights, log, pow);
-    reorder(a, b);
+    let mut b = [0u64; 255];
+    add_classes(&mut b, a, m, weights, log, pow);
+    reorder(a, &b);
 }

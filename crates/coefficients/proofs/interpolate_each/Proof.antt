@@ -1,4 +1,4 @@
--- The fronts of two arrays become the complement and the weights (`front-made`), and are lent with two areas of words.
+-- The fronts of two arrays become the complement and the weights (`front-made`), and are lent with an area of words.
 use mathlib.Core.Path.{_≡_, refl, sym, ap, _∙_}
 use mathlib.Core.List.{List, _++_}
 use Prim.Native.Nat.{ℕ, _-_, _≤_}
@@ -62,7 +62,7 @@ interpolate-with-requires c κs =
     let d : tie.After-complement = search in
     let s : tie.Start = search in
     let (r, el, ep) = s .pre in
-    (r, record { made-weights = weights-made v .front; made-complement = g-made d .front; sized-a = refl; sized-b = refl }, el, ep)
+    (r, record { made-weights = weights-made v .front; made-complement = g-made d .front; sized-a = refl }, el, ep)
 
 pub interpolate-each-spec : {M : Type 1} → statement M
 interpolate-each-spec =
@@ -72,4 +72,4 @@ interpolate-each-spec =
     (λ c. let d : tie.After-complement = search in g-made d .room) (λ c. let d : tie.After-complement = search in g-made d .sized) weights-requires
     (λ c. let v : tie.After-weights2 = search in weights-made v .room) (λ c. let v : tie.After-weights2 = search in weights-made v .sized)
     (λ c. let d : tie.After-complement = search in g-made d .room) (λ c. let d : tie.After-complement = search in g-made d .sized)
-    (λ c. search needs) (λ c. search needs) interpolate-with-requires (λ c. search needs) (λ c. search needs))
+    (λ c. search needs) interpolate-with-requires (λ c. search needs) (λ c. search needs))

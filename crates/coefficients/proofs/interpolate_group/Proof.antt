@@ -49,7 +49,7 @@ interpolate-requires c κs =
     let s = back-to-start v in
     let (r, few, l, el, ep) = s .pre in
     let w = r .within in
-    (words v, l .sized-b, omega arith, omega arith, l .made-weights, l .made-complement, el, ep)
+    (words v, omega arith, omega arith, l .made-weights, l .made-complement, el, ep)
 
 unpack-requires : tie.Need-unpack-requires
 unpack-requires c κs =
@@ -78,4 +78,4 @@ pub interpolate-group-spec : {M : Type 1} → statement M
 interpolate-group-spec = tie.close (tie.spec (λ c. search needs) (λ c. let s : tie.Start = search in front s)
     vectors-requires interpolate-requires (λ c. search needs) (λ c. search needs) (λ c. search needs)
     (λ c. search needs) (λ c. search needs) unpack-requires (λ c. search needs) (λ c. search needs)
-    (λ c. search needs) returns)
+    returns)
