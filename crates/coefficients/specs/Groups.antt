@@ -12,10 +12,10 @@ use mathlib.Core.List.{List, _++_}
 use Prim.Native.Nat.{ℕ, _+_, _-_, _*_, _≤_, _<_}
 use native.Mathlib.Nat.{add-mul, mul-le-mul-right}
 use native.Mathlib.Omega.{arith}
-use lib.ListN.{length, take, drop, replicate, length-replicate}
-use lib.Seq.{take-at, drop-at}
+use lib.ListN.{length, take, drop, replicate}
+use lib.Seq.{take-at}
 use Rattle.lists.specs.Part.{part}
-use Rattle.lists.specs.Part.Laws.{part-part, part-fits, tail-part}
+use Rattle.lists.specs.Part.Laws.{part-part, part-fits}
 use Rattle.parameters.specs.declared.Parameters.{Parameters}
 use Rattle.polynomial.specs.Interpolant.{interpolantOf}
 use Rattle.exchange.specs.Sequences.{joined}
@@ -23,7 +23,7 @@ use Rattle.exchange.specs.Sequences.Laws.{joined-ext}
 use Rattle.exchange.specs.Layout.{shareLength}
 use Rattle.exchange.specs.Values.{Key, xOf, SOf}
 use Rattle.packed.specs.Share.{share}
-use Rattle.interpolants.specs.Shares.{share-drop}
+use Rattle.interpolants.specs.Shares.{share-end}
 use Rattle.sidebyside.specs.Shares.{shareOf}
 
 -- ---- parts of one size
@@ -62,8 +62,7 @@ pub rows-made : (p : Parameters) (key : Key) (first : Bool) (shares : List ℕ) 
 unfolding SOf
 rows-made p key first shares n m v rest words out few lv ev ei eo =
     eo ∙ joined-ext _ (rowOf p key first shares) n
-    (λ i h. ap (share i) (tail-part words (255 - m)) ∙ share-drop i (255 - m) words ∙ ap (drop (255 - m)) (ei i (omega arith))
-    ∙ drop-at (replicate (255 - m) 0) _ (255 - m) (length-replicate (255 - m) 0)
+    (λ i h. share-end i m words _ (ei i (omega arith))
     ∙ ap (λ (x : List ℕ). interpolantOf (share i x)) (take-at v rest m lv) ∙ ap interpolantOf (ev i h))
 
 -- rows is what the group that is lent from share i on leaves

@@ -63,7 +63,7 @@ module _ (m : ℕ) (x t : List ℕ) (short : m < 256) (long : length x ≡ m) (s
 
 -- ---- the division by G
 
-zeros-value : (n z : ℕ) → eval byteOps (replicate n 0) z ≡ 0
+pub zeros-value : (n z : ℕ) → eval byteOps (replicate n 0) z ≡ 0
 unfolding eval
 zeros-value zero z = refl
 zeros-value (suc n) z = ap (λ (v : ℕ). 0 ⊕ z ⊗ v) (zeros-value n z) ∙ simp bytefield

@@ -4,3 +4,4 @@ pub mod Interpolating
 pub mod Division
 pub mod Loops
 pub mod Shares
+pub mod Vanishing

@@ -1,6 +1,6 @@
 -- The quotient of the power sums by the complement is S, share by share.
 --
---   share-drop           the shares of the end of a list
+--   share-end            the end of a share behind zeros
 --   complement-value     the value of the complement: its leading coefficient is 1
 --   length-low           it has 255 − m others
 --   quotient-made        what is G(f_i)·x_i at each point and zero at the bytes above m leaves zeros and S of x
@@ -10,8 +10,9 @@ use mathlib.Core.List.{List, [], _∷_, _++_}
 use Prim.Native.Nat.{ℕ, zero, suc, _+_, _-_, _<_}
 use native.Mathlib.Omega.{arith}
 use lib.Dec.{lit<}
-use lib.ListN.{length, take, drop, getD, replicate, length-drop, take-append-drop}
-use lib.Seq.{length-take-le}
+use lib.ListN.{length, take, drop, getD, replicate, length-replicate, length-drop, take-append-drop}
+use lib.Seq.{drop-at, length-take-le}
+use Rattle.lists.specs.Part.Laws.{tail-part}
 use Rattle.lists.specs.Xor.{_⊕_}
 use Rattle.algebra.specs.Polynomial.{eval, pow}
 use Rattle.bytefield.specs.Product.{_⊗_, byteOps}
@@ -27,11 +28,17 @@ use Rattle.interpolants.specs.Interpolating.{transform-elsewhere, transf
 use Rattle.interpolants.specs.Division.{monicAt, Divided}
 use Rattle.interpolants.specs.Division.Laws.{eval-append, bytes-share}
 
-pub share-drop : (i n : ℕ) (t : List ℕ) → share i (drop n t) ≡ drop n (share i t)
+share-drop : (i n : ℕ) (t : List ℕ) → share i (drop n t) ≡ drop n (share i t)
 unfolding share
 share-drop i zero t = refl
 share-drop i (suc n) [] = refl
 share-drop i (suc n) (v ∷ t) = share-drop i n t
+
+-- the end as it is lent
+pub share-end : (i m : ℕ) (a x : List ℕ) → share i a ≡ replicate (255 - m) 0 ++ x → share i (take (length a - (255 - m)) (drop (255 - m) a)) ≡ x
+share-end i m a x e =
+    ap (share i) (tail-part a (255 - m)) ∙ share-drop i (255 - m) a ∙ ap (drop (255 - m)) e
+    ∙ drop-at (replicate (255 - m) 0) x (255 - m) (length-replicate (255 - m) 0)
 
 pow-byte : (z n : ℕ) → pow byteOps z n < 256
 unfolding pow
@@ -41,7 +48,7 @@ pow-byte z (suc n) = ⊗-lt (pow byteOps z n) z
 one-value : (z w : ℕ) → w < 256 → w ⊗ (1 ⊕ z ⊗ 0) ≡ w
 one-value z w h = simp bytefield (one-⊗ w h)
 
-monic-value : (g : List ℕ) (z : ℕ) → eval byteOps (g ++ (1 ∷ [])) z ≡ monicAt g z
+pub monic-value : (g : List ℕ) (z : ℕ) → eval byteOps (g ++ (1 ∷ [])) z ≡ monicAt g z
 unfolding eval
 monic-value g z =
     eval-append g (1 ∷ []) z (lit< tt, tt)
@@ -49,7 +56,7 @@ monic-value g z =
 
 module _ (m : ℕ) (some : 0 < m) (few : m < 256) where
   pub complement-value : (z : ℕ) → eval byteOps (complementOf m) z ≡ monicAt (take (255 - m) (complementOf m)) z
-  complement-value z = ap (λ (p : List ℕ). eval byteOps p z) (complement-monic m few) ∙ monic-value (take (255 - m) (complementOf m)) z
+  complement-value z = ap (λ (p : List ℕ). eval byteOps p z) (complement-monic m) ∙ monic-value (take (255 - m) (complementOf m)) z
 
   pub length-low : (g : List ℕ) → g ≡ complementOf m → length (take (255 - m) g) ≡ 255 - m
   length-low g e = let l : length g ≡ 256 - m = ap length e ∙ length-complement m few in length-take-le (255 - m) g (omega arith)

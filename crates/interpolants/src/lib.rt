@@ -6,7 +6,7 @@ ghost use lib.ListN.{length, take, replicate};
 ghost use Rattle.algebra.specs.Polynomial.{eval};
 ghost use Rattle.bytefield.specs.Product.{byteOps};
 ghost use Rattle.bytefield.specs.Tables.{logs, powers};
-ghost use Rattle.polynomial.specs.Interpolant.{interpolantOf};
+ghost use Rattle.polynomial.specs.Interpolant.{interpolantOf, vanishingOf};
 ghost use Rattle.packed.specs.Share.{share};
 ghost use Rattle.interpolants.specs.Complement.{complementOf, weightsOf};
 ghost use Rattle.interpolants.specs.Division.{Divided};
@@ -61,6 +61,20 @@ fn divide(t: &mut [u64], g: &[u8])
         let table = packed::multiples(t[i]);
         packed::add_multiples(&mut t[low..i], g, &table);
     }
+}
+
+// out, of m bytes, becomes the coefficients of F but its leading one, where g is the complement G: X^255 + 1 less X^m·G, divided by G.
+pub fn vanishing(out: &mut [u8], g: &[u8])
+    requires { ⌜ (0 < length (now out)) × (length (now out) < 256) × (now g ≡ complementOf (length (now out))) ⌝ }
+    ensures { λ _. ⌜ now (out .exit) ≡ take (length (now (out .entry))) (vanishingOf (length (now (out .entry)))) ⌝ }
+{
+    let m = out.len();
+    let d = 255 - m;
+    let mut a = [0u64; 255];
+    a[0] = 1;
+    packed::add_share(&mut a[m..], &g[..d], 0);
+    divide(&mut a, &g[..d]);
+    packed::share(&a[d..], 0, out);
 }
 
 // a, whose first m words are vectors side by side, becomes S of each in the last m words, behind zeros.

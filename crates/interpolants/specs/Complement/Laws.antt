@@ -20,17 +20,16 @@ use lib.Dec.{lit<}
 use lib.ListN.{length, take, getD}
 use Rattle.lists.specs.Xor.{positive}
 use Rattle.algebra.specs.Ring.{ops}
-use Rattle.algebra.specs.Each.{each-from, each-at, each-of-map, each-to-map}
-use Rattle.algebra.specs.Polynomial.{eval, product, vanishing}
+use Rattle.algebra.specs.Each.{each-from, each-to-map}
+use Rattle.algebra.specs.Polynomial.{eval, vanishing}
 use Rattle.algebra.specs.Polynomial.Lengths.{length-product}
-use Rattle.algebra.specs.Polynomial.Products.{product-roots, leading-product}
 use Rattle.algebra.specs.Polynomial.Quotients.{vanishing-elsewhere}
-use Rattle.algebra.specs.Polynomial.Maps.{map-eval, map-product}
+use Rattle.algebra.specs.Polynomial.Maps.{map-eval}
 use Rattle.bytefield.specs.Product.{_⊗_, byteOps}
-use Rattle.bytefield.specs.Byte.{Byte, byte, byteRing, byteField, byte-zero, byte-one, byte-homomorphism}
-use Rattle.polynomial.specs.Bytes.{Bytes, inField, byte-equal, byte-eval, bytes-monic, bytes-product}
+use Rattle.bytefield.specs.Byte.{Byte, byte, byteRing, byteField, byte-zero, byte-homomorphism}
+use Rattle.polynomial.specs.Bytes.{Bytes, inField, byte-equal, byte-eval, bytes-product}
 use Rattle.polynomial.specs.Interpolant.{ascending}
-use Rattle.polynomial.specs.Interpolant.Laws.{length-ascending, ascending-at}
+use Rattle.polynomial.specs.Interpolant.Laws.{length-ascending, ascending-at, product-in-field, product-monic, product-zero}
 use Rattle.interpolants.specs.Cancel.{⊗-some}
 use Rattle.interpolants.specs.Complement.{complementOf, weightsFrom, weightsOf}
 
@@ -56,36 +55,21 @@ pub bytes-complement : (m : ℕ) → m < 256 → Bytes (complementOf m)
 unfolding complementOf
 bytes-complement m h = bytes-product (1 ∷ []) (missing m) (lit< tt, tt)
 
-complement-in-field : (m : ℕ) → inField (complementOf m) ≡ vanishing (ops byteRing) (inField (missing m))
+pub complement-monic : (m : ℕ) → complementOf m ≡ take (255 - m) (complementOf m) ++ (1 ∷ [])
 unfolding complementOf
-complement-in-field m =
-    map-product byteOps (ops byteRing) byte byte-homomorphism (1 ∷ []) (missing m)
-    ∙ ap (λ (o : Byte). product (ops byteRing) (o ∷ []) (inField (missing m))) byte-one
-
-pub complement-monic : (m : ℕ) → m < 256 → complementOf m ≡ take (255 - m) (complementOf m) ++ (1 ∷ [])
-complement-monic m h =
-    let l = leading-product byteRing [] (byteRing .one) (inField (missing m)) in
-    let n = length-complement m h in
-    bytes-monic (255 - m) (complementOf m) (l .0) (bytes-complement m h) (omega arith) (complement-in-field m ∙ l .1)
+complement-monic m = product-monic (255 - m) (missing m) (length-missing m)
 
 value-in-field : (m z : ℕ) → byte (eval byteOps (complementOf m) z) ≡ eval (ops byteRing) (vanishing (ops byteRing) (inField (missing m))) (byte z)
+unfolding complementOf
 value-in-field m z =
     map-eval byteOps (ops byteRing) byte byte-homomorphism (complementOf m) z
-    ∙ ap (λ (p : List Byte). eval (ops byteRing) p (byte z)) (complement-in-field m)
+    ∙ ap (λ (p : List Byte). eval (ops byteRing) p (byte z)) (product-in-field (missing m))
 
 pub complement-zero : (m z : ℕ) → m < z → z < 256 → eval byteOps (complementOf m) z ≡ 0
+unfolding complementOf
 complement-zero m z h k =
-    byte-equal (eval byteOps (complementOf m) z) 0 (byte-eval (complementOf m) z (bytes-complement m (omega arith))) (lit< tt)
-    (value-in-field m z ∙ root ∙ sym byte-zero)
-  where
-    place : getD (missing m) (z - (1 + m)) 0 ≡ z
-    place = missing-at m (z - (1 + m)) (omega arith) ∙ omega arith
-
-    root : eval (ops byteRing) (vanishing (ops byteRing) (inField (missing m))) (byte z) ≡ byteRing .zero
-    root =
-        rw place at (each-at (λ f. eval (ops byteRing) (vanishing (ops byteRing) (inField (missing m))) (byte f) ≡ byteRing .zero) 0 (missing m)
-        (each-of-map (λ f. eval (ops byteRing) (vanishing (ops byteRing) (inField (missing m))) f ≡ byteRing .zero) byte (missing m)
-        (product-roots byteRing (byteRing .one ∷ []) (inField (missing m)))) (z - (1 + m)) (omega (arith, length-missing m)))
+    let p : getD (missing m) (z - (1 + m)) 0 ≡ z = missing-at m (z - (1 + m)) (omega arith) ∙ omega arith in
+    rw p at (product-zero (missing m) (z - (1 + m)) (omega (arith, length-missing m)))
 
 pub complement-not : (m z : ℕ) → z ≤ m → m < 256 → eval byteOps (complementOf m) z ≡ 0 → ⊥
 complement-not m z h k e =

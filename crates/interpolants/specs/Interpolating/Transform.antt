@@ -37,13 +37,13 @@ sums c n (suc k) = powerSum c k n ∷ sums c n k
 
 -- ---- powers
 
-power-more : (e k : ℕ) → power (e * suc k) ≡ power e ⊗ power (e * k)
+pub power-more : (e k : ℕ) → power (e * suc k) ≡ power e ⊗ power (e * k)
 power-more e k = ap power more ∙ power-add e (e * k)
   where
     more : e * suc k ≡ e + e * k
     more = omega arith
 
-power-around : (e : ℕ) → power (e * 255) ≡ 1
+pub power-around : (e : ℕ) → power (e * 255) ≡ 1
 power-around e = ap power turn ∙ power-cycle e
   where
     turn : e * 255 ≡ 255 * e

@@ -9,6 +9,7 @@
 --   interpolant-values, -only         both over the field of bytes
 --   interpolant-xor                   S of a sum is the sum of both S, for all numbers: "Addition is xor"
 --   bytes-interpolant                 S of bytes has bytes as coefficients
+--   product-in-field, -monic, -zero   a product of X + f over any numbers: over the field of bytes, its leading 1, its zeros
 --   length-vanishing                  F has m + 1 coefficients
 --   vanishing-in-field                F over the field of bytes
 --   vanishing-monic                   F is m low coefficients and a leading 1
@@ -25,7 +26,7 @@ use lib.ListN.{length, take, getD, length-map}
 use Rattle.lists.specs.Sum.{xorList}
 use Rattle.lists.specs.Sum.Laws.{length-xorList}
 use Rattle.algebra.specs.Ring.{ops}
-use Rattle.algebra.specs.Each.{Each, Distinct}
+use Rattle.algebra.specs.Each.{Each, Distinct, each-of-map, each-at}
 use Rattle.algebra.specs.Polynomial.{eval, plus, product, vanishing, interpolate, values}
 use Rattle.algebra.specs.Polynomial.Lengths.{length-product, length-interpolate}
 use Rattle.algebra.specs.Polynomial.Linear.{interpolate-sum}
@@ -36,7 +37,7 @@ use Rattle.algebra.specs.Polynomial.Maps.{map-eval, map-interpolate, map-produc
 use Rattle.bytefield.specs.Product.{byteOps}
 use Rattle.bytefield.specs.Product.Laws.{byte-linear, xorList-plus}
 use Rattle.bytefield.specs.Inverse.{inverse}
-use Rattle.bytefield.specs.Byte.{Byte, byte, byteRing, byteField, byteInverse, byte-one, byte-inverse, byte-homomorphism}
+use Rattle.bytefield.specs.Byte.{Byte, byte, byteRing, byteField, byteInverse, byte-zero, byte-one, byte-inverse, byte-homomorphism}
 use Rattle.polynomial.specs.Bytes.{Bytes, inField, byte-equal, bytes-equal, byte-eval, bytes-monic, bytes-interpolate, bytes-product}
 use Rattle.polynomial.specs.Interpolant.{ascending, interpolationPoints, interpolantOf, vanishingOf}
 
@@ -143,6 +144,29 @@ interpolant-xor x y e =
     ∙ ap (λ (n : ℕ). plus byteOps (interpolantOf x) (interpolate byteOps inverse (interpolationPoints n) y)) e
     ∙ sym (xorList-plus (interpolantOf x) (interpolantOf y))
 
+-- ---- products of X + f
+
+pub product-in-field : (fs : List ℕ) → inField (vanishing byteOps fs) ≡ vanishing (ops byteRing) (inField fs)
+product-in-field fs =
+    map-product byteOps (ops byteRing) byte byte-homomorphism (1 ∷ []) fs
+    ∙ ap (λ (o : Byte). product (ops byteRing) (o ∷ []) (inField fs)) byte-one
+
+pub product-monic : (n : ℕ) (fs : List ℕ) → length fs ≡ n → vanishing byteOps fs ≡ take n (vanishing byteOps fs) ++ (1 ∷ [])
+product-monic n fs e =
+    let l = leading-product byteRing [] (byteRing .one) (inField fs) in
+    let k = length-product byteOps (1 ∷ []) fs in
+    bytes-monic n (vanishing byteOps fs) (l .0) (bytes-product (1 ∷ []) fs (lit< tt, tt)) (omega arith) (product-in-field fs ∙ l .1)
+
+pub product-zero : (fs : List ℕ) (i : ℕ) → i < length fs → eval byteOps (vanishing byteOps fs) (getD fs i 0) ≡ 0
+product-zero fs i h =
+    byte-equal (eval byteOps (vanishing byteOps fs) (getD fs i 0)) 0
+    (byte-eval (vanishing byteOps fs) (getD fs i 0) (bytes-product (1 ∷ []) fs (lit< tt, tt))) (lit< tt)
+    (map-eval byteOps (ops byteRing) byte byte-homomorphism (vanishing byteOps fs) (getD fs i 0)
+    ∙ each-at (λ f. eval (ops byteRing) (inField (vanishing byteOps fs)) (byte f) ≡ byteRing .zero) 0 fs
+    (each-of-map (λ f. eval (ops byteRing) (inField (vanishing byteOps fs)) f ≡ byteRing .zero) byte fs
+    (rw (product-in-field fs) (product-roots byteRing (byteRing .one ∷ []) (inField fs)))) i h
+    ∙ sym byte-zero)
+
 -- ---- F
 
 pub length-vanishing : (m : ℕ) → length (vanishingOf m) ≡ m + 1
@@ -158,9 +182,7 @@ bytes-vanishing m = bytes-product (1 ∷ []) (interpolationPoints m) (lit< tt, t
 
 pub vanishing-in-field : (m : ℕ) → inField (vanishingOf m) ≡ vanishing (ops byteRing) (inField (interpolationPoints m))
 unfolding vanishingOf
-vanishing-in-field m =
-    map-product byteOps (ops byteRing) byte byte-homomorphism (1 ∷ []) (interpolationPoints m)
-    ∙ ap (λ (o : Byte). product (ops byteRing) (o ∷ []) (inField (interpolationPoints m))) byte-one
+vanishing-in-field m = product-in-field (interpolationPoints m)
 
 pub vanishing-leading : (m : ℕ) → (low : List Byte) × (inField (vanishingOf m) ≡ low ++ (byteRing .one ∷ []))
 vanishing-leading m =
@@ -168,9 +190,8 @@ vanishing-leading m =
     (l .0, vanishing-in-field m ∙ l .1)
 
 pub vanishing-monic : (m : ℕ) → vanishingOf m ≡ take m (vanishingOf m) ++ (1 ∷ [])
-vanishing-monic m =
-    let l = vanishing-leading m in
-    bytes-monic m (vanishingOf m) (l .0) (bytes-vanishing m) (length-vanishing m) (l .1)
+unfolding vanishingOf
+vanishing-monic m = product-monic m (interpolationPoints m) (length-ascending 1 m)
 
 pub vanishing-zero : (m : ℕ) → Each (λ f. eval (ops byteRing) (inField (vanishingOf m)) f ≡ byteRing .zero) (inField (interpolationPoints m))
 vanishing-zero m = rw (vanishing-in-field m) (product-roots byteRing (byteRing .one ∷ []) (inField (interpolationPoints m)))
