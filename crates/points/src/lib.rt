@@ -7,6 +7,7 @@ ghost use lib.ListN.{length};
 ghost use Rattle.lists.specs.Part.{putAt};
 ghost use Rattle.bytefield.specs.Tables.{logs, powers};
 ghost use Rattle.tower.specs.Field.{Point, point, bytesOf};
+ghost use Rattle.packed.specs.Word.{bytes};
 ghost use Rattle.packed.specs.Table.{multiples};
 ghost use Rattle.exchange.specs.Reading.{_⊞_, _⊠_};
 ghost use Rattle.points.specs.Multiples.{wordOf, byX, byZ, multiplesOf, Lower, Read, Multiplies};
@@ -45,7 +46,7 @@ pub fn word_of(a: [u8; 4]) -> u64
 
 // The point whose four bytes are the low bytes of a word.
 pub fn point_of(w: u64) -> [u8; 4]
-    ensures { λ r. ⌜ ((x : Point) → w ≡ wordOf x → r ≡ bytesOf x) ⌝ }
+    ensures { λ r. ⌜ r ≡ bytes 4 w ⌝ }
 {
     let w1 = w / 256;
     let w2 = w1 / 256;
