@@ -30,7 +30,7 @@ pub fn share_length(p: Parameters) -> usize
 // The words become the bytes from place `from` on of each of n shares, one share a byte of a word; the other bytes are zero.
 fn gather(p: Parameters, n: usize, shares: &[u8], from: usize, words: &mut [u64])
     requires { ⌜ GatherAsked p n (now shares) from (now words) ⌝ }
-    ensures { λ _. ⌜ ((i : ℕ) → i < n → share i (now (words .exit)) ≡ bytesAt (shareOf p (now (shares .entry)) i) from (length (now (words .entry)))) ⌝ }
+    ensures { λ _. ⌜ ((i : ℕ) → share i (now (words .exit)) ≡ bytesAt (shareOf p (now (shares .entry)) i) from (length (now (words .entry)))) ⌝ }
 {
     let count = words.len();
     let size = share_length(p);
@@ -102,7 +102,8 @@ fn add_where(first: bool, words: &mut [u64], y: &[u8])
     }
 }
 
-// The words become x of each of n shares: x_A, and behind it H'x_A, with y added where first.
+// The words become x of each of n shares: x_A, and behind it H'x_A, with y added where first. The bytes from n on
+// are x of a share of zeros: zeros, with y behind x_A where first.
 pub fn vectors(
     p: Parameters,
     n: usize,
@@ -113,7 +114,7 @@ pub fn vectors(
     words: &mut [u64],
 )
     requires { ⌜ VectorsAsked p n (now shares) (now matrix) (now y) (now words) ⌝ }
-    ensures { λ _. ⌜ ((i : ℕ) → i < n → share i (now (words .exit))
+    ensures { λ _. ⌜ ((i : ℕ) → i < 8 → share i (now (words .exit))
         ≡ xOf p (keyOf (now (matrix .entry)) (now (y .entry))) first (shareOf p (now (shares .entry)) i)) ⌝ }
 {
     let k = p.k;

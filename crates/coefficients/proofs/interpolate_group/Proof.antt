@@ -72,7 +72,7 @@ returns c =
     let s = back-to-start v in
     let a = s .args in
     rows-made (a .p) (keyOf (a .matrix .now) (a .y .now)) (a .first) (a .shares .now) (a .n) (a .p .m) (v .vectors .last .1 .1 .1 .1 .1 .1 .0)
-    (drop (a .p .m) (a .a .now)) (d .interpolate .last .0) _ (s .pre .1) (made v) (v .vectors .ensures) (d .interpolate .ensures) (u .unpack .ensures)
+    (drop (a .p .m) (a .a .now)) (d .interpolate .last .0) _ (s .pre .1) (made v) (λ i h. v .vectors .ensures i (omega arith)) (d .interpolate .ensures) (u .unpack .ensures)
 
 pub interpolate-group-spec : {M : Type 1} → statement M
 interpolate-group-spec = tie.close (tie.spec (λ c. search needs) (λ c. let s : tie.Start = search in front s)

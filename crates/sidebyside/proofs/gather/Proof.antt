@@ -7,7 +7,7 @@ use lib.ListN.{length}
 use Rattle.lists.specs.Part.{part}
 use Rattle.exchange.specs.Reading.{bytesAt}
 use Rattle.sidebyside.specs.Shares.{Gathered}
-use Rattle.sidebyside.specs.Shares.Laws.{share-fits, gathered-none, gathered-more}
+use Rattle.sidebyside.specs.Shares.Laws.{share-fits, gathered-none, gathered-more, gathered-all}
 use Rattle.sidebyside.proofs.gather.Statement.{statement}
 use Rattle.sidebyside.proofs.gather.Tie as tie
 
@@ -60,7 +60,7 @@ returns c =
     let p : tie.At-loop Inv-loop μ-loop = search in
     let z = size-at p in
     let a = z .before .before .before .args in
-    λ i h. p .loop .inv .1 .done i (omega arith)
+    λ i. gathered-all (z .share-length .result) (a .shares .now) (a .from) _ (p .loop .i) (a .n) _ (omega arith) (sized z .0) (p .loop .inv .1) i
     ∙ ap (λ (n : ℕ). bytesAt (part (a .shares .now) (i * n) n) (a .from) (length (a .words .now))) (z .share-length .ensures)
 
 pub gather-spec : {M : Type 1} → statement M

@@ -62,12 +62,10 @@ returns c =
     let y : tie.After-shared-slice-known3 = search in
     let a = s .args in
     let p = a .p in
-    λ i h.
-    let few : i < 8 = omega (arith, s .pre .few) in
-    vector-made p (a .matrix .now) (a .y .now) (a .first) (shareOf p (a .shares .now) i) i few (λ k. omega (arith, y .shared-slice-known3 .given k))
+    λ i h. vector-made p (a .matrix .now) (a .y .now) (a .first) (shareOf p (a .shares .now) i) i h (λ k. omega (arith, y .shared-slice-known3 .given k))
     (s .pre .sized-y) _ _ (v .image .last .0) (u .add-where .last .1 .0) (below s) (prepared z) (v .image .kept .0) (v .image .ensures .0)
-    (v .image .ensures .1 i few) (u .add-where .ensures)
-    (d .gather .ensures i h ∙ ap (bytesAt (shareOf p (a .shares .now) i) (atX p)) (sym (front s)))
+    (v .image .ensures .1 i h) (u .add-where .ensures)
+    (d .gather .ensures i ∙ ap (bytesAt (shareOf p (a .shares .now) i) (atX p)) (sym (front s)))
 
 pub vectors-spec : {M : Type 1} → statement M
 vectors-spec = tie.close (tie.spec (λ c. search needs) (λ c. search needs)

@@ -2,14 +2,15 @@
 --
 --   share-fits                     what is read of share i stands within all shares
 --   gathered-none, gathered-more   no share is in words that are zero; one share more
-use mathlib.Core.Path.{_≡_, refl, sym, ap, _∙_}
+--   gathered-all                   all shares are in the words, where a share that is not there counts as zeros
+use mathlib.Core.Path.{_≡_, refl, sym, ap, ap₂, _∙_}
 use mathlib.Core.List.{List, [], _∷_, map}
 use Prim.Native.Nat.{ℕ, zero, suc, _+_, _-_, _*_, _≤_, _<_}
-use native.Mathlib.Decide.{ℕ-discrete}
-use native.Mathlib.Nat.{le-of-eq, not-suc-le-zero}
+use native.Mathlib.Decide.{decLt, ℕ-discrete}
+use native.Mathlib.Nat.{le-of-eq, not-suc-le-zero, mul-le-mul-right}
 use native.Mathlib.Omega.{arith}
 use lib.Dec.{lit<}
-use lib.ListN.{length, getD, take, drop, replicate, length-map, length-replicate}
+use lib.ListN.{length, getD, take, drop, replicate, length-map, length-replicate, length-take, length-drop, List·getD-eq-default}
 use Rattle.lists.specs.Part.{part}
 use Rattle.lists.specs.Part.Laws.{length-part, part-part, part-fits}
 use Rattle.lists.specs.Sum.{xorList}
@@ -27,6 +28,11 @@ lent-bytes (suc n) zero (x ∷ d) h zero = h 0
 lent-bytes (suc n) zero (x ∷ d) h (suc k) = lent-bytes n zero d (λ j. h (suc j)) k
 lent-bytes (suc n) (suc a) [] h k = lit< tt
 lent-bytes (suc n) (suc a) (x ∷ d) h k = lent-bytes (suc n) a d (λ j. h (suc j)) k
+
+past-end : (s : List ℕ) (i n : ℕ) → length s ≤ i → bytesAt s i n ≡ replicate n 0
+unfolding bytesAt
+past-end s i zero h = refl
+past-end s i (suc n) h = ap₂ _∷_ (List·getD-eq-default s 0 h) (past-end s (suc i) n (omega arith))
 
 -- ---- gathering
 
@@ -87,3 +93,15 @@ module _ (size : ℕ) (shares : List ℕ) (from count : ℕ) where
     gathered-more words out g bytes e =
         rw e
         (added i words _ g share-lent (lent-bytes (i * size + from + count - (i * size + from)) (i * size + from) shares bytes))
+
+  pub gathered-all : (i n : ℕ) (words : List ℕ) → n ≤ i → length shares ≡ n * size → Gathered size shares from count i words
+      → (j : ℕ) → share j words ≡ bytesAt (part shares (j * size) size) from count
+  unfolding part
+  gathered-all i n words h l g j = at (decLt j i)
+    where
+      none : i ≤ j → length (part shares (j * size) size) ≤ from
+      none k = let q = mul-le-mul-right {m = n} {n = j} size (omega arith) in simp (length-take, length-drop) (omega arith)
+
+      at : Dec (j < i) → share j words ≡ bytesAt (part shares (j * size) size) from count
+      at (yes k) = g .done j k
+      at (no k) = g .rest j (omega arith) ∙ sym (past-end _ from count (none (omega arith)))
