@@ -1,4 +1,5 @@
 // S of several shares, eight at a time: their vectors x stand side by side in words (crate packed).
+use encoding::share_length;
 use parameters::Parameters;
 ghost use mathlib.Core.Path.{_≡_};
 ghost use Prim.Native.Nat.{_*_, _<_, _≤_};
@@ -80,7 +81,7 @@ fn interpolate_with(
     requires { ⌜ RowsAsked p n (now shares) (now matrix) (now y) (now rows) × Lent p (now weights) (now g) (now a) × (now log ≡ logs) × (now pow ≡ powers) ⌝ }
     ensures { λ _. ⌜ now (rows .exit) ≡ joined (λ i. SOf p (keyOf (now (matrix .entry)) (now (y .entry))) first (shareOf p (now (shares .entry)) i)) n ⌝ }
 {
-    let size = sidebyside::share_length(p);
+    let size = share_length(p);
     let m = p.m;
     let mut from = 0;
     let mut to = 0;

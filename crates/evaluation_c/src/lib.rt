@@ -18,7 +18,7 @@ fn count(p: Parameters, n: usize) -> usize
     let rows = [0u8; 2295];
     let m2 = [0u8; 64];
     let mut out = [0u8; 864];
-    let a = n * sidebyside::share_length(p);
+    let a = n * encoding::share_length(p);
     let b = n * p.m;
     let c = 8 * p.t;
     let e = n * (12 * p.t);

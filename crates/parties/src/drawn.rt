@@ -1,4 +1,5 @@
 // A leaf's share as hashed (layer 3), with no aux.
+use encoding::share_length;
 use leaves::is_last;
 use leaves::share_bytes;
 use parameters::Parameters;
@@ -8,18 +9,9 @@ ghost use mathlib.Core.List.{List};
 ghost use Prim.Native.Nat.{ℕ};
 ghost use lib.ListN.{take};
 ghost use Rattle.parameters.specs.Limits.{Within};
-ghost use Rattle.exchange.specs.Layout.{shareLength};
 ghost use Rattle.strings.specs.Digest.{begun};
 ghost use Rattle.parties.specs.Drawn.{drawnLength, drawnShare};
 ghost use Rattle.parties.specs.Shapes.{DrawShare};
-
-// The length of a share.
-pub fn share_length(p: Parameters) -> usize
-    requires { ⌜ Within p ⌝ }
-    ensures { λ r. ⌜ r ≡ shareLength p ⌝ }
-{
-    8 * p.t + (p.k + 2 * p.w + 4 * p.t)
-}
 
 // How many bytes of layer 3 a leaf takes: leaf n−1 takes 8t, for its a and b, all others a whole share.
 fn drawn_length(p: Parameters, leaf: usize) -> usize

@@ -3,7 +3,7 @@
 mod drawn;
 
 use crate::drawn::draw_share;
-use crate::drawn::share_length;
+use encoding::share_length;
 use leaves::SHARES;
 use leaves::leaf_count;
 use lists::put_at;

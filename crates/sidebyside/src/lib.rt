@@ -1,4 +1,5 @@
 // x of up to eight shares at once: byte i of a word is the entry of share i (crate packed).
+use encoding::share_length;
 use parameters::Parameters;
 ghost use mathlib.Core.Path.{_≡_};
 ghost use mathlib.Core.Bool.{cond};
@@ -6,9 +7,7 @@ ghost use mathlib.Core.List.{[], map};
 ghost use Prim.Native.Nat.{ℕ, _+_, _-_, _*_, _≤_, _<_};
 ghost use lib.ListN.{length, take, drop, replicate};
 ghost use Rattle.lists.specs.Sum.{xorList};
-ghost use Rattle.parameters.specs.Limits.{Within};
 ghost use Rattle.relation.specs.Key.{rows};
-ghost use Rattle.exchange.specs.Layout.{shareLength};
 ghost use Rattle.exchange.specs.Reading.{bytesAt};
 ghost use Rattle.exchange.specs.Values.{keyOf, xOf};
 ghost use Rattle.packed.specs.Word.{scaled};
@@ -18,14 +17,6 @@ ghost use Rattle.sidebyside.specs.Shares.{shareOf};
 ghost use Rattle.sidebyside.specs.Asked.{GatherAsked, VectorsAsked};
 ghost use Rattle.sidebyside.specs.Spread.{spread};
 ghost use Rattle.sidebyside.specs.Columns.{column};
-
-// How many bytes a share has.
-pub fn share_length(p: Parameters) -> usize
-    requires { ⌜ Within p ⌝ }
-    ensures { λ r. ⌜ r ≡ shareLength p ⌝ }
-{
-    8 * p.t + (p.k + 2 * p.w + 4 * p.t)
-}
 
 // The words become the bytes from place `from` on of each of n shares, one share a byte of a word; the other bytes are zero.
 fn gather(p: Parameters, n: usize, shares: &[u8], from: usize, words: &mut [u64])
