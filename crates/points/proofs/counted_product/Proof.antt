@@ -1,6 +1,5 @@
 -- The bytes of the word are those of the product (`bytes-wordOf`).
 use mathlib.Core.Path.{ap, _∙_}
-use Prim.Native.Nat.{_+_}
 use borrow.Author.Needs.{needs}
 use Rattle.packed.specs.Word.{bytes}
 use Rattle.points.specs.Multiples.Laws.{bytes-wordOf}

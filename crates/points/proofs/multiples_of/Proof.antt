@@ -1,4 +1,4 @@
--- The four tables stand one behind the other (`tables-joined`).
+-- The four tables stand one behind the other (`tables-made`).
 use borrow.Author.Needs.{needs}
 use Rattle.points.specs.Multiples.Laws.{tables-made}
 use Rattle.points.proofs.multiples_of.Statement.{statement}
@@ -14,8 +14,5 @@ returns c =
     (p1 .put-multiples .ensures) (p2 .put-multiples2 .ensures) (p3 .put-multiples3 .ensures) (c .before .put-multiples4 .ensures)
 
 pub multiples-of-spec : {M : Type 1} → statement M
-multiples-of-spec =
-    tie.close
-    (tie.spec
-    (λ c κs. search needs) (λ c κs. search needs) (λ c κs. search needs) (λ c. search needs) (λ c κs. search needs) (λ c. search needs)
-    (λ c κs. search needs) (λ c. search needs) (λ c κs. search needs) (λ c. search needs) (λ c κs. search needs) returns)
+multiples-of-spec = tie.close (tie.spec (λ c κs. search needs) (λ c κs. search needs) (λ c κs. search needs) (λ c. search needs) (λ c κs. search needs)
+    (λ c. search needs) (λ c κs. search needs) (λ c. search needs) (λ c κs. search needs) (λ c. search needs) (λ c κs. search needs) returns)

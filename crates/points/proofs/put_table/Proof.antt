@@ -29,9 +29,6 @@ loop-again c =
       simp length-set (p .loop .inv .2),
     )
 
-same-length : tie.Need-same-length Inv-loop μ-loop
-same-length c = c .before .loop .inv .2
-
 returns : tie.Need-returns Inv-loop μ-loop
 returns c =
     let p = c .before in
@@ -40,5 +37,5 @@ returns c =
     p .loop .inv .1 ∙ ap (λ (k : ℕ). paste (a .out .now) (a .at) (a .t .now) k) e ∙ putAt-all (a .out .now) (a .at) (a .t .now)
 
 pub put-table-spec : {M : Type 1} → statement M
-put-table-spec =
-    tie.close (tie.spec Inv-loop μ-loop loop-holds (λ c. search needs) (λ c. search needs) (λ c. search needs) (λ c. search needs) (λ c. search needs) (λ c. search needs) (λ c. search needs) loop-again same-length returns)
+put-table-spec = tie.close (tie.spec Inv-loop μ-loop loop-holds (λ c. search needs) (λ c. search needs) (λ c. search needs) (λ c. search needs)
+    (λ c. search needs) (λ c. search needs) (λ c. search needs) loop-again (λ c. search needs) returns)

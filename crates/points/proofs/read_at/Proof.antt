@@ -11,9 +11,6 @@ use Rattle.points.specs.Multiples.Laws.{byte-read}
 use Rattle.points.proofs.read_at.Statement.{statement}
 use Rattle.points.proofs.read_at.Tie as tie
 
-apart : (a b : ℕ) → a + 16 + b ≡ a + (16 + b)
-apart a b = omega arith
-
 returns : tie.Need-returns
 unfolding picked _⊕_
 returns c =
@@ -21,11 +18,10 @@ returns c =
     let t = s .args .table .now in
     let at = s .args .at in
     let by = s .args .c in
-    λ x e. ap₂ _⊕_ (sym (getD-drop at t (by % 16) 0)) (ap (λ (i : ℕ). getD t i 0) (apart at (by / 16)) ∙ sym (getD-drop at t (16 + by / 16) 0)) ∙ byte-read (drop at t) by (s .fits .c .fits) x e
+    let a : at + 16 + by / 16 ≡ at + (16 + by / 16) = omega arith in
+    λ x e. ap₂ _⊕_ (sym (getD-drop at t (by % 16) 0)) (ap (λ (i : ℕ). getD t i 0) a ∙ sym (getD-drop at t (16 + by / 16) 0))
+    ∙ byte-read (drop at t) by (s .fits .c .fits) x e
 
 pub read-at-spec : {M : Type 1} → statement M
-read-at-spec =
-    tie.close
-    (tie.spec
-    (λ c. search needs) (λ c. search needs) (λ c. search needs) (λ c. search needs) (λ c. search needs) (λ c. search needs) (λ c. search needs)
-    (λ c. search needs) (λ c. search needs) returns)
+read-at-spec = tie.close (tie.spec (λ c. search needs) (λ c. search needs) (λ c. search needs) (λ c. search needs)
+    (λ c. search needs) (λ c. search needs) (λ c. search needs) (λ c. search needs) (λ c. search needs) returns)

@@ -6,17 +6,16 @@
 --   x-step, z-step                  the products with X and Z by bytes
 --   byte-read                       the product of a byte and a point, from a table that starts with the point's multiples
 --   short-product, whole-product    the product of four bytes and a point, from one and from four tables
---   four-needed                     which of the two
 --   length-multiples, -multiplesOf, own-table   the tables' lengths; a table that is made of the word of four bytes
 --   tables-made                     the four tables written one behind the other
 use mathlib.Core.Path.{_≡_, refl, sym, ap, ap₂, _∙_}
 use mathlib.Core.Logic.{⊎-elim}
 use mathlib.Core.List.{List, [], _∷_, _++_, map, append-assoc}
-use Prim.Native.Nat.{ℕ, zero, suc, _+_, _*_, _/_, _%_, _<_}
+use Prim.Native.Nat.{ℕ, zero, _+_, _*_, _/_, _%_, _<_}
 use native.Mathlib.Omega.{arith}
 use lib.Dec.{lit<}
 use lib.ListN.{length, getD, take, drop, replicate, length-append}
-use lib.Seq.{getD-take, ext-getD}
+use lib.Seq.{getD-take}
 use Rattle.algebra.specs.Ring.{Ring2, ring}
 use Rattle.algebra.specs.Extension.Laws.{pair}
 use Rattle.lists.specs.Xor.{_⊕_, xors, ⊕-zero}
@@ -54,17 +53,13 @@ bytes-wordOf x = bytes-word (bytesOf x) (bytes-bytesOf x)
 word-shifts : (a b c d : ℕ) → word (a ∷ b ∷ c ∷ d ∷ []) ≡ a ⊕ (b * 256 ⊕ (c * 65536 ⊕ d * 16777216))
 unfolding word
 word-shifts a b c d =
+    let e : c * 256 * 256 ≡ c * 65536 = omega arith in
+    let f : d * 256 * 256 * 256 ≡ d * 16777216 = omega arith in
     ap (λ (x : ℕ). a ⊕ x)
     (⊕-shl 8 b ((c ⊕ (d ⊕ 0) * 256) * 256)
     ∙ ap (λ (x : ℕ). b * 256 ⊕ x)
     (ap (λ (x : ℕ). x * 256) (⊕-shl 8 c ((d ⊕ 0) * 256)) ∙ ⊕-shl 8 (c * 256) ((d ⊕ 0) * 256 * 256)
-    ∙ ap₂ _⊕_ (apart₂ c) (ap (λ (x : ℕ). x * 256 * 256 * 256) (⊕-zero d) ∙ apart₃ d)))
-  where
-    apart₂ : (c : ℕ) → c * 256 * 256 ≡ c * 65536
-    apart₂ c = omega arith
-
-    apart₃ : (d : ℕ) → d * 256 * 256 * 256 ≡ d * 16777216
-    apart₃ d = omega arith
+    ∙ ap₂ _⊕_ e (ap (λ (x : ℕ). x * 256 * 256 * 256) (⊕-zero d) ∙ f)))
 
 word-sum : (a b c d e f g h : ℕ) → word ((a ⊕ e) ∷ (b ⊕ f) ∷ (c ⊕ g) ∷ (d ⊕ h) ∷ []) ≡ word (a ∷ b ∷ c ∷ d ∷ []) ⊕ word (e ∷ f ∷ g ∷ h ∷ [])
 word-sum a b c d e f g h =
@@ -81,29 +76,14 @@ unfolding wordOf bytesOf points byteRing
 wordOf-sum x y = word-sum _ _ _ _ _ _ _ _
 
 -- four bytes stand for a point
-pub four-bytes : (a : List ℕ) → length a ≡ 4 → ((i : ℕ) → getD a i 0 < 256) → a ≡ bytesOf (point a)
-four-bytes [] l h = absurd (omega arith)
-four-bytes (a ∷ []) l h = absurd (omega arith)
-four-bytes (a ∷ b ∷ []) l h = absurd (omega arith)
-four-bytes (a ∷ b ∷ c ∷ []) l h = absurd (omega arith)
-four-bytes (a ∷ b ∷ c ∷ d ∷ []) l h = sym (bytesOf-point ((a, b), (c, d)) (h 0, h 1, h 2, h 3))
-four-bytes (a ∷ b ∷ c ∷ d ∷ e ∷ q) l h = absurd (omega arith)
+pub four-bytes : (a : List ℕ) → ((i : ℕ) → getD a i 0 < 256) → four (quad a) ≡ bytesOf (point a)
+unfolding point
+four-bytes a h = sym (bytesOf-point (quad a) (h 0, h 1, h 2, h 3))
 
-pub word-parts : (a : List ℕ) (b c d e : ℕ) → length a ≡ 4 → ((i : ℕ) → getD a i 0 < 256) → b ≡ getD a 0 0 → c ≡ getD a 1 0 → d ≡ getD a 2 0
-    → e ≡ getD a 3 0 → b ⊕ (c * 256 ⊕ (d * 65536 ⊕ e * 16777216)) ≡ wordOf (point a)
+pub word-parts : (a : List ℕ) (b c d e : ℕ) → ((i : ℕ) → getD a i 0 < 256) → b ≡ getD a 0 0 → c ≡ getD a 1 0 → d ≡ getD a 2 0 → e ≡ getD a 3 0
+    → b ⊕ (c * 256 ⊕ (d * 65536 ⊕ e * 16777216)) ≡ wordOf (point a)
 unfolding wordOf
-word-parts a b c d e l h eb ec ed ee =
-    sym (word-shifts b c d e) ∙ ap word (four-path eb ec ed ee ∙ whole a l ∙ four-bytes a l h)
-  where
-    whole : (a : List ℕ) → length a ≡ 4 → getD a 0 0 ∷ getD a 1 0 ∷ getD a 2 0 ∷ getD a 3 0 ∷ [] ≡ a
-    whole a l = ext-getD 0 _ a (sym l) (λ k h. below k h)
-      where
-        below : (k : ℕ) → k < 4 → getD (getD a 0 0 ∷ getD a 1 0 ∷ getD a 2 0 ∷ getD a 3 0 ∷ []) k 0 ≡ getD a k 0
-        below zero h = refl
-        below (suc zero) h = refl
-        below (suc (suc zero)) h = refl
-        below (suc (suc (suc zero))) h = refl
-        below (suc (suc (suc (suc k)))) h = absurd (omega arith)
+word-parts a b c d e h eb ec ed ee = sym (word-shifts b c d e) ∙ ap word (four-path eb ec ed ee ∙ four-bytes a h)
 
 -- ---- the steps of the tower
 
@@ -158,18 +138,11 @@ scaled-bytes a b c d k h =
     ∙ ap (λ (z : ℕ). word ((a ⊗ k) ∷ (b ⊗ k) ∷ (c ⊗ k) ∷ (d ⊗ k) ∷ z ∷ z ∷ z ∷ z ∷ [])) (zero-⊗ k)
     ∙ word-zeros (a ⊗ k) (b ⊗ k) (c ⊗ k) (d ⊗ k)
 
-parts : (x : Point) → bytesOf x ≡ x .0 .0 .0 ∷ x .0 .1 .0 ∷ x .1 .0 .0 ∷ x .1 .1 .0 ∷ []
-unfolding bytesOf
-parts x = refl
-
 scaled-wordOf : (x : Point) (c : ℕ) → scaled (wordOf x) c ≡ wordOf (scalar c ⊠ x)
-unfolding wordOf
+unfolding wordOf bytesOf
 scaled-wordOf x c =
-    ap (λ (l : List ℕ). scaled (word l) c) (parts x)
-    ∙ scaled-bytes (x .0 .0 .0) (x .0 .1 .0) (x .1 .0 .0) (x .1 .1 .0) c (x .0 .0 .1, (x .0 .1 .1, (x .1 .0 .1, (x .1 .1 .1, tt))))
-    ∙ ap word
-    (byte-product c (x .0 .0 .0 ∷ x .0 .1 .0 ∷ x .1 .0 .0 ∷ x .1 .1 .0 ∷ []) _ _ _ _ (⊗-comm _ c) (⊗-comm _ c) (⊗-comm _ c) (⊗-comm _ c)
-    ∙ scalar-bytes c _ _ x (sym (parts x)) refl)
+    scaled-bytes (x .0 .0 .0) (x .0 .1 .0) (x .1 .0 .0) (x .1 .1 .0) c (bytes-bytesOf x)
+    ∙ ap word (byte-product c (bytesOf x) _ _ _ _ (⊗-comm _ c) (⊗-comm _ c) (⊗-comm _ c) (⊗-comm _ c) ∙ scalar-bytes c (bytesOf x) _ x refl refl)
 
 -- ---- a point as a sum of bytes times 1, X, Z and X·Z
 
@@ -223,14 +196,11 @@ module _ {K : Type 0} (R : Ring2 K) where
 -- ---- products from a table
 
 -- only the first 32 entries are read
-picked-front : (t : List ℕ) (v c : ℕ) → take 32 t ≡ multiples v → c < 256 → picked t c ≡ scaled v c
-unfolding picked
-picked-front t v c e h =
-    ap₂ _⊕_ (sym (getD-take 32 t (c % 16) 0 (omega arith))) (sym (getD-take 32 t (16 + c / 16) 0 (omega arith)))
-    ∙ ap (λ (l : List ℕ). picked l c) e ∙ picked-multiples v c h
-
 pub byte-read : (t : List ℕ) (c : ℕ) → c < 256 → (x : Point) → take 32 t ≡ multiples (wordOf x) → picked t c ≡ wordOf (scalar c ⊠ x)
-byte-read t c h x e = picked-front t (wordOf x) c e h ∙ scaled-wordOf x c
+unfolding picked
+byte-read t c h x e =
+    ap₂ _⊕_ (sym (getD-take 32 t (c % 16) 0 (omega arith))) (sym (getD-take 32 t (16 + c / 16) 0 (omega arith)))
+    ∙ ap (λ (l : List ℕ). picked l c) e ∙ picked-multiples (wordOf x) c h ∙ scaled-wordOf x c
 
 pub whole-product : (a : List ℕ) (b : Point) (t : List ℕ) (w₀ w₁ w₂ w₃ : ℕ)
     → Read t 0 (getD a 0 0) w₀ → Read t 32 (getD a 1 0) w₁ → Read t 64 (getD a 2 0) w₂ → Read t 96 (getD a 3 0) w₃
@@ -257,10 +227,6 @@ pub short-product : (a : List ℕ) (b : Point) (t : List ℕ) (w : ℕ) → Read
 unfolding multiplesOf multiples nibbles
 short-product a b t w r l m =
     r b (⊎-elim (λ q. q .1) (λ e. ap (take 32) e) m) ∙ ap (λ (x : Point). wordOf (x ⊠ b)) (lower-point a l)
-
--- where a is no byte, there are four tables
-pub four-needed : (t a : List ℕ) (b : Point) → (Lower a → ⊥) → Multiplies t a b → t ≡ multiplesOf b
-four-needed t a b n m = ⊎-elim (λ q. absurd (n (q .0))) (λ e. e) m
 
 -- ---- four tables
 

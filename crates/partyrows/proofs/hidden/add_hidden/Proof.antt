@@ -8,14 +8,18 @@ use Rattle.partyrows.proofs.hidden.add_hidden.Tie as tie
 
 returns : tie.Need-returns
 returns c =
-    let a = c .before .before .before .before .before .before .before .before .args in
+    let then1 : tie.Then1 = search in
+    let after-leaf-count : tie.After-leaf-count = search in
+    let start : tie.Start = search in
+    let a = start .args in
     c .before .before .xor-into .ensures
     ∙ sym (withHidden-yes (a .p) (a .leaf) (a .hidden .now) (a .sums .now)
-    (omega (arith, c .before .before .before .before .if1 .taken, c .before .before .before .before .before .leaf-count .ensures)))
+    (omega (arith, then1 .if1 .taken, after-leaf-count .leaf-count .ensures)))
 
 returns-2 : tie.Need-returns-2
 returns-2 c =
-    let a = c .before .before .before .before .args in
+    let start : tie.Start = search in
+    let a = start .args in
     sym (withHidden-no (a .p) (a .leaf) (a .hidden .now) (a .sums .now) (omega (arith, c .if1 .left, c .before .leaf-count .ensures)))
 
 pub add-hidden-spec : {M : Type 1} → statement M

@@ -13,10 +13,11 @@ use Rattle.partyrows.proofs.hidden.hide.Tie as tie
 returns : tie.Need-returns
 unfolding hideIn
 returns c =
-    let s = c .before .before .before .before .before .before .before .before .before .before .before .before .before .before in
+    let after-xor-into : tie.After-xor-into = search in
+    let s : tie.Start = search in
     let a = 8 * s .args .p .t in
     c .before .before .put-at .ensures
-    ∙ ap₂ (λ (d z : List ℕ). putAt d a z) (c .before .before .before .before .before .before .before .xor-into .ensures)
+    ∙ ap₂ (λ (d z : List ℕ). putAt d a z) (after-xor-into .xor-into .ensures)
     (ap (λ (n : ℕ). take (n - a) (drop a (s .args .other .now))) (sym (s .pre .3)) ∙ tail-part (s .args .other .now) a)
 
 pub hide-spec : {M : Type 1} → statement M

@@ -8,23 +8,28 @@ use Rattle.partyrows.proofs.hidden.hide_leaf.Tie as tie
 
 returns : tie.Need-returns
 returns c =
-    let a = c .before .before .before .before .before .before .before .before .before .args in
-    let e : a .party ≡ 0 = c .before .before .before .before .before .if1 .taken in (
+    let then1 : tie.Then1 = search in
+    let start : tie.Start = search in
+    let a = start .args in
+    let e : a .party ≡ 0 = then1 .if1 .taken in (
       c .before .before .hide .ensures ∙ sym (first-held (a .p) (a .party) (a .hidden .now) (a .first .now) (a .second .now) e),
       sym (second-kept (a .p) (a .party) (a .hidden .now) (a .first .now) (a .second .now) (λ z. omega arith)),
     )
 
 returns-2 : tie.Need-returns-2
 returns-2 c =
-    let a = c .before .before .before .before .before .before .before .before .before .before .args in
-    let e : a .party ≡ 1 = c .before .before .before .before .before .if2 .taken in (
+    let then2 : tie.Then2 = search in
+    let start : tie.Start = search in
+    let a = start .args in
+    let e : a .party ≡ 1 = then2 .if2 .taken in (
       sym (first-kept (a .p) (a .party) (a .hidden .now) (a .first .now) (a .second .now) (λ z. omega arith)),
       c .before .before .hide2 .ensures ∙ sym (second-held (a .p) (a .party) (a .hidden .now) (a .first .now) (a .second .now) e),
     )
 
 returns-3 : tie.Need-returns-3
 returns-3 c =
-    let a = c .before .before .before .before .before .args in (
+    let start : tie.Start = search in
+    let a = start .args in (
       sym (first-kept (a .p) (a .party) (a .hidden .now) (a .first .now) (a .second .now) (c .before .if1 .left)),
       sym (second-kept (a .p) (a .party) (a .hidden .now) (a .first .now) (a .second .now) (c .if2 .left)),
     )

@@ -22,21 +22,23 @@ loop-holds c = (omega arith, write-none _ _, refl)
 
 loop-again : tie.Need-loop-again Inv-loop μ-loop
 loop-again c =
-    let q = c .before .before .before .before .before .before .before .loop in
-    let s = c .before .before .before .before .before .before .before .before .before .before .before .before in
-    let h = c .before .before .before .before .before .if1 .taken in (
+    let after-row-v : tie.After-row-v Inv-loop μ-loop = search in
+    let then1 : tie.Then1 Inv-loop μ-loop = search in
+    let q : tie.At-loop Inv-loop μ-loop = search in
+    let s : tie.Start Inv-loop μ-loop = search in
+    let h = then1 .if1 .taken in (
       omega (arith, h),
       c .before .before .put-point .ensures
-          ∙ write-turn (vAt (s .args .p) (s .args .s .now) (s .args .block .now) (s .args .sums .now)) (s .args .out .now) (q .out) _ (q .l)
-          (omega (arith, h, s .pre .4)) (q .inv .1) (c .before .before .before .before .row-v .ensures),
-      c .before .before .put-point .kept .0 ∙ q .inv .2,
+          ∙ write-turn (vAt (s .args .p) (s .args .s .now) (s .args .block .now) (s .args .sums .now)) (s .args .out .now) (q .loop .out) _ (q .loop .l)
+          (omega (arith, h, s .pre .4)) (q .loop .inv .1) (after-row-v .row-v .ensures),
+      c .before .before .put-point .kept .0 ∙ q .loop .inv .2,
     )
 
 returns : tie.Need-returns Inv-loop μ-loop
 unfolding vBy
 returns c =
+    let s : tie.Start Inv-loop μ-loop = search in
     let q = c .before .before .loop in
-    let s = c .before .before .before .before .before .before .before in
     write-end (vAt (s .args .p) (s .args .s .now) (s .args .block .now) (s .args .sums .now)) (s .args .out .now) (q .out) (q .l) (s .args .p .t)
     (omega (arith, c .if1 .left)) (sym (s .pre .4)) (q .inv .1)
 
