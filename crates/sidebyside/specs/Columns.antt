@@ -5,7 +5,7 @@
 --   length-column, column-at     the length of a column, and its entries
 --   length-front, front-all      the length of a front; the front that is all of x
 --   rows-none, rows-more         H' times the first i entries of x
---   turn-none, turn, turn-all    the same for each share
+--   turn                         one entry more, for each share
 use mathlib.Core.Path.{_≡_, refl, sym, ap, ap₂, _∙_}
 use mathlib.Core.List.{List, [], _∷_, map}
 use Prim.Native.Nat.{ℕ, zero, suc, _+_, _*_, _<_}
@@ -22,7 +22,7 @@ use Rattle.bytefield.specs.Product.Laws.{bytefield, ⊗-zero}
 use Rattle.relation.specs.Key.{dot, rows}
 use Rattle.packed.specs.Word.{scaled}
 use Rattle.packed.specs.Share.{share}
-use Rattle.packed.specs.Share.Laws.{length-share, getD-share, zeros-share, share-added}
+use Rattle.packed.specs.Share.Laws.{length-share, getD-share, share-added}
 
 unfoldable pub column : ℕ → ℕ → ℕ → List ℕ → List ℕ
 column zero k i h = []
@@ -41,15 +41,10 @@ length-column (suc n) k i h = ap suc (length-column n k i (drop k h))
 pub column-at : (n k i : ℕ) (h : List ℕ) (j : ℕ) → j < n → getD (column n k i h) j 0 ≡ getD h (j * k + i) 0
 unfolding column
 column-at zero k i h j l = absurd (not-suc-le-zero l)
-column-at (suc n) k i h zero l = ap (λ (a : ℕ). getD h a 0) (start k i)
-  where
-    start : (k i : ℕ) → i ≡ 0 * k + i
-    start k i = omega arith
+column-at (suc n) k i h zero l = let e : i ≡ 0 * k + i = omega arith in ap (λ (a : ℕ). getD h a 0) e
 column-at (suc n) k i h (suc j) l =
-    column-at n k i (drop k h) j (le-of-suc-le-suc l) ∙ getD-drop k h (j * k + i) 0 ∙ ap (λ (a : ℕ). getD h a 0) (next j k i)
-  where
-    next : (j k i : ℕ) → k + (j * k + i) ≡ suc j * k + i
-    next j k i = omega (arith, suc-mul j k)
+    let e : k + (j * k + i) ≡ suc j * k + i = omega (arith, suc-mul j k) in
+    column-at n k i (drop k h) j (le-of-suc-le-suc l) ∙ getD-drop k h (j * k + i) 0 ∙ ap (λ (a : ℕ). getD h a 0) e
 
 length-front : (k : ℕ) (x : List ℕ) → length (front k x) ≡ length x
 unfolding front
@@ -57,7 +52,7 @@ length-front k [] = refl
 length-front zero (a ∷ x) = ap suc (length-front zero x)
 length-front (suc k) (a ∷ x) = ap suc (length-front k x)
 
-front-all : (x : List ℕ) → front (length x) x ≡ x
+pub front-all : (x : List ℕ) → front (length x) x ≡ x
 unfolding front
 front-all [] = refl
 front-all (a ∷ x) = ap (_∷_ a) (front-all x)
@@ -84,7 +79,7 @@ dot-more (b ∷ h) (a ∷ x) (suc i) l =
 
 -- ---- all rows
 
-rows-none : (n : ℕ) (h x : List ℕ) → rows n h (front 0 x) ≡ replicate n 0
+pub rows-none : (n : ℕ) (h x : List ℕ) → rows n h (front 0 x) ≡ replicate n 0
 unfolding rows
 rows-none zero h x = refl
 rows-none (suc n) h x = ap₂ _∷_ (dot-none h x) (rows-none n (drop (length (front 0 x)) h) x)
@@ -102,9 +97,6 @@ rows-more (suc n) i h x l =
 
 -- ---- each share
 
-pub turn-none : (s n : ℕ) (h x out : List ℕ) → out ≡ replicate n 0 → share s out ≡ rows n h (front 0 (share s x))
-turn-none s n h x out e = ap (share s) e ∙ zeros-share s n ∙ sym (rows-none n h (share s x))
-
 pub turn : (s n i : ℕ) (h x out : List ℕ) → s < 8 → i < length x → share s out ≡ rows n h (front i (share s x))
     → share s (xorList out (map (scaled (getD x i 0)) (column n (length x) i h))) ≡ rows n h (front (i + 1) (share s x))
 turn s n i h x out hs hi e =
@@ -113,7 +105,3 @@ turn s n i h x out hs hi e =
     ∙ ap₂ (plus byteOps) e
     (ap₂ (scale byteOps) (sym (getD-share s x i)) (ap (λ (k : ℕ). column n k i h) (sym l)))
     ∙ sym (ap (λ (j : ℕ). rows n h (front j (share s x))) (add-one i) ∙ rows-more n i h (share s x) (omega arith))
-
-pub turn-all : (s n i : ℕ) (h x out : List ℕ) → i ≡ length x → share s out ≡ rows n h (front i (share s x)) → share s out ≡ rows n h (share s x)
-turn-all s n i h x out ei e =
-    e ∙ ap (rows n h) (ap (λ (k : ℕ). front k (share s x)) (ei ∙ sym (length-share s x)) ∙ front-all (share s x))

@@ -14,7 +14,8 @@ use Rattle.lists.specs.Sum.{xorList}
 use Rattle.relation.specs.Key.{rows}
 use Rattle.packed.specs.Word.{scaled}
 use Rattle.packed.specs.Share.{share}
-use Rattle.sidebyside.specs.Columns.{column, front, turn-none, turn, turn-all}
+use Rattle.packed.specs.Share.Laws.{length-share, zeros-share}
+use Rattle.sidebyside.specs.Columns.{column, front, front-all, rows-none, turn}
 
 pub record Imaged (w₀ matrix : List ℕ) (k i : ℕ) (w : List ℕ) : Type 0 where
   pub sized : length w ≡ length w₀
@@ -26,12 +27,14 @@ module _ (w₀ matrix : List ℕ) (k : ℕ) where
   imaged-none e = record {
     sized = refl;
     kept = refl;
-    done = λ s h. turn-none s (length w₀ - k) matrix (take k w₀) (drop k w₀) e;
+    done = λ s h. ap (share s) e ∙ zeros-share s (length w₀ - k) ∙ sym (rows-none (length w₀ - k) matrix (share s (take k w₀)));
   }
 
   pub imaged-all : (i : ℕ) (w : List ℕ) → k ≤ length w₀ → i ≡ k → Imaged w₀ matrix k i w
       → (s : ℕ) → s < 8 → share s (drop k w) ≡ rows (length w₀ - k) matrix (share s (take k w₀))
-  imaged-all i w room e g s h = turn-all s (length w₀ - k) i matrix (take k w₀) (drop k w) (e ∙ sym (length-take-le k w₀ room)) (g .done s h)
+  imaged-all i w room e g s h =
+      g .done s h ∙ ap (rows (length w₀ - k) matrix)
+      (ap (λ (n : ℕ). front n (share s (take k w₀))) (e ∙ sym (length-share s (take k w₀) ∙ length-take-le k w₀ room)) ∙ front-all (share s (take k w₀)))
 
   pub imaged-fits : (i : ℕ) (w : List ℕ) → Imaged w₀ matrix k i w → (length w₀ - k) * k ≤ length matrix
       → length (take (length w - k) (drop k w)) * k ≤ length matrix

@@ -1,6 +1,5 @@
 -- What the functions of this crate leave in the words.
 --
---   Prepared k m g w                 m words: g, of which there are k, and zeros behind them
 --   prepared-made, prepared-image    a front is lent and comes back as g, the rest as zeros; what `image` requires then holds
 --   vector-made                      x of share i: x_A in front, and behind it H'x_A, with y added where `first`
 use mathlib.Core.Path.{_≡_, refl, sym, ap, ap₂, _∙_}
@@ -25,34 +24,26 @@ use Rattle.sidebyside.specs.Spread.{spread, share-spread}
 
 -- ---- the words before the matrix is applied
 
-pub record Prepared (k m : ℕ) (g w : List ℕ) : Type 0 where
-  pub sized : length w ≡ m
-  pub front : take k w ≡ g
-  pub behind : drop k w ≡ replicate (m - k) 0
+module _ (k m : ℕ) (w g z : List ℕ) (lw : length w ≡ m) (lg : length g ≡ k) where
+  pub prepared-made : k ≤ m → z ≡ replicate (length (take (length (g ++ drop k w) - k) (drop k (g ++ drop k w)))) 0
+      → take k (g ++ drop k w) ++ (z ++ drop (length (g ++ drop k w) - k) (drop k (g ++ drop k w))) ≡ g ++ replicate (m - k) 0
+  prepared-made h ez =
+      let l = length-append g (drop k w) in
+      tail-back (g ++ drop k w) z k (omega arith)
+      ∙ ap₂ _++_ (take-at g (drop k w) k lg)
+      (ez ∙ ap (λ (l : List ℕ). replicate (length l) 0) (tail-part (g ++ drop k w) k ∙ drop-at g (drop k w) k lg)
+      ∙ ap (λ (n : ℕ). replicate n 0) (length-drop k w ∙ ap (λ (n : ℕ). n - k) lw))
 
-module _ (k m : ℕ) (w g z : List ℕ) (h : k ≤ m) (lw : length w ≡ m) (lg : length g ≡ k) where
-  pub prepared-made : z ≡ replicate (length (take (length (g ++ drop k w) - k) (drop k (g ++ drop k w)))) 0
-      → Prepared k m g (take k (g ++ drop k w) ++ (z ++ drop (length (g ++ drop k w) - k) (drop k (g ++ drop k w))))
-  prepared-made ez =
-      let r = length-replicate {A = ℕ} (m - k) 0 in record {
-        sized = ap length whole ∙ length-append g (replicate (m - k) 0) ∙ omega arith;
-        front = ap (take k) whole ∙ take-at g (replicate (m - k) 0) k lg;
-        behind = ap (drop k) whole ∙ drop-at g (replicate (m - k) 0) k lg;
-      }
-    where
-      zeros : z ≡ replicate (m - k) 0
-      zeros =
-          ez ∙ ap (λ (l : List ℕ). replicate (length l) 0) (tail-part (g ++ drop k w) k ∙ drop-at g (drop k w) k lg)
-          ∙ ap (λ (n : ℕ). replicate n 0) (length-drop k w ∙ ap (λ (n : ℕ). n - k) lw)
+module _ (k m : ℕ) (g w : List ℕ) (h : k ≤ m) (lg : length g ≡ k) (e : w ≡ g ++ replicate (m - k) 0) where
+  prepared-length : length w ≡ m
+  prepared-length = let r = length-replicate {A = ℕ} (m - k) 0 in ap length e ∙ length-append g (replicate (m - k) 0) ∙ omega arith
 
-      whole : take k (g ++ drop k w) ++ (z ++ drop (length (g ++ drop k w) - k) (drop k (g ++ drop k w))) ≡ g ++ replicate (m - k) 0
-      whole =
-          let l = length-append g (drop k w) in
-          tail-back (g ++ drop k w) z k (omega arith) ∙ ap₂ _++_ (take-at g (drop k w) k lg) zeros
+  prepared-front : take k w ≡ g
+  prepared-front = ap (take k) e ∙ take-at g (replicate (m - k) 0) k lg
 
-pub prepared-image : (k m : ℕ) (g w matrix : List ℕ) → k ≤ m → length matrix ≡ (m - k) * k → Prepared k m g w
-    → (k ≤ length w) × ((length w - k) * k ≤ length matrix) × (drop k w ≡ replicate (length w - k) 0)
-prepared-image k m g w matrix h e r = rw (r .sized) (h, le-of-eq (sym e), r .behind)
+  pub prepared-image : (matrix : List ℕ) → length matrix ≡ (m - k) * k
+      → (k ≤ length w) × ((length w - k) * k ≤ length matrix) × (drop k w ≡ replicate (length w - k) 0)
+  prepared-image matrix em = rw prepared-length (h, le-of-eq (sym em), ap (drop k) e ∙ drop-at g (replicate (m - k) 0) k lg)
 
 -- ---- x
 
@@ -74,13 +65,15 @@ module _ (p : Parameters) (matrix y : List ℕ) (first : Bool) (s : List ℕ) (i
       ∙ ap₂ xorList (eh ∙ ap (rows (p .m - p .k) matrix) eg)
       (share-constant i first y hi bytes ∙ ap (λ (z : List ℕ). cond first z []) (sym (bytesAt-all y (p .m - p .k) ly))))
 
-  pub vector-made : (g w v u : List ℕ) → p .k ≤ p .m → Prepared (p .k) (p .m) g w → length v ≡ length w → take (p .k) v ≡ take (p .k) w
+  pub vector-made : (g w v u : List ℕ) → p .k ≤ p .m → length g ≡ p .k → w ≡ g ++ replicate (p .m - p .k) 0 → length v ≡ length w
+      → take (p .k) v ≡ take (p .k) w
       → share i (drop (p .k) v) ≡ rows (length w - p .k) matrix (share i (take (p .k) w))
       → u ≡ xorList (take (length v - p .k) (drop (p .k) v)) (cond first (map spread y) []) → share i g ≡ bytesAt s (atX p) (p .k)
       → share i (take (p .k) v ++ (u ++ drop (length v - p .k) (drop (p .k) v))) ≡ xOf p (keyOf matrix y) first s
-  vector-made g w v u h r lv ev ei eu eg =
-      let l = r .sized in
+  vector-made g w v u h lg ew lv ev ei eu eg =
+      let l = prepared-length (p .k) (p .m) g w h lg ew in
+      let f = prepared-front (p .k) (p .m) g w h lg ew in
       ap (share i)
       (tail-back v u (p .k) (omega arith)
-      ∙ ap₂ _++_ (ev ∙ r .front) (eu ∙ ap (λ (q : List ℕ). xorList q (cond first (map spread y) [])) (tail-part v (p .k))))
-      ∙ joined g (drop (p .k) v) eg (ei ∙ ap₂ (λ (n : ℕ) (q : List ℕ). rows (n - p .k) matrix (share i q)) (r .sized) (r .front))
+      ∙ ap₂ _++_ (ev ∙ f) (eu ∙ ap (λ (q : List ℕ). xorList q (cond first (map spread y) [])) (tail-part v (p .k))))
+      ∙ joined g (drop (p .k) v) eg (ei ∙ ap₂ (λ (n : ℕ) (q : List ℕ). rows (n - p .k) matrix (share i q)) l f)

@@ -64,7 +64,6 @@ returns c =
     λ v e. p .loop .inv .1 v e ∙ added-all (scaled v) (a .out .now) (column n (a .k) (a .i) (a .matrix .now)) (p .loop .j) (omega arith)
 
 pub add-column-spec : {M : Type 1} → statement M
-add-column-spec = tie.close (tie.spec Inv-loop μ-loop loop-holds (λ c. search needs) (λ c. search needs)
-    (λ c. omega (arith, inside (c .before))) (λ c. omega (arith, inside (c .before)))
-    (λ c. inside (c .before .before)) (λ c κs. search needs) (λ c. search needs) (λ c. search needs)
+add-column-spec = tie.close (tie.spec Inv-loop μ-loop loop-holds (λ c. search needs) (λ c. search needs) (λ c. omega (arith, inside (c .before)))
+    (λ c. omega (arith, inside (c .before))) (λ c. inside (c .before .before)) (λ c κs. search needs) (λ c. search needs) (λ c. search needs)
     (λ c. search needs) (λ c. search needs) loop-again (λ c. search needs) returns)

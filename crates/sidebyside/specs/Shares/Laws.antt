@@ -4,30 +4,23 @@
 --   gathered-none, gathered-more   no share is in words that are zero; one share more
 --   gathered-all                   all shares are in the words, where a share that is not there counts as zeros
 use mathlib.Core.Path.{_≡_, refl, sym, ap, ap₂, _∙_}
-use mathlib.Core.List.{List, [], _∷_, map}
+use mathlib.Core.List.{List, _∷_, map}
 use Prim.Native.Nat.{ℕ, zero, suc, _+_, _-_, _*_, _≤_, _<_}
 use native.Mathlib.Decide.{decLt, ℕ-discrete}
 use native.Mathlib.Nat.{le-of-eq, not-suc-le-zero, mul-le-mul-right}
 use native.Mathlib.Omega.{arith}
-use lib.Dec.{lit<}
 use lib.ListN.{length, getD, take, drop, replicate, length-map, length-replicate, length-take, length-drop, List·getD-eq-default}
 use Rattle.lists.specs.Part.{part}
 use Rattle.lists.specs.Part.Laws.{length-part, part-part, part-fits}
 use Rattle.lists.specs.Sum.{xorList}
 use Rattle.lists.specs.Sum.Laws.{xorList-comm, xorList-zeros, length-xorList}
+use Rattle.polynomial.specs.Bytes.{bytes-from, byte-at, bytes-take}
+use Rattle.exchange.specs.Sequences.Laws.{bytes-drop}
 use Rattle.exchange.specs.Reading.{bytesAt}
 use Rattle.exchange.specs.Reading.Laws.{length-bytesAt, bytesAt-part}
 use Rattle.packed.specs.Share.{share, placed}
 use Rattle.packed.specs.Share.Laws.{zeros-share, share-own, share-rest}
 use Rattle.sidebyside.specs.Shares.{Gathered}
-
-lent-bytes : (n a : ℕ) (d : List ℕ) → ((k : ℕ) → getD d k 0 < 256) → (k : ℕ) → getD (take n (drop a d)) k 0 < 256
-lent-bytes zero a d h k = lit< tt
-lent-bytes (suc n) zero [] h k = lit< tt
-lent-bytes (suc n) zero (x ∷ d) h zero = h 0
-lent-bytes (suc n) zero (x ∷ d) h (suc k) = lent-bytes n zero d (λ j. h (suc j)) k
-lent-bytes (suc n) (suc a) [] h k = lit< tt
-lent-bytes (suc n) (suc a) (x ∷ d) h k = lent-bytes (suc n) a d (λ j. h (suc j)) k
 
 past-end : (s : List ℕ) (i n : ℕ) → length s ≤ i → bytesAt s i n ≡ replicate n 0
 unfolding bytesAt
@@ -91,8 +84,9 @@ module _ (size : ℕ) (shares : List ℕ) (from count : ℕ) where
         → out ≡ xorList words (map (placed i) (take (i * size + from + count - (i * size + from)) (drop (i * size + from) shares)))
         → Gathered size shares from count (i + 1) out
     gathered-more words out g bytes e =
-        rw e
-        (added i words _ g share-lent (lent-bytes (i * size + from + count - (i * size + from)) (i * size + from) shares bytes))
+        let a : ℕ = i * size + from in
+        let b = bytes-take (a + count - a) (drop a shares) (bytes-drop a shares (bytes-from shares bytes)) in
+        rw e (added i words _ g share-lent (λ k. byte-at k (take (a + count - a) (drop a shares)) b))
 
   pub gathered-all : (i n : ℕ) (words : List ℕ) → n ≤ i → length shares ≡ n * size → Gathered size shares from count i words
       → (j : ℕ) → share j words ≡ bytesAt (part shares (j * size) size) from count
