@@ -8,6 +8,7 @@
 --   bytes-put                   four writes are one
 --   write-none, -turn, -end     a table that is written from its front on
 --   front-length, front-kept, middle-kept   the length of a front; a slice keeps its length where a front, or a middle part, was lent
+--   halves-room, halves-made    the front of a slice and then the rest of it are lent and come back: how long the rest is, and what stands in the slice
 use mathlib.Core.Path.{_≡_, refl, sym, ap, ap₂, _∙_}
 use mathlib.Core.List.{List, [], _∷_, _++_}
 use Prim.Native.Nat.{ℕ, suc, _+_, _-_, _*_, _≤_, _<_}
@@ -15,9 +16,9 @@ use native.Mathlib.Numerals.{add-one}
 use native.Mathlib.Omega.{arith}
 use lib.Dec.{lit<}
 use lib.ListN.{length, getD, set, take, drop, length-append, length-drop}
-use lib.Seq.{length-take-le, paste}
+use lib.Seq.{length-take-le, take-at, drop-at, paste}
 use Rattle.lists.specs.Part.{part, putAt}
-use Rattle.lists.specs.Part.Laws.{putAt-none, putAt-more, putAt-all, putAt-whole, putAt-putAt}
+use Rattle.lists.specs.Part.Laws.{putAt-none, putAt-more, putAt-all, putAt-whole, putAt-putAt, tail-part, tail-back}
 use Rattle.bytefield.specs.Byte.{byte, byteRing, val-byte}
 use Rattle.tower.specs.Point.{pointOps, quad, lone, fourSum, fourTimes}
 use Rattle.tower.specs.Point.Laws.{bytes-times}
@@ -114,3 +115,16 @@ middle-kept a n u l e h =
     let b = length-drop a l in
     let t = length-take-le a l (omega arith) in
     length-append (take a l) (u ++ drop n (drop a l)) ∙ (let q = length-append u (drop n (drop a l)) in omega arith)
+
+-- ---- a front, and then the rest
+
+module _ (d ys : List ℕ) (a : ℕ) (e : length ys ≡ a) where
+  pub halves-room : (b : ℕ) → length d ≡ a + b → length (take (length (ys ++ drop a d) - a) (drop a (ys ++ drop a d))) ≡ b
+  halves-room b n =
+      ap length (tail-part (ys ++ drop a d) a ∙ drop-at ys (drop a d) a e) ∙ length-drop a d ∙ omega arith
+
+  pub halves-made : (u : List ℕ) → a ≤ length d
+      → take a (ys ++ drop a d) ++ (u ++ drop (length (ys ++ drop a d) - a) (drop a (ys ++ drop a d))) ≡ ys ++ u
+  halves-made u h =
+      tail-back (ys ++ drop a d) u a (let k = length-append ys (drop a d) in omega arith)
+      ∙ ap (λ (z : List ℕ). z ++ u) (take-at ys (drop a d) a e)

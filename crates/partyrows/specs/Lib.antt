@@ -1,4 +1,3 @@
 pub mod Difference
 pub mod Row
 pub mod Asked
-pub mod Slices

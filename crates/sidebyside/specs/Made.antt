@@ -8,13 +8,14 @@ use mathlib.Core.List.{List, [], _++_, map}
 use Prim.Native.Nat.{ℕ, _+_, _-_, _*_, _≤_, _<_}
 use native.Mathlib.Nat.{le-of-eq}
 use native.Mathlib.Omega.{arith}
-use lib.ListN.{length, getD, take, drop, replicate, length-append, length-drop, length-replicate}
+use lib.ListN.{length, getD, take, drop, replicate, length-append, length-replicate}
 use lib.Seq.{take-at, drop-at}
 use Rattle.lists.specs.Part.Laws.{tail-part, tail-back}
 use Rattle.lists.specs.Sum.{xorList}
 use Rattle.parameters.specs.declared.Parameters.{Parameters}
 use Rattle.relation.specs.Key.{rows}
 use Rattle.exchange.specs.Layout.{atX}
+use Rattle.encoding.specs.Written.{halves-room, halves-made}
 use Rattle.exchange.specs.Reading.{bytesAt}
 use Rattle.exchange.specs.Reading.Laws.{bytesAt-all}
 use Rattle.exchange.specs.Values.{keyOf, xAOf, imageOf, xOf}
@@ -24,15 +25,11 @@ use Rattle.sidebyside.specs.Spread.{spread, share-spread}
 
 -- ---- the words before the matrix is applied
 
-module _ (k m : ℕ) (w g z : List ℕ) (lw : length w ≡ m) (lg : length g ≡ k) where
-  pub prepared-made : k ≤ m → z ≡ replicate (length (take (length (g ++ drop k w) - k) (drop k (g ++ drop k w)))) 0
-      → take k (g ++ drop k w) ++ (z ++ drop (length (g ++ drop k w) - k) (drop k (g ++ drop k w))) ≡ g ++ replicate (m - k) 0
-  prepared-made h ez =
-      let l = length-append g (drop k w) in
-      tail-back (g ++ drop k w) z k (omega arith)
-      ∙ ap₂ _++_ (take-at g (drop k w) k lg)
-      (ez ∙ ap (λ (l : List ℕ). replicate (length l) 0) (tail-part (g ++ drop k w) k ∙ drop-at g (drop k w) k lg)
-      ∙ ap (λ (n : ℕ). replicate n 0) (length-drop k w ∙ ap (λ (n : ℕ). n - k) lw))
+pub prepared-made : (k m : ℕ) (w g z : List ℕ) → length w ≡ m → length g ≡ k → k ≤ m
+    → z ≡ replicate (length (take (length (g ++ drop k w) - k) (drop k (g ++ drop k w)))) 0
+    → take k (g ++ drop k w) ++ (z ++ drop (length (g ++ drop k w) - k) (drop k (g ++ drop k w))) ≡ g ++ replicate (m - k) 0
+prepared-made k m w g z lw lg h ez =
+    halves-made w g k lg z (omega arith) ∙ ap (_++_ g) (ez ∙ ap (λ (n : ℕ). replicate n 0) (halves-room w g k lg (m - k) (omega arith)))
 
 module _ (k m : ℕ) (g w : List ℕ) (h : k ≤ m) (lg : length g ≡ k) (e : w ≡ g ++ replicate (m - k) 0) where
   prepared-length : length w ≡ m

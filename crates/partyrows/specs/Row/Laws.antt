@@ -4,15 +4,13 @@
 -- frontBy-is, vBy-is, rowBy-is         the row of a share, from its block
 -- two-lengths                          two lists of points take 8t bytes
 -- hidden-inside, hidden-outside        the party that holds the hidden leaf, and where none is hidden
--- withHidden-yes, withHidden-no        where a leaf is hidden, and where none is
--- first-held, first-kept, second-held, second-kept   a party that holds the hidden leaf, and one that does not
 -- hide-made                            the row of the party that holds the hidden leaf, in points
 use mathlib.Core.Path.{_≡_, refl, sym, ap, ap₂, _∙_}
-use mathlib.Core.Bool.{Bool, true, false, cond}
+use mathlib.Core.Bool.{Bool, true, cond}
 use mathlib.Core.List.{List, [], _++_, append-assoc, append-nil}
 use Prim.Native.Nat.{ℕ, _+_, _*_, _≤_, _<_}
 use native.Mathlib.Omega.{arith}
-use borrow.Author.Tests.{lt-ltb, le-ltb, eq-eqb, ne-eqb}
+use borrow.Author.Tests.{lt-ltb, le-ltb}
 use lib.ListN.{length, take, drop, length-append, drop-of-length-le}
 use lib.Seq.{take-at, drop-at}
 use Rattle.lists.specs.Part.{putAt}
@@ -28,7 +26,7 @@ use Rattle.exchange.specs.Parties.{sums}
 use Rattle.values.specs.Announced.{gamma, announcedOf, vOf}
 use Rattle.values.specs.Announced.Laws.{partV-gamma}
 use Rattle.partyrows.specs.Difference.{encode-xor, shareRow}
-use Rattle.partyrows.specs.Row.{frontBy, vAt, vBy, rowBy, hiddenParty, withHidden, hideIn, firstBy, secondBy}
+use Rattle.partyrows.specs.Row.{frontBy, vAt, vBy, rowBy, hiddenParty, hideIn}
 
 -- ---- points behind others
 
@@ -40,7 +38,7 @@ at-end : (before : List ℕ) (f : ℕ → Point) (t i l : ℕ) → length before
 at-end before f t i l e h =
     ap (λ (z : List ℕ). pointAt (before ++ z) (i + 4 * l)) (sym (append-nil (encode f t))) ∙ pointAt-encode before f t [] i l e h
 
-pub two-lengths : (f g : ℕ → Point) (t : ℕ) → length (encode f t ++ encode g t) ≡ 8 * t
+two-lengths : (f g : ℕ → Point) (t : ℕ) → length (encode f t ++ encode g t) ≡ 8 * t
 two-lengths f g t =
     let a = length-encode f t in
     let b = length-encode g t in
@@ -65,7 +63,7 @@ module _ (p : Parameters) (key : Key) (m2 s : List ℕ) where
       ap (take (8 * p .t)) (eb ∙ sym (append-assoc (encode (alpha p key m2 true s) (p .t)) (encode (beta p key m2 true s) (p .t)) _))
       ∙ take-at (encode (alpha p key m2 true s) (p .t) ++ encode (beta p key m2 true s) (p .t)) _ (8 * p .t) (two-lengths _ _ (p .t))
 
-  pub vBy-is : (block sums : List ℕ) (α̂ β̂ : ℕ → Point) → block ≡ announcedOf p key m2 true s → sums ≡ encode α̂ (p .t) ++ encode β̂ (p .t)
+  vBy-is : (block sums : List ℕ) (α̂ β̂ : ℕ → Point) → block ≡ announcedOf p key m2 true s → sums ≡ encode α̂ (p .t) ++ encode β̂ (p .t)
       → vBy p s block sums ≡ encode (λ l. partV p key m2 true s (α̂ l) (β̂ l) l) (p .t)
   unfolding vBy vAt announcedOf
   vBy-is block sums α̂ β̂ eb es =
@@ -101,32 +99,6 @@ module _ (p : Parameters) (leaf j : ℕ) where
   pub hidden-outside : leaves p ≤ leaf → hiddenParty p leaf j ≡ side p
   unfolding hiddenParty
   hidden-outside h = ap (λ (b : Bool). cond b (digit p j leaf) (side p)) (le-ltb leaf (leaves p) h)
-
-module _ (p : Parameters) (leaf : ℕ) (hidden sums : List ℕ) where
-  pub withHidden-yes : leaf < leaves p → withHidden p leaf hidden sums ≡ xorList sums hidden
-  unfolding withHidden
-  withHidden-yes h = ap (λ (b : Bool). cond b (xorList sums hidden) sums) (lt-ltb leaf (leaves p) h)
-
-  pub withHidden-no : leaves p ≤ leaf → withHidden p leaf hidden sums ≡ sums
-  unfolding withHidden
-  withHidden-no h = ap (λ (b : Bool). cond b (xorList sums hidden) sums) (le-ltb leaf (leaves p) h)
-
-module _ (p : Parameters) (party : ℕ) (hidden a b : List ℕ) where
-  pub first-held : party ≡ 0 → firstBy p party hidden a b ≡ hideIn p hidden a b
-  unfolding firstBy
-  first-held e = ap (λ (t : Bool). cond t (hideIn p hidden a b) a) (eq-eqb party 0 e)
-
-  pub first-kept : (party ≡ 0 → ⊥) → firstBy p party hidden a b ≡ a
-  unfolding firstBy
-  first-kept e = ap (λ (t : Bool). cond t (hideIn p hidden a b) a) (ne-eqb party 0 e)
-
-  pub second-held : party ≡ 1 → secondBy p party hidden a b ≡ hideIn p hidden b a
-  unfolding secondBy
-  second-held e = ap (λ (t : Bool). cond t (hideIn p hidden b a) b) (eq-eqb party 1 e)
-
-  pub second-kept : (party ≡ 1 → ⊥) → secondBy p party hidden a b ≡ b
-  unfolding secondBy
-  second-kept e = ap (λ (t : Bool). cond t (hideIn p hidden b a) b) (ne-eqb party 1 e)
 
 module _ (p : Parameters) (f g v f′ g′ v′ α⋆ β⋆ : ℕ → Point) (hidden : List ℕ) (eh : hidden ≡ encode α⋆ (p .t) ++ encode β⋆ (p .t)) where
   summed : xorList (encode f (p .t) ++ (encode g (p .t) ++ encode v (p .t))) hidden

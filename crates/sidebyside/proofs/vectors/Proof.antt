@@ -5,9 +5,9 @@ use Prim.Native.Nat.{_-_, _≤_}
 use native.Mathlib.Omega.{arith}
 use borrow.Author.Needs.{needs}
 use lib.ListN.{length, take, drop, replicate}
-use lib.Seq.{length-take-le}
 use Rattle.exchange.specs.Layout.{atX}
 use Rattle.exchange.specs.Reading.{bytesAt}
+use Rattle.encoding.specs.Written.{front-length}
 use Rattle.sidebyside.specs.Shares.{shareOf}
 use Rattle.sidebyside.specs.Made.{prepared-made, prepared-image, vector-made}
 use Rattle.sidebyside.proofs.vectors.Statement.{statement}
@@ -15,7 +15,7 @@ use Rattle.sidebyside.proofs.vectors.Tie as tie
 
 -- k words are lent
 front : (s : tie.Start) → s .args .p .k ≡ length (take (s .args .p .k) (s .args .words .now))
-front s = let f = s .pre .within in sym (length-take-le (s .args .p .k) (s .args .words .now) (omega (arith, s .pre .sized-words)))
+front s = let f = s .pre .within in front-length _ _ (omega (arith, s .pre .sized-words))
 
 abbrev back-to-start : tie.After-gather → tie.Start
 back-to-start c = search

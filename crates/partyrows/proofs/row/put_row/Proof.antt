@@ -6,33 +6,21 @@ use native.Mathlib.Omega.{arith}
 use borrow.Author.Needs.{needs}
 use lib.ListN.{length, take}
 use lib.Seq.{length-take-le}
+use Rattle.encoding.specs.Written.{halves-room, halves-made}
 use Rattle.partyrows.specs.Row.{rowBy}
-use Rattle.partyrows.specs.Slices.{halves-room, halves-made}
 use Rattle.partyrows.proofs.row.put_row.Statement.{statement}
 use Rattle.partyrows.proofs.row.put_row.Tie as tie
 
 front : (s : tie.Start) → length (take (8 * s .args .p .t) (s .args .out .now)) ≡ 8 * s .args .p .t
 front s = length-take-le (8 * s .args .p .t) (s .args .out .now) (omega (arith, s .pre .1))
 
-slice-aggregate-put-front : tie.Need-slice-aggregate-put-front
-slice-aggregate-put-front c = let s : tie.Start = search in sym (front s)
-
-put-front-requires : tie.Need-put-front-requires
-put-front-requires c κs = let s : tie.Start = search in (s .pre .0 .within, s .pre .0 .sized-block, front s)
-
 put-v-requires : tie.Need-put-v-requires
 put-v-requires c κs =
     let d : tie.After-put-front = search in
     let s : tie.Start = search in
-    let f = s .pre .0 in (
-      f .within,
-      f .sized-s,
-      f .sized-block,
-      f .sized-sums,
-      halves-room (s .args .out .now) (d .put-front .last .1 .1 .0) (8 * s .args .p .t) (d .put-front .kept .1 .1 .0 ∙ front s) (4 * s .args .p .t) (omega (arith, s .pre .1)),
-      s .pre .2,
-      s .pre .3,
-    )
+    let (f, n, l, p) = s .pre in
+    let r = halves-room (s .args .out .now) (d .put-front .last .1 .1 .0) _ (d .put-front .kept .1 .1 .0 ∙ front s) (4 * s .args .p .t) (omega arith) in
+    (f .within, f .sized-s, f .sized-block, f .sized-sums, r, l, p)
 
 returns : tie.Need-returns
 unfolding rowBy
@@ -45,6 +33,6 @@ returns c =
     ∙ ap₂ _++_ (d .put-front .ensures) (e .put-v .ensures)
 
 pub put-row-spec : {M : Type 1} → statement M
-put-row-spec = tie.close (tie.spec (λ c. search needs) (λ c. search needs) slice-aggregate-put-front
-    put-front-requires (λ c. search needs) (λ c. search needs) (λ c. search needs) put-v-requires (λ c. search needs)
+put-row-spec = tie.close (tie.spec (λ c. search needs) (λ c. search needs) (λ c. let s : tie.Start = search in sym (front s))
+    (λ c κs. let s : tie.Start = search in let e = front s in search needs) (λ c. search needs) (λ c. search needs) (λ c. search needs) put-v-requires (λ c. search needs)
     returns)

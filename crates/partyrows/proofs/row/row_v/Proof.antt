@@ -1,5 +1,4 @@
 -- γ, α̂ and β̂ are read at their places (`v-read`).
-use native.Mathlib.Omega.{arith}
 use borrow.Author.Needs.{needs}
 use Rattle.partyrows.specs.Row.Laws.{v-read}
 use Rattle.partyrows.proofs.row.row_v.Statement.{statement}

@@ -1,6 +1,5 @@
 -- α̂ and β̂ are those of s, and the hidden leaf's.
 use mathlib.Core.Path.{ap, _∙_}
-use native.Mathlib.Omega.{arith}
 use borrow.Author.Needs.{needs}
 use Rattle.partyrows.specs.Row.{withHidden, sumsBy}
 use Rattle.partyrows.proofs.total.total_row_with.Statement.{statement}
@@ -11,12 +10,8 @@ put-row-requires c κs =
     let b : tie.After-add-hidden = search in
     let d : tie.After-put-front = search in
     let s : tie.Start = search in
-    let f = s .pre .0 in (
-      record { within = f .within; sized-s = f .sized-s; sized-block = f .sized-block; sized-sums = b .add-hidden .kept .1 .1 .1 .0 ∙ d .put-front .kept .1 .1 .0 ∙ f .sized-sums },
-      s .pre .2,
-      s .pre .3,
-      s .pre .4,
-    )
+    let e = b .add-hidden .kept .1 .1 .1 .0 ∙ d .put-front .kept .1 .1 .0 ∙ s .pre .0 .sized-sums in
+    search needs
 
 returns : tie.Need-returns
 unfolding sumsBy
