@@ -13,7 +13,7 @@ ghost use Rattle.partyrows.specs.Row.{rowBy, sumsBy};
 ghost use Rattle.axes.specs.Axes.{Evaluated};
 ghost use Rattle.axes.specs.Asked.{EvaluateAsked, AxesAsked};
 
-// blocks becomes the blocks of the D + 1 shares, with the constants; rows holds S of each.
+// blocks becomes the blocks of the D + 1 shares, with the constants; rows holds S of each, and F.
 fn evaluate_with(
     p: Parameters,
     parts: &[u8],
@@ -25,7 +25,7 @@ fn evaluate_with(
     log: &[u8; 256],
     pow: &[u8; 256],
 ) -> usize
-    requires { ⌜ EvaluateAsked p (now parts) (now m2) (now matrix) (now y) (now blocks) × (length (now rows) ≡ (p .d + 1) * p .m) × (now log ≡ logs) × (now pow ≡ powers) ⌝ }
+    requires { ⌜ EvaluateAsked p (now parts) (now m2) (now matrix) (now y) (now blocks) × (length (now rows) ≡ (p .d + 1 + 1) * p .m) × (now log ≡ logs) × (now pow ≡ powers) ⌝ }
     ensures { λ c. ⌜ Evaluated p (keyOf (now (matrix .entry)) (now (y .entry))) (now (m2 .entry)) (now (parts .entry)) (now (blocks .exit)) × (c ≡ productsOf p (p .d + 1)) ⌝ }
 {
     let n = p.d + 1;
@@ -47,8 +47,8 @@ pub fn evaluate(
     requires { ⌜ EvaluateAsked p (now parts) (now m2) (now matrix) (now y) (now blocks) × (now log ≡ logs) × (now pow ≡ powers) ⌝ }
     ensures { λ c. ⌜ Evaluated p (keyOf (now (matrix .entry)) (now (y .entry))) (now (m2 .entry)) (now (parts .entry)) (now (blocks .exit)) × (c ≡ productsOf p (p .d + 1)) ⌝ }
 {
-    let mut rows = [0u8; 2295];
-    let e = (p.d + 1) * p.m;
+    let mut rows = [0u8; 2550];
+    let e = (p.d + 2) * p.m;
     evaluate_with(p, parts, m2, matrix, y, &mut rows[..e], blocks, log, pow)
 }
 

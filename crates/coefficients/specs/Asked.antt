@@ -1,7 +1,7 @@
 -- What the functions of this crate ask for.
 --
---   RowsAsked p n shares matrix y rows   n shares within the limits, up to sixteen, one after another, with the key and room for S of each
---   Lent p weights g a                   the weights and the complement of the m interpolation points, and an area of words
+--   RowsAsked p n c shares matrix y rows   n shares within the limits, up to fifteen, one after another, with the key and room for c rows of m bytes
+--   Lent p weights g a                     the weights and the complement of the m interpolation points, and an area of words
 use mathlib.Core.Path.{_≡_}
 use mathlib.Core.List.{List}
 use Prim.Native.Nat.{ℕ, _-_, _*_, _≤_}
@@ -11,13 +11,13 @@ use Rattle.parameters.specs.Limits.{Within}
 use Rattle.exchange.specs.Layout.{shareLength}
 use Rattle.interpolants.specs.Complement.{complementOf, weightsOf}
 
-pub record RowsAsked (p : Parameters) (n : ℕ) (shares matrix y rows : List ℕ) : Type 0 where
+pub record RowsAsked (p : Parameters) (n c : ℕ) (shares matrix y rows : List ℕ) : Type 0 where
   pub within : Within p
-  pub few : n ≤ 16
+  pub few : n ≤ 15
   pub sized-shares : length shares ≡ n * shareLength p
   pub sized-matrix : length matrix ≡ (p .m - p .k) * p .k
   pub sized-y : length y ≡ p .m - p .k
-  pub sized-rows : length rows ≡ n * p .m
+  pub sized-rows : length rows ≡ c * p .m
 
 pub record Lent (p : Parameters) (weights g a : List ℕ) : Type 0 where
   pub made-weights : weights ≡ weightsOf (p .m)

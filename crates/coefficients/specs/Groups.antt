@@ -6,22 +6,24 @@
 --   share-group                  share j of the group that starts at share i is share i + j
 --   rows-made                    S of the shares of a group, from the words that interpolate them
 --   rows-from                    they are S of the shares from its start on
-use mathlib.Core.Path.{_≡_, refl, ap, _∙_}
+--   end-lent                     how many bytes are lent behind the rows
+--   rows-whole                   S of all shares, and F but its leading one behind them
+use mathlib.Core.Path.{_≡_, refl, ap, ap₂, _∙_}
 use mathlib.Core.Bool.{Bool}
 use mathlib.Core.List.{List, _++_}
 use Prim.Native.Nat.{ℕ, _+_, _-_, _*_, _≤_, _<_}
 use native.Mathlib.Nat.{add-mul, mul-le-mul-right}
 use native.Mathlib.Omega.{arith}
-use lib.ListN.{length, take, drop, replicate}
-use lib.Seq.{take-at}
+use lib.ListN.{length, take, drop, replicate, length-take, length-drop}
+use lib.Seq.{take-at, drop-at, length-take-le}
 use Rattle.lists.specs.Part.{part}
-use Rattle.lists.specs.Part.Laws.{part-part, part-fits}
+use Rattle.lists.specs.Part.Laws.{part-part, part-fits, tail-back}
 use Rattle.parameters.specs.declared.Parameters.{Parameters}
-use Rattle.polynomial.specs.Interpolant.{interpolantOf}
+use Rattle.polynomial.specs.Interpolant.{interpolantOf, vanishingOf}
 use Rattle.exchange.specs.Sequences.{joined}
 use Rattle.exchange.specs.Sequences.Laws.{joined-ext}
 use Rattle.exchange.specs.Layout.{shareLength}
-use Rattle.exchange.specs.Values.{Key, xOf, SOf}
+use Rattle.exchange.specs.Values.{Key, xOf, SOf, F}
 use Rattle.packed.specs.Share.{share}
 use Rattle.interpolants.specs.Shares.{share-end}
 use Rattle.sidebyside.specs.Shares.{shareOf}
@@ -70,3 +72,17 @@ pub rows-from : (p : Parameters) (key : Key) (first : Bool) (shares rows : List 
     → rows ≡ joined (rowOf p key first (take (a + z - a) (drop a shares))) c → rows ≡ joined (λ j. rowOf p key first shares (i + j)) c
 rows-from p key first shares rows i c a z ea ez e =
     e ∙ joined-ext _ (λ j. rowOf p key first shares (i + j)) c (λ j h. ap (SOf p key first) (share-group p shares i c a z j ea ez h))
+
+-- ---- all rows: from place a on there is room for one more
+
+module _ (p : Parameters) (a : ℕ) (rows : List ℕ) (fits : a + p .m ≡ length rows) where
+  pub end-lent : length (take (length rows - a) (drop a rows)) ≡ p .m
+  end-lent = simp (length-take, length-drop) (omega arith)
+
+  -- the end becomes f, and then the front z
+  pub rows-whole : (z f s : List ℕ) → z ≡ s → let m = length (take (length rows - a) (drop a rows)) in f ≡ take m (vanishingOf m)
+      → z ++ drop a (take a rows ++ (f ++ drop (length rows - a) (drop a rows))) ≡ s ++ take (p .m) (F p)
+  unfolding F
+  rows-whole z f s ez ef =
+      ap₂ _++_ ez (ap (drop a) (tail-back rows f a (omega arith)) ∙ drop-at (take a rows) f a (length-take-le a rows (omega arith)) ∙ ef
+      ∙ ap (λ (m : ℕ). take m (vanishingOf m)) end-lent)

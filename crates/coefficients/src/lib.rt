@@ -2,12 +2,13 @@
 use encoding::share_length;
 use parameters::Parameters;
 ghost use mathlib.Core.Path.{_≡_};
-ghost use Prim.Native.Nat.{_*_, _<_, _≤_};
-ghost use lib.ListN.{length};
+ghost use mathlib.Core.List.{_++_};
+ghost use Prim.Native.Nat.{_+_, _*_, _<_, _≤_};
+ghost use lib.ListN.{length, take};
 ghost use Rattle.bytefield.specs.Tables.{logs, powers};
 ghost use Rattle.packed.specs.Share.{share};
 ghost use Rattle.exchange.specs.Sequences.{joined};
-ghost use Rattle.exchange.specs.Values.{keyOf, SOf};
+ghost use Rattle.exchange.specs.Values.{keyOf, SOf, F};
 ghost use Rattle.sidebyside.specs.Shares.{shareOf};
 ghost use Rattle.coefficients.specs.Asked.{RowsAsked, Lent};
 
@@ -42,7 +43,7 @@ fn interpolate_group(
     log: &[u8; 256],
     pow: &[u8; 256],
 )
-    requires { ⌜ RowsAsked p n (now shares) (now matrix) (now y) (now rows) × (n ≤ 8) × Lent p (now weights) (now g) (now a) × (now log ≡ logs) × (now pow ≡ powers) ⌝ }
+    requires { ⌜ RowsAsked p n n (now shares) (now matrix) (now y) (now rows) × (n ≤ 8) × Lent p (now weights) (now g) (now a) × (now log ≡ logs) × (now pow ≡ powers) ⌝ }
     ensures { λ _. ⌜ now (rows .exit) ≡ joined (λ i. SOf p (keyOf (now (matrix .entry)) (now (y .entry))) first (shareOf p (now (shares .entry)) i)) n ⌝ }
 {
     let m = p.m;
@@ -78,7 +79,7 @@ fn interpolate_with(
     log: &[u8; 256],
     pow: &[u8; 256],
 )
-    requires { ⌜ RowsAsked p n (now shares) (now matrix) (now y) (now rows) × Lent p (now weights) (now g) (now a) × (now log ≡ logs) × (now pow ≡ powers) ⌝ }
+    requires { ⌜ RowsAsked p n n (now shares) (now matrix) (now y) (now rows) × Lent p (now weights) (now g) (now a) × (now log ≡ logs) × (now pow ≡ powers) ⌝ }
     ensures { λ _. ⌜ now (rows .exit) ≡ joined (λ i. SOf p (keyOf (now (matrix .entry)) (now (y .entry))) first (shareOf p (now (shares .entry)) i)) n ⌝ }
 {
     let size = share_length(p);
@@ -110,7 +111,7 @@ fn interpolate_with(
     }
 }
 
-// rows becomes S of each of n shares, which stand one after another, with y in it where `first`: m coefficients each.
+// rows becomes S of each of n shares, which stand one after another, with y in it where `first`, and F but its leading one behind them: m coefficients each.
 pub fn interpolate_each(
     p: Parameters,
     n: usize,
@@ -122,16 +123,18 @@ pub fn interpolate_each(
     log: &[u8; 256],
     pow: &[u8; 256],
 )
-    requires { ⌜ RowsAsked p n (now shares) (now matrix) (now y) (now rows) × (now log ≡ logs) × (now pow ≡ powers) ⌝ }
-    ensures { λ _. ⌜ now (rows .exit) ≡ joined (λ i. SOf p (keyOf (now (matrix .entry)) (now (y .entry))) first (shareOf p (now (shares .entry)) i)) n ⌝ }
+    requires { ⌜ RowsAsked p n (n + 1) (now shares) (now matrix) (now y) (now rows) × (now log ≡ logs) × (now pow ≡ powers) ⌝ }
+    ensures { λ _. ⌜ now (rows .exit) ≡ joined (λ i. SOf p (keyOf (now (matrix .entry)) (now (y .entry))) first (shareOf p (now (shares .entry)) i)) n ++ take (p .m) (F p) ⌝ }
 {
     let mut g = [0u8; 256];
     let mut weights = [0u8; 255];
     let mut a = [0u64; 255];
     let m = p.m;
     let e = 256 - m;
+    let end = n * m;
     interpolants::complement(&mut g[..e], m, log, pow);
     interpolants::weights(&mut weights[..m], &g[..e], log, pow);
+    interpolants::vanishing(&mut rows[end..], &g[..e]);
     interpolate_with(
         p,
         n,
@@ -142,7 +145,7 @@ pub fn interpolate_each(
         &weights[..m],
         &g[..e],
         &mut a,
-        rows,
+        &mut rows[..end],
         log,
         pow,
     );

@@ -3,7 +3,6 @@
 --   scalar b                    the byte b as a point: 'A byte b is the point b 00 00 00'
 --   times-point, sum-bytes      what product and sum of points give on their bytes
 --   lone-bytes, scalar-bytes    a byte as a point, and a product with a byte
---   whole-point                 the bytes of a point stand for it
 --   bytes-read                  four bytes that are read are a point's
 --   bytes-put                   four writes are one
 --   write-none, -turn, -end     a table that is written from its front on
@@ -51,9 +50,6 @@ pub sum-bytes : (a b c : List ℕ) (x y : Point) → a ≡ bytesOf x → b ≡ b
 sum-bytes a b c x y ea eb ec = ec ∙ ap₂ fourSum ea eb ∙ sum-point x y
 
 -- ---- four bytes
-
-pub whole-point : (a : List ℕ) (x : Point) → a ≡ bytesOf x → a ≡ bytesOf (point a)
-whole-point a x e = e ∙ ap bytesOf (sym (ap point e ∙ point-bytesOf x))
 
 pub bytes-read : (s : List ℕ) (i : ℕ) → ((j : ℕ) → getD s j 0 < 256)
     → getD s i 0 ∷ getD s (i + 1) 0 ∷ getD s (i + 2) 0 ∷ getD s (i + 3) 0 ∷ [] ≡ bytesOf (pointAt s i)

@@ -15,11 +15,11 @@ fn count(p: Parameters, n: usize) -> usize
     let log = bytefield::log_table();
     let pow = bytefield::power_table();
     let shares = [0u8; 7740];
-    let rows = [0u8; 2295];
+    let rows = [0u8; 2550];
     let m2 = [0u8; 64];
     let mut out = [0u8; 864];
     let a = n * encoding::share_length(p);
-    let b = n * p.m;
+    let b = (n + 1) * p.m;
     let c = 8 * p.t;
     let e = n * (12 * p.t);
     values::announce_each(

@@ -6,12 +6,12 @@
 -- filled-block              a filled block
 use mathlib.Core.Path.{_≡_, refl, sym, ap, ap₂, _∙_}
 use mathlib.Core.Logic.{_⊎_, inl, inr}
-use mathlib.Core.List.{List, [], _∷_, _++_}
+use mathlib.Core.List.{List, _++_}
 use Prim.Native.Nat.{ℕ, zero, suc, _+_, _*_, _≤_, _<_}
 use native.Mathlib.Decide.{ℕ-discrete}
 use native.Mathlib.Omega.{arith}
 use lib.ListN.{length, take, drop}
-use lib.Seq.{drop-drop, take-nil}
+use lib.Seq.{drop-drop, take-add}
 use Rattle.lists.specs.Part.{part, putAt}
 use Rattle.lists.specs.Part.Laws.{part-putAt-same, part-putAt-before, part-putAt-behind}
 use Rattle.tower.specs.Field.{Point, bytesOf}
@@ -40,16 +40,11 @@ module _ (f : ℕ → Point) (d : List ℕ) (at n q : ℕ) (x : List ℕ) (sized
           ap₂ (λ (a b : ℕ). part (putAt d q x) a b) k (sym sized) ∙ part-putAt-same d q x (omega arith) ∙ ex ∙ ap (λ (m : ℕ). bytesOf (f m)) (sym o)
       go (no o) = part-putAt-before d q x (omega arith) (at + 4 * i) 4 (omega arith) ∙ h i (omega arith)
 
-take-more : {A : Type 0} (a b : ℕ) (l : List A) → take (a + b) l ≡ take a l ++ take b (drop a l)
-take-more zero b l = let e : 0 + b ≡ b = omega arith in ap (λ (n : ℕ). take n l) e
-take-more (suc a) b [] = let e : suc a + b ≡ suc (a + b) = omega arith in ap (λ (n : ℕ). take n []) e ∙ sym (take-nil b)
-take-more (suc a) b (x ∷ l) = let e : suc a + b ≡ suc (a + b) = omega arith in ap (λ (n : ℕ). take n (x ∷ l)) e ∙ ap (_∷_ x) (take-more a b l)
-
 pub filled-block : (f : ℕ → Point) (d : List ℕ) (at n : ℕ) → Filled f d at n → part d at (4 * n) ≡ encode f n
 unfolding part encode joined
 filled-block f d at zero h = refl
 filled-block f d at (suc n) h =
     let e : 4 * suc n ≡ 4 * n + 4 = omega arith in
-    ap (λ (m : ℕ). take m (drop at d)) e ∙ take-more (4 * n) 4 (drop at d)
+    ap (λ (m : ℕ). take m (drop at d)) e ∙ take-add (4 * n) 4 (drop at d)
     ∙ ap₂ _++_ (filled-block f d at n (λ i l. h i (omega arith)))
     (ap (take 4) (drop-drop (4 * n) at d) ∙ h n (omega arith))

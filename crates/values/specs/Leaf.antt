@@ -36,7 +36,7 @@ pub record LeafAsked (p : Parameters) (s m2 matrix out : List ℕ) : Type 0 wher
 
 pub record RoomAsked (p : Parameters) (y rows block : List ℕ) : Type 0 where
   pub sized-y : length y ≡ p .m - p .k
-  pub sized-rows : length rows ≡ p .m
+  pub sized-rows : length rows ≡ 2 * p .m
   pub sized-block : length block ≡ 12 * p .t
 
 pub leafValues-any : (p : Parameters) (key : Key) (m2 s : List ℕ)

@@ -1,19 +1,21 @@
 -- One position of the announcement: the values of S, Q and P there, and what is written.
 --
--- Valued p key m2 first shares l n qs ss ps   the words of Q(r), S(r) and P(r) of n shares at position l
+-- Valued p key first shares n x qs ss ps leading   the words of Q, to which the leading term is to be added, S and P of n shares at the point x
 -- Factors p m2 l multiplier factor   the tables of multiples of ε and of ε·F(r) at position l
--- RowsOf p key first shares rows n   S of each of n shares, one after another
+-- RowsOf p key first shares rows n   S of each of n shares, one after another, and behind them F but its leading one
 -- writtenAt p l α β γ out     out with three points written to their places of position l
 -- announcedAt p key m2 first s l out   out with α, β and γ of the share written there
 -- EachAnnounced p key m2 first shares l before after n   the same in the parts of n shares
 use mathlib.Core.Path.{_≡_}
 use mathlib.Core.Bool.{Bool}
-use mathlib.Core.List.{List}
+use mathlib.Core.List.{List, _++_}
 use Prim.Native.Nat.{ℕ, _+_, _*_, _<_}
+use lib.ListN.{getD, take}
+use Rattle.lists.specs.Xor.{_⊕_}
 use Rattle.lists.specs.Part.{putAt}
 use Rattle.tower.specs.Field.{Point, bytesOf}
 use Rattle.parameters.specs.declared.Parameters.{Parameters}
-use Rattle.exchange.specs.Sequences.{joined, listed}
+use Rattle.exchange.specs.Sequences.{joined}
 use Rattle.exchange.specs.Reading.{value, _⊠_}
 use Rattle.exchange.specs.Values.{Key, QOf, POf, SOf, F, pointOf, multiplierOf, alpha, beta}
 use Rattle.sidebyside.specs.Shares.{shareOf}
@@ -23,17 +25,17 @@ use Rattle.values.specs.Shares.{blockOf}
 pub mod Evaluated
 pub mod Laws
 
-pub record Valued (p : Parameters) (key : Key) (m2 : List ℕ) (first : Bool) (shares : List ℕ) (l n : ℕ) (qs ss ps : List ℕ) : Type 0 where
-  pub locators : qs ≡ listed (λ i. wordOf (value (QOf p first (shareOf p shares i)) (pointOf p m2 l))) n
-  pub interpolants : ss ≡ listed (λ i. wordOf (value (SOf p key first (shareOf p shares i)) (pointOf p m2 l))) n
-  pub quotients : ps ≡ listed (λ i. wordOf (value (POf p (shareOf p shares i)) (pointOf p m2 l))) n
+pub record Valued (p : Parameters) (key : Key) (first : Bool) (shares : List ℕ) (n : ℕ) (x : Point) (qs ss ps : List ℕ) (leading : ℕ) : Type 0 where
+  pub locators : (i : ℕ) → i < n → getD qs i 0 ⊕ leading ≡ wordOf (value (QOf p first (shareOf p shares i)) x)
+  pub interpolants : (i : ℕ) → i < n → getD ss i 0 ≡ wordOf (value (SOf p key first (shareOf p shares i)) x)
+  pub quotients : (i : ℕ) → i < n → getD ps i 0 ≡ wordOf (value (POf p (shareOf p shares i)) x)
 
 pub record Factors (p : Parameters) (m2 : List ℕ) (l : ℕ) (multiplier factor : List ℕ) : Type 0 where
   pub of-multiplier : multiplier ≡ multiplesOf (multiplierOf p m2 l)
   pub of-vanishing : factor ≡ multiplesOf (multiplierOf p m2 l ⊠ value (F p) (pointOf p m2 l))
 
 abbrev pub RowsOf : Parameters → Key → Bool → List ℕ → List ℕ → ℕ → Type 0
-RowsOf p key first shares rows n = rows ≡ joined (λ i. SOf p key first (shareOf p shares i)) n
+RowsOf p key first shares rows n = rows ≡ joined (λ i. SOf p key first (shareOf p shares i)) n ++ take (p .m) (F p)
 
 unfoldable pub writtenAt : Parameters → ℕ → Point → Point → Point → List ℕ → List ℕ
 writtenAt p l α β γ out = putAt (putAt (putAt out (4 * l) (bytesOf α)) (4 * p .t + 4 * l) (bytesOf β)) (8 * p .t + 4 * l) (bytesOf γ)

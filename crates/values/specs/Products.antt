@@ -1,41 +1,36 @@
 -- How many products of the points field the announcement of several shares makes.
 --
--- productsAt p n     at one position: one for each coefficient of S, Q and P of n shares, and one for each power; those of F(r), and ε
---                    times it; for each share ε·Q(r), and ε·F(r) times P(r)
--- productsOf p n     at all positions
--- products-small, products-few    there are few, at a position and at several
--- products-turn      a position more
+-- evaluationsAt p n   the evaluations at one position: one for each coefficient of S, Q and P of n shares and of F, and one for each power
+-- productsAt p n      at one position: those, ε times F(r), and for each share ε·Q(r), and ε·F(r) times P(r)
+-- productsOf p n      at all positions
+-- evaluation-few, products-few    there are few, in one evaluation and at several positions
+-- products-turn       a position more
 use mathlib.Core.Path.{_≡_, sym, ap, _∙_}
-use Prim.Native.Nat.{ℕ, suc, _+_, _*_, _≤_}
+use Prim.Native.Nat.{ℕ, _+_, _*_, _≤_}
 use native.Mathlib.Nat.{mul-le-mul, suc-mul}
 use native.Mathlib.Numerals.{add-one}
 use native.Mathlib.Omega.{arith}
 use Rattle.parameters.specs.declared.Parameters.{Parameters}
 use Rattle.parameters.specs.Limits.{Within}
-use Rattle.evaluation.specs.Evaluation.{vanishingProducts}
-use Rattle.evaluation.specs.Evaluation.Factors.{vanishing-most}
+
+abbrev pub evaluationsAt : Parameters → ℕ → ℕ
+evaluationsAt p n = p .m * (n + 1 + 1) + 2 * (p .w * (n + 1))
 
 abbrev pub productsAt : Parameters → ℕ → ℕ
-productsAt p n = (p .m + 2 * p .w) * (n + 1) + (vanishingProducts (p .m) + 1) + 2 * n
+productsAt p n = evaluationsAt p n + 1 + 2 * n
 
 abbrev pub productsOf : Parameters → ℕ → ℕ
 productsOf p n = p .t * productsAt p n
 
-pub products-small : (p : Parameters) (n : ℕ) → Within p → n ≤ 16 → (p .m + 2 * p .w) * (n + 1) ≤ 765 * 17
-products-small p n w h =
-    let m = w .m-most in
-    let l = w .w-most in
-    let a : p .m + 2 * p .w ≤ 765 = omega arith in
-    let b : n + 1 ≤ 17 = omega arith in
-    mul-le-mul a b
+pub evaluation-few : (len n : ℕ) → len ≤ 255 → n ≤ 16 → len * (n + 1) ≤ 4335
+evaluation-few len n h k = let l : n + 1 ≤ 17 = omega arith in mul-le-mul h l
 
-pub products-few : (p : Parameters) (n l : ℕ) → Within p → n ≤ 16 → l ≤ 8 → l * productsAt p n ≤ 8 * 13549
+pub products-few : (p : Parameters) (n l : ℕ) → Within p → n ≤ 15 → l ≤ 8 → l * productsAt p n ≤ 8 * 13036
 products-few p n l w h k =
-    let m = w .m-most in
-    let f = vanishing-most (p .m) in
-    let few = products-small p n w h in
-    let a : productsAt p n ≤ 13549 = omega arith in
-    mul-le-mul k a
+    let a = evaluation-few (p .m) (n + 1) (w .m-most) (omega arith) in
+    let b = evaluation-few (p .w) n (let m = w .m-most in let q = w .w-most in omega arith) (omega arith) in
+    let c : productsAt p n ≤ 13036 = omega arith in
+    mul-le-mul k c
 
 pub products-turn : (p : Parameters) (n l made next : ℕ) → made ≡ l * productsAt p n → next ≡ made + productsAt p n → next ≡ (l + 1) * productsAt p n
 products-turn p n l made next e en =

@@ -8,15 +8,14 @@ use mathlib.Core.Bool.{Bool}
 use mathlib.Core.List.{List}
 use Prim.Native.Nat.{ℕ, _+_, _*_, _<_}
 use lib.ListN.{getD}
+use Rattle.lists.specs.Xor.{_⊕_}
 use Rattle.lists.specs.Part.{putAt}
 use Rattle.tower.specs.Field.{Point, point, bytesOf, point-bytesOf}
 use Rattle.parameters.specs.declared.Parameters.{Parameters}
-use Rattle.exchange.specs.Sequences.Laws.{getD-listed}
 use Rattle.exchange.specs.Reading.{points, value, _⊞_, _⊠_}
 use Rattle.exchange.specs.Values.{Key, QOf, POf, SOf, F, aOf, bOf, cOf, pointOf, multiplierOf, alpha, beta}
 use Rattle.points.specs.Multiples.{wordOf, multiplesOf}
 use Rattle.sidebyside.specs.Shares.{shareOf}
-use Rattle.values.specs.Announced.{gamma}
 use Rattle.values.specs.Position.{Valued, Factors, writtenAt, announcedAt}
 use Rattle.values.specs.Position.Evaluated.{term-sum}
 
@@ -29,18 +28,16 @@ unfolding writtenAt
 written-made p l α β γ out a b c ea eb ec =
     ec ∙ ap (λ (d : List ℕ). putAt d (8 * p .t + 4 * l) (bytesOf γ)) (eb ∙ ap (λ (d : List ℕ). putAt d (4 * p .t + 4 * l) (bytesOf β)) ea)
 
-module _ (p : Parameters) (key : Key) (m2 : List ℕ) (first : Bool) (shares : List ℕ) (l n i : ℕ) (qs rs vs multiplier factor s : List ℕ) (below : i < n)
-    (valued : Valued p key m2 first shares l n qs rs vs) (factors : Factors p m2 l multiplier factor) (es : s ≡ shareOf p shares i) where
+module _ (p : Parameters) (key : Key) (m2 : List ℕ) (first : Bool) (shares : List ℕ) (l n i : ℕ) (qs ss ps : List ℕ) (leading : ℕ) (multiplier factor s : List ℕ) (below : i < n)
+    (valued : Valued p key first shares n (pointOf p m2 l) qs ss ps leading) (factors : Factors p m2 l multiplier factor) (es : s ≡ shareOf p shares i) where
   pub share-made : (out next : List ℕ)
-      → ((ε φ Q S P : Point) → multiplier ≡ multiplesOf ε → factor ≡ multiplesOf φ → getD qs i 0 ≡ wordOf Q → getD rs i 0 ≡ wordOf S → getD vs i 0 ≡ wordOf P
+      → ((ε φ Q S P : Point) → multiplier ≡ multiplesOf ε → factor ≡ multiplesOf φ → getD qs i 0 ⊕ leading ≡ wordOf Q → getD ss i 0 ≡ wordOf S → getD ps i 0 ≡ wordOf P
       → next ≡ writtenAt p l (ε ⊠ Q ⊞ aOf p s l) (S ⊞ bOf p s l) (φ ⊠ P ⊞ cOf p s l) out)
       → next ≡ announcedAt p key m2 first (shareOf p shares i) l out
   unfolding alpha beta
   share-made out next h =
       h (multiplierOf p m2 l) (multiplierOf p m2 l ⊠ value (F p) (pointOf p m2 l)) _ _ _ (factors .of-multiplier) (factors .of-vanishing)
-      (ap (λ (d : List ℕ). getD d i 0) (valued .locators) ∙ getD-listed _ n i 0 below)
-      (ap (λ (d : List ℕ). getD d i 0) (valued .interpolants) ∙ getD-listed _ n i 0 below)
-      (ap (λ (d : List ℕ). getD d i 0) (valued .quotients) ∙ getD-listed _ n i 0 below)
+      (valued .locators i below) (valued .interpolants i below) (valued .quotients i below)
       ∙ ap (λ (z : List ℕ). writtenAt p l (multiplierOf p m2 l ⊠ value (QOf p first (shareOf p shares i)) (pointOf p m2 l) ⊞ aOf p z l)
       (value (SOf p key first (shareOf p shares i)) (pointOf p m2 l) ⊞ bOf p z l)
       (multiplierOf p m2 l ⊠ value (F p) (pointOf p m2 l) ⊠ value (POf p (shareOf p shares i)) (pointOf p m2 l) ⊞ cOf p z l) out) es

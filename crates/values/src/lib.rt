@@ -15,58 +15,14 @@ ghost use Rattle.bytefield.specs.Tables.{logs, powers};
 ghost use Rattle.tower.specs.Field.{point, bytesOf};
 ghost use Rattle.exchange.specs.Values.{Key};
 ghost use Rattle.values.specs.Announced.{vOf};
-ghost use Rattle.values.specs.Asked.{PositionAsked, EachAsked};
+ghost use Rattle.values.specs.Asked.{EachAsked};
 ghost use Rattle.values.specs.Leaf.{LeafAsked, RoomAsked, leafValues};
 ghost use Rattle.values.specs.Position.{RowsOf};
 ghost use Rattle.values.specs.Products.{productsOf};
 ghost use Rattle.values.specs.Shares.{Announcements};
 
-// out becomes α, β and γ at all positions of each of n shares; rows has the coefficients of each S.
-fn announce_with(
-    p: Parameters,
-    n: usize,
-    shares: &[u8],
-    rows: &[u8],
-    m2: &[u8],
-    first: bool,
-    qs: &mut [u64],
-    rs: &mut [u64],
-    vs: &mut [u64],
-    out: &mut [u8],
-    log: &[u8; 256],
-    pow: &[u8; 256],
-) -> usize
-    requires { ⌜ PositionAsked p n (now shares) (now rows) (now m2) 0 (now qs) (now rs) (now vs) × (length (now out) ≡ n * (12 * p .t)) × (now log ≡ logs) × (now pow ≡ powers) ⌝ }
-    ensures { λ c. ⌜ ((key : Key) → RowsOf p key first (now (shares .entry)) (now (rows .entry)) n
-        → Announcements p key (now (m2 .entry)) first (now (shares .entry)) n (now (out .exit))) × (c ≡ productsOf p n) ⌝ }
-{
-    let mut made: usize = 0;
-    let mut l = 0;
-    while l < p.t {
-        let next = announce_at(
-            p,
-            n,
-            shares,
-            rows,
-            m2,
-            l,
-            first,
-            qs,
-            rs,
-            vs,
-            out,
-            made,
-            log,
-            pow,
-        );
-        made = next;
-        l += 1;
-    }
-    made
-}
-
-// out becomes α, β and γ at all positions of each of n shares, with the constants where `first`; rows has the coefficients of each S.
-// Answers how many products of the points field were made.
+// out becomes α, β and γ at all positions of each of n shares, with the constants where `first`; rows has the coefficients of each S, and
+// behind them those of F but its leading one. Answers how many products of the points field were made.
 pub fn announce_each(
     p: Parameters,
     n: usize,
@@ -82,23 +38,14 @@ pub fn announce_each(
     ensures { λ c. ⌜ ((key : Key) → RowsOf p key first (now (shares .entry)) (now (rows .entry)) n
         → Announcements p key (now (m2 .entry)) first (now (shares .entry)) n (now (out .exit))) × (c ≡ productsOf p n) ⌝ }
 {
-    let mut qs = [0u64; 16];
-    let mut rs = [0u64; 16];
-    let mut vs = [0u64; 16];
-    announce_with(
-        p,
-        n,
-        shares,
-        rows,
-        m2,
-        first,
-        &mut qs[..n],
-        &mut rs[..n],
-        &mut vs[..n],
-        out,
-        log,
-        pow,
-    )
+    let mut made: usize = 0;
+    let mut l = 0;
+    while l < p.t {
+        let next = announce_at(p, n, shares, rows, m2, l, first, out, made, log, pow);
+        made = next;
+        l += 1;
+    }
+    made
 }
 
 // out becomes α and β of the single share s at all positions, without the constants; rows and block hold what is made on the way.
@@ -139,10 +86,10 @@ pub fn announce_leaf(
     ensures { λ c. ⌜ (now (out .exit) ≡ leafValues p (now (matrix .entry)) (now (m2 .entry)) (now (s .entry))) × (c ≡ productsOf p 1) ⌝ }
 {
     let y = [0u8; 254];
-    let mut rows = [0u8; 255];
+    let mut rows = [0u8; 510];
     let mut block = [0u8; 96];
-    let m = p.m;
-    let n = m - p.k;
+    let n = p.m - p.k;
+    let e = 2 * p.m;
     let b = 12 * p.t;
     announce_single(
         p,
@@ -150,7 +97,7 @@ pub fn announce_leaf(
         m2,
         matrix,
         &y[..n],
-        &mut rows[..m],
+        &mut rows[..e],
         &mut block[..b],
         out,
         log,

@@ -1,50 +1,41 @@
-// The values of Q, S and P of several shares at one position, and ε·F(r) there.
+// The values of Q, S and P of several shares at one position, and F(r) there.
 use encoding::point_at;
 use evaluation::values_at;
-use evaluation::vanishing_at;
 use parameters::Parameters;
-use points::Counted;
-use points::product_by;
+use points::point_of;
+use points::sum;
 use points::word_of;
 ghost use mathlib.Core.Path.{_≡_};
 ghost use mathlib.Core.Bool.{cond};
-ghost use mathlib.Core.List.{map};
-ghost use Prim.Native.Nat.{ℕ, _+_, _*_, _<_, _≤_};
-ghost use lib.ListN.{length};
-ghost use Rattle.lists.specs.Xor.{_⊕_};
+ghost use Prim.Native.Nat.{_+_, _<_};
 ghost use Rattle.bytefield.specs.Tables.{logs, powers};
-ghost use Rattle.tower.specs.Field.{Point, bytesOf};
-ghost use Rattle.exchange.specs.Sequences.{listed};
-ghost use Rattle.exchange.specs.Reading.{value, _⊞_, _⊠_, 𝟎};
+ghost use Rattle.tower.specs.Field.{point, bytesOf};
+ghost use Rattle.exchange.specs.Reading.{value, 𝟎};
 ghost use Rattle.exchange.specs.Values.{Key, F, pointOf};
-ghost use Rattle.points.specs.Multiples.{wordOf, multiplesOf};
-ghost use Rattle.evaluation.specs.Evaluation.{vanishingProducts};
+ghost use Rattle.points.specs.Multiples.{wordOf};
 ghost use Rattle.values.specs.Asked.{PositionAsked};
 ghost use Rattle.values.specs.Position.{Valued, RowsOf};
+ghost use Rattle.values.specs.Products.{evaluationsAt};
 
-// The word w is added to each of the words.
-fn add_to_each(words: &mut [u64], w: u64)
-    ensures { λ _. ⌜ now (words .exit) ≡ map (λ a. a ⊕ w) (now (words .entry)) ⌝ }
-{
-    let n = words.len();
-    let mut i = 0;
-    while i < n {
-        words[i] = words[i] ^ w;
-        i += 1;
-    }
+// What an evaluation gives beside the values: F(r), the word of the leading term of Q, and how many products were made up to it.
+pub struct Evaluation {
+    pub vanishing: [u8; 4],
+    pub leading: u64,
+    pub made: usize,
 }
 
-// The leading term of Q, the power that the evaluation ended with, is added to each value where `first`.
-fn add_leading(words: &mut [u64], first: bool, power: [u8; 4])
-    ensures { λ _. ⌜ ((f : ℕ → Point) (π : Point) (n : ℕ) → power ≡ bytesOf π → now (words .entry) ≡ listed (λ i. wordOf (f i)) n
-        → now (words .exit) ≡ listed (λ i. wordOf (f i ⊞ cond first π 𝟎)) n) ⌝ }
+// The word of the leading term of Q where `first`, else 0: the power with which the evaluation of the other terms ended.
+fn leading_word(first: bool, power: [u8; 4]) -> u64
+    ensures { λ r. ⌜ r ≡ wordOf (cond first (point power) 𝟎) ⌝ }
 {
     if first {
-        add_to_each(words, word_of(power));
+        return word_of(power);
     }
+    0
 }
 
-// qs, rs and vs become the words of Q, S and P of each of n shares at position l; rows has the coefficients of each S.
+// qs, ss and ps become the words of Q without its leading term, S and P of each of n shares at position l. rows has the coefficients of each S,
+// and behind them those of F but its leading one: ss ends with the word of their value.
 pub fn evaluate(
     p: Parameters,
     n: usize,
@@ -54,42 +45,28 @@ pub fn evaluate(
     l: usize,
     first: bool,
     qs: &mut [u64],
-    rs: &mut [u64],
-    vs: &mut [u64],
+    ss: &mut [u64],
+    ps: &mut [u64],
     made: usize,
     log: &[u8; 256],
     pow: &[u8; 256],
-) -> usize
-    requires { ⌜ PositionAsked p n (now shares) (now rows) (now m2) l (now qs) (now rs) (now vs) × (made < 4294967296) × (now log ≡ logs) × (now pow ≡ powers) ⌝ }
+) -> Evaluation
+    requires { ⌜ PositionAsked p n (now shares) (now rows) (now m2) l (now qs) (now ss) (now ps) × (made < 4294967296) × (now log ≡ logs) × (now pow ≡ powers) ⌝ }
     ensures { λ c. ⌜ ((key : Key) → RowsOf p key first (now (shares .entry)) (now (rows .entry)) n
-        → Valued p key (now (m2 .entry)) first (now (shares .entry)) l n (now (qs .exit)) (now (rs .exit)) (now (vs .exit))) × (c ≡ made + (p .m + 2 * p .w) * (n + 1)) ⌝ }
+        → Valued p key first (now (shares .entry)) n (pointOf p (now (m2 .entry)) l) (now (qs .exit)) (now (ss .exit)) (now (ps .exit)) (c .leading)
+        × (c .vanishing ≡ bytesOf (value (F p) (pointOf p (now (m2 .entry)) l)))) × (c .made ≡ made + evaluationsAt p n) ⌝ }
 {
     let size = 8 * p.t + (p.k + 2 * p.w + 4 * p.t);
     let at = 8 * p.t + p.k;
     let r = point_at(m2, 4 * l);
-    let s = values_at(rows, n, p.m, 0, p.m, r, rs, made, log, pow);
+    let s = values_at(rows, n + 1, p.m, 0, p.m, r, ss, made, log, pow);
     let q = values_at(shares, n, size, at, p.w, r, qs, s.made, log, pow);
-    let power = q.power;
-    add_leading(qs, first, power);
-    let v = values_at(shares, n, size, at + p.w, p.w, r, vs, q.made, log, pow);
-    v.made
-}
-
-// ε·F(r) at position l, where the table has the multiples of ε.
-pub fn factor_at(
-    p: Parameters,
-    m2: &[u8],
-    l: usize,
-    multiplier: &[u64],
-    made: usize,
-    log: &[u8; 256],
-    pow: &[u8; 256],
-) -> Counted
-    requires { ⌜ (p .m < 256) × (4 * l + 4 ≤ length (now m2)) × (128 ≤ length (now multiplier)) × (made < 4294967296) × (now log ≡ logs) × (now pow ≡ powers) ⌝ }
-    ensures { λ r. ⌜ ((ε : Point) → now (multiplier .entry) ≡ multiplesOf ε → r .point ≡ bytesOf (ε ⊠ value (F p) (pointOf p (now (m2 .entry)) l))) × (r .made ≡ made + (vanishingProducts (p .m) + 1)) ⌝ }
-{
-    let r = point_at(m2, 4 * l);
-    let f = vanishing_at(p.m, r, made, log, pow);
-    let x = f.point;
-    product_by(x, multiplier, f.made)
+    let v = values_at(shares, n, size, at + p.w, p.w, r, ps, q.made, log, pow);
+    let power = s.point;
+    let last = q.point;
+    Evaluation {
+        vanishing: sum(point_of(ss[n]), power),
+        leading: leading_word(first, last),
+        made: v.made,
+    }
 }

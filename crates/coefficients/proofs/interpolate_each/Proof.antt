@@ -1,12 +1,15 @@
--- The fronts of two arrays become the complement and the weights (`front-made`), and are lent with an area of words.
+-- The fronts of two arrays become the complement and the weights (`front-made`), and are lent with an area of words. The last row becomes F's,
+-- and those before it S (`rows-whole`).
 use mathlib.Core.Path.{_≡_, refl, sym, ap, _∙_}
 use mathlib.Core.List.{List, _++_}
-use Prim.Native.Nat.{ℕ, _-_, _≤_}
+use Prim.Native.Nat.{ℕ, _+_, _-_, _*_, _≤_}
 use native.Mathlib.Omega.{arith}
 use borrow.Author.Needs.{needs}
-use lib.ListN.{length, take, drop, replicate}
+use lib.ListN.{length, take, drop, replicate, length-take}
 use Rattle.encoding.specs.Written.{front-length}
+use Rattle.encoding.specs.Blocks.{next-block}
 use Rattle.interpolants.specs.Complement.{complementOf, weightsOf}
+use Rattle.coefficients.specs.Groups.{end-lent, rows-whole}
 use Rattle.coefficients.specs.Fronts.{Front, front-made}
 use Rattle.coefficients.proofs.interpolate_each.Statement.{statement}
 use Rattle.coefficients.proofs.interpolate_each.Tie as tie
@@ -56,20 +59,54 @@ weights-made d =
     let e = sym (weights-lent s) in
     front-made (s .args .p .m) (d .weights2 .last .0) (zeros 255) _ (d .weights2 .kept .0 ∙ e) (s .pre .0 .within .m-most) (d .weights2 .ensures ∙ ap weightsOf e)
 
+-- m bytes are lent behind the n rows
+behind : (s : tie.Start) → s .args .n * s .args .p .m + s .args .p .m ≡ length (s .args .rows .now)
+behind s = next-block (s .args .n) (s .args .p .m) _ refl ∙ sym (s .pre .0 .sized-rows)
+
+vanishing-requires : tie.Need-vanishing-requires
+vanishing-requires c κs =
+    let d : tie.After-complement = search in
+    let s : tie.Start = search in
+    let w = s .pre .0 .within in
+    let e = end-lent (s .args .p) (s .args .n * s .args .p .m) (s .args .rows .now) (behind s) in
+    (omega arith, omega arith, g-made d .front ∙ ap complementOf (sym e))
+
+rows-room : tie.Need-slice-relend-prefix-interpolate-with
+rows-room c =
+    let r : tie.After-rows = search in
+    let s : tie.Start = search in
+    omega (arith, behind s, r .rows .given .1)
+
+rows-lent : tie.Need-slice-aggregate-interpolate-with-4
+rows-lent c = simp length-take (omega (arith, rows-room (c .before)))
+
 interpolate-with-requires : tie.Need-interpolate-with-requires
 interpolate-with-requires c κs =
     let v : tie.After-weights2 = search in
     let d : tie.After-complement = search in
     let s : tie.Start = search in
     let (r, el, ep) = s .pre in
-    (r, record { made-weights = weights-made v .front; made-complement = g-made d .front; sized-a = refl }, el, ep)
+    let sized-rows = sym (rows-lent c) in
+    (search, record { made-weights = weights-made v .front; made-complement = g-made d .front; sized-a = refl }, el, ep)
+
+abbrev back-to-start : tie.After-vanishing → tie.Start
+back-to-start c = search
+
+returns : tie.Need-returns
+returns c =
+    let i : tie.After-interpolate-with = search in
+    let v : tie.After-vanishing = search in
+    let s = back-to-start v in
+    rows-whole (s .args .p) (s .args .n * s .args .p .m) (s .args .rows .now) (behind s) _ _ _ (i .interpolate-with .ensures) (v .vanishing .ensures)
 
 pub interpolate-each-spec : {M : Type 1} → statement M
 interpolate-each-spec =
     tie.close
-    (tie.spec (λ c. search needs) (λ c. search needs) (λ c. let s : tie.Start = search in g-lent s) complement-requires
+    (tie.spec (λ c. search needs) (λ c. let s : tie.Start = search in omega (arith, behind s)) (λ c. search needs) (λ c. let s : tie.Start = search in g-lent s) complement-requires
     (λ c. search needs) (λ c. let s : tie.Start = search in weights-lent s)
     (λ c. let d : tie.After-complement = search in g-made d .room) (λ c. let d : tie.After-complement = search in g-made d .sized) weights-requires
+    (λ c. let s : tie.Start = search in omega (arith, behind s)) (λ c. let s : tie.Start = search in omega (arith, behind s)) (λ c. search needs)
+    (λ c. let d : tie.After-complement = search in g-made d .room) (λ c. let d : tie.After-complement = search in g-made d .sized) vanishing-requires
     (λ c. let v : tie.After-weights2 = search in weights-made v .room) (λ c. let v : tie.After-weights2 = search in weights-made v .sized)
     (λ c. let d : tie.After-complement = search in g-made d .room) (λ c. let d : tie.After-complement = search in g-made d .sized)
-    (λ c. search needs) interpolate-with-requires (λ c. search needs) (λ c. search needs))
+    (λ c. search needs) rows-room rows-lent interpolate-with-requires (λ c. search needs) returns)

@@ -22,15 +22,8 @@ front s = let w = s .pre .0 .within in let l = s .pre .2 in front-length (s .arg
 vectors-requires : tie.Need-vectors-requires
 vectors-requires c κs =
     let s : tie.Start = search in
-    let (r, few, l, el, ep) = s .pre in
-    record {
-      within = r .within;
-      few = few;
-      sized-shares = r .sized-shares;
-      sized-matrix = r .sized-matrix;
-      sized-y = r .sized-y;
-      sized-words = sym (front s);
-    }
+    let sized-words = sym (front s) in
+    search
 
 made : (v : tie.After-vectors) → length (v .vectors .last .1 .1 .1 .1 .1 .1 .0) ≡ back-to-start v .args .p .m
 made v = v .vectors .kept .1 .1 .1 .1 .1 .1 .0 ∙ sym (front (back-to-start v))

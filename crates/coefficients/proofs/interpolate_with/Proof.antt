@@ -75,20 +75,11 @@ interpolate-group-requires c κs =
     let d : tie.After-group-size Inv-loop μ-loop = search in
     let s : tie.Start Inv-loop μ-loop = search in
     let (r, l, el, ep) = s .pre in
-    let v = d .before .before .loop .inv in (
-      record {
-        within = r .within;
-        few = omega (arith, d .group-size .ensures);
-        sized-shares = shares-lent d;
-        sized-matrix = r .sized-matrix;
-        sized-y = r .sized-y;
-        sized-rows = rows-lent d;
-      },
-      d .group-size .ensures .1,
-      record { made-weights = l .made-weights; made-complement = l .made-complement; sized-a = v .4 ∙ l .sized-a },
-      el,
-      ep,
-    )
+    let sized-a = d .before .before .loop .inv .4 ∙ l .sized-a in
+    let few : d .group-size .result ≤ 15 = omega (arith, d .group-size .ensures) in
+    let sized-shares = shares-lent d in
+    let sized-rows = rows-lent d in
+    (search, d .group-size .ensures .1, search, el, ep)
 
 loop-again : tie.Need-loop-again Inv-loop μ-loop
 loop-again c =

@@ -4,6 +4,8 @@
 --   count-turn, count-small, count-twice   the count of products: n + 1 for each coefficient, at most two for each of each polynomial
 --   terms-ready                   a term of each of n polynomials lies within the list
 --   terms-turn, terms-end         the first i terms are added
+--   value-snoc                    a coefficient more adds its product with the power
+--   wordOf-zero                   the word of the zero point
 --   values-none, values-turn      the values of the first j coefficients, from one j to the next
 --   power-none, -point, -turn      the same for the power
 use mathlib.Core.Path.{_≡_, refl, sym, ap, ap₂, _∙_}
@@ -88,7 +90,7 @@ module _ (s : List ℕ) (n stride at : ℕ) (x : Point) (d : List ℕ) (sized : 
 
 -- ---- values
 
-value-snoc : (p : List ℕ) (c : ℕ) (r : Point) → value (p ++ (c ∷ [])) r ≡ value p r ⊞ scalar c ⊠ pointPower r (length p)
+pub value-snoc : (p : List ℕ) (c : ℕ) (r : Point) → value (p ++ (c ∷ [])) r ≡ value p r ⊞ scalar c ⊠ pointPower r (length p)
 unfolding value
 value-snoc p c r =
     ap (λ (l : List Point). eval (ops (points .base)) l r) (map-append scalar p (c ∷ []))
@@ -109,7 +111,7 @@ value-turn s i j r =
     ∙ value-snoc (bytesAt s i j) (getD s (i + j) 0) r
     ∙ ap (λ (k : ℕ). value (bytesAt s i j) r ⊞ scalar (getD s (i + j) 0) ⊠ pointPower r k) (length-bytesAt s i j)
 
-wordOf-zero : 0 ≡ wordOf 𝟎
+pub wordOf-zero : 0 ≡ wordOf 𝟎
 unfolding wordOf bytesOf points byteRing word _⊕_
 wordOf-zero = refl
 

@@ -1,6 +1,6 @@
 -- The arrays have room for nine shares at all parameters.
 use mathlib.Core.Path.{_≡_, sym, ap, _∙_}
-use Prim.Native.Nat.{ℕ, _*_, _≤_}
+use Prim.Native.Nat.{ℕ, _+_, _*_, _≤_}
 use native.Mathlib.Nat.{mul-le-mul}
 use native.Mathlib.Omega.{arith}
 use borrow.Author.Needs.{needs}
@@ -25,8 +25,8 @@ shares-fit s =
 shares-fit-by : (d : tie.After-share-length) → back-to-start d .args .n * d .share-length .result ≤ 7740
 shares-fit-by d = let s = back-to-start d in let e = ap (λ (k : ℕ). s .args .n * k) (d .share-length .ensures) in let h = shares-fit s in omega arith
 
-rows-fit : (s : tie.Start) → s .args .n * s .args .p .m ≤ 9 * 255
-rows-fit s = mul-le-mul (s .pre .1) (s .pre .0 .m-most)
+rows-fit : (s : tie.Start) → (s .args .n + 1) * s .args .p .m ≤ 10 * 255
+rows-fit s = let a : s .args .n + 1 ≤ 10 = omega (arith, s .pre .1) in mul-le-mul a (s .pre .0 .m-most)
 
 out-fits : (s : tie.Start) → s .args .n * (12 * s .args .p .t) ≤ 9 * 96
 out-fits s = let t = s .pre .0 .t-most in let h : 12 * s .args .p .t ≤ 96 = omega arith in mul-le-mul (s .pre .1) h
@@ -56,7 +56,7 @@ pub count-spec : {M : Type 1} → statement M
 count-spec =
     tie.close
     (tie.spec (λ c κs. search needs) (λ c κs. search needs) (λ c κs. search needs)
-    (λ c. let d : tie.After-share-length = search in let h = shares-fit-by d in omega arith)
+    (λ c. let d : tie.After-share-length = search in let h = shares-fit-by d in omega arith) (λ c. search needs)
     (λ c. let d : tie.After-share-length = search in let h = rows-fit (back-to-start d) in omega arith) (λ c. search needs) (λ c. search needs)
     (λ c. let d : tie.After-share-length = search in let h = out-fits (back-to-start d) in omega arith)
     (λ c. let d : tie.After-share-length = search in shares-fit-by d) (λ c. let d : tie.After-share-length = search in front-length _ _ (shares-fit-by d))

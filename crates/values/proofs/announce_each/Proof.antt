@@ -1,37 +1,88 @@
--- The arrays have room for sixteen values.
-use mathlib.Core.Path.{sym}
+-- The loop's invariant: the first l positions of every share are written, with as many products as they take (`to-turn`).
+use mathlib.Core.Path.{_≡_, refl, ap, _∙_, subst}
+use Prim.Native.Nat.{ℕ, _-_, _*_, _≤_}
+use native.Mathlib.Nat.{zero-mul}
 use native.Mathlib.Omega.{arith}
 use borrow.Author.Needs.{needs}
-use Rattle.encoding.specs.Written.{front-length}
+use lib.ListN.{length}
+use Rattle.exchange.specs.Values.{Key}
+use Rattle.values.specs.Asked.{PositionAsked}
+use Rattle.values.specs.Position.{RowsOf}
+use Rattle.values.specs.Position.Laws.{EachTo, to-none, to-turn, to-end}
+use Rattle.values.specs.Products.{productsAt, products-few, products-turn}
 use Rattle.values.proofs.announce_each.Statement.{statement}
 use Rattle.values.proofs.announce_each.Tie as tie
 
-announce-with-requires : tie.Need-announce-with-requires
-announce-with-requires c κs =
-    let s : tie.Start = search in
+abbrev Inv-loop : tie.InvT-loop
+Inv-loop p n shares rows m2 first out₀ log pow made₀ l₀ out made l =
+    (l ≤ p .t) × ((key : Key) → RowsOf p key first shares rows n → EachTo p key m2 first n shares out l)
+    × (length out ≡ length out₀) × (made ≡ l * productsAt p n)
+
+abbrev μ-loop : tie.MeasureT-loop
+μ-loop p n shares rows m2 first out₀ log pow made₀ l₀ out made l = p .t - l
+
+abbrev back-to-start : tie.At-loop Inv-loop μ-loop → tie.Start Inv-loop μ-loop
+back-to-start c = search
+
+loop-holds : tie.Need-loop-holds Inv-loop μ-loop
+loop-holds c =
+    let s : tie.Start Inv-loop μ-loop = search in
+    let z = zero-mul (productsAt (s .args .p) (s .args .n)) in
+    (omega arith, (λ key given. to-none (s .args .p) key (s .args .m2 .now) (s .args .first) (s .args .n) (s .args .shares .now) _ (s .pre .0 .sized-out)), refl, omega arith)
+
+announce-at-requires : tie.Need-announce-at-requires Inv-loop μ-loop
+announce-at-requires c κs =
+    let t : tie.Then1 Inv-loop μ-loop = search in
+    let q : tie.At-loop Inv-loop μ-loop = search in
+    let s = back-to-start q in
     let f = s .pre .0 in
-    let few = f .few in
-    let t = f .within .t-least in (
+    let i = q .loop .inv in
+    let few = products-few (s .args .p) (s .args .n) (q .loop .l) (f .within) (f .few) (let t = f .within .t-most in omega arith) in (
       record {
         within = f .within;
-        few = few;
-        position = omega arith;
+        few = f .few;
         sized-shares = f .sized-shares;
         sized-rows = f .sized-rows;
         sized-m2 = f .sized-m2;
-        sized-qs = sym (front-length _ _ (omega arith));
-        sized-rs = sym (front-length _ _ (omega arith));
-        sized-vs = sym (front-length _ _ (omega arith));
+        sized-out = i .2 ∙ f .sized-out;
       },
-      f .sized-out,
+      t .if1 .taken,
+      omega (arith, i .3),
       s .pre .1,
       s .pre .2,
+    )
+
+loop-again : tie.Need-loop-again Inv-loop μ-loop
+loop-again c =
+    let d : tie.After-announce-at Inv-loop μ-loop = search in
+    let t : tie.Then1 Inv-loop μ-loop = search in
+    let q : tie.At-loop Inv-loop μ-loop = search in
+    let s = back-to-start q in
+    let i = q .loop .inv in (
+      omega (arith, t .if1 .taken),
+      (λ key given. to-turn (s .args .p) key (s .args .m2 .now) (s .args .first) (s .args .n) (s .args .shares .now) (q .loop .out) _ (q .loop .l) (t .if1 .taken)
+          (d .announce-at .ensures .0 key given) (i .1 key given)),
+      omega (arith, d .announce-at, i .2),
+      products-turn (s .args .p) (s .args .n) (q .loop .l) _ _ (i .3) (d .announce-at .ensures .1),
+    )
+
+returns : tie.Need-returns Inv-loop μ-loop
+returns c =
+    let t : tie.Else1 Inv-loop μ-loop = search in
+    let q : tie.At-loop Inv-loop μ-loop = search in
+    let s = back-to-start q in
+    let i = q .loop .inv in
+    let e : q .loop .l ≡ s .args .p .t = omega (arith, t .if1 .left) in (
+      (λ key given. to-end (s .args .p) key (s .args .m2 .now) (s .args .first) (s .args .n) (s .args .shares .now) _
+          (subst (EachTo (s .args .p) key (s .args .m2 .now) (s .args .first) (s .args .n) (s .args .shares .now) (q .loop .out)) e (i .1 key given))),
+      i .3 ∙ ap (λ (k : ℕ). k * productsAt (s .args .p) (s .args .n)) e,
     )
 
 pub announce-each-spec : {M : Type 1} → statement M
 announce-each-spec =
     tie.close
-    (tie.spec (λ c. search needs) (λ c. let s : tie.Start = search in let h = s .pre .0 .few in front-length _ _ (omega arith)) (λ c. search needs)
-    (λ c. let s : tie.Start = search in let h = s .pre .0 .few in front-length _ _ (omega arith)) (λ c. search needs)
-    (λ c. let s : tie.Start = search in let h = s .pre .0 .few in front-length _ _ (omega arith))
-    announce-with-requires (λ c. search needs) (λ c. search needs))
+    (tie.spec Inv-loop μ-loop loop-holds announce-at-requires
+    (λ c. let t : tie.Then1 Inv-loop μ-loop = search in let q : tie.At-loop Inv-loop μ-loop = search in omega (arith, t .if1 .taken, back-to-start q .pre .0 .within .t-most))
+    (λ c. let t : tie.Then1 Inv-loop μ-loop = search in omega (arith, t .if1 .taken))
+    loop-again
+    (λ c. let q : tie.At-loop Inv-loop μ-loop = search in q .loop .inv .2) returns)

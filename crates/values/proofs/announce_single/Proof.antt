@@ -21,7 +21,7 @@ interpolate-each-requires c κs =
         sized-shares = f .sized-s ∙ sym (one-mul _);
         sized-matrix = f .sized-matrix;
         sized-y = g .sized-y;
-        sized-rows = g .sized-rows ∙ sym (one-mul _);
+        sized-rows = g .sized-rows;
       },
       s .pre .2,
       s .pre .3,

@@ -7,9 +7,10 @@ use Prim.Native.Nat.{ℕ, _+_, _-_, _*_, _≤_, _<_}
 use native.Mathlib.Omega.{arith}
 use borrow.Author.Needs.{needs}
 use lib.ListN.{length, take, drop}
+use Rattle.lists.specs.Xor.{_⊕_}
 use Rattle.lists.specs.Part.{part}
 use Rattle.exchange.specs.Layout.{shareLength}
-use Rattle.exchange.specs.Values.{Key}
+use Rattle.exchange.specs.Values.{Key, pointOf}
 use Rattle.encoding.specs.Blocks.{within-blocks, next-block, length-block}
 use Rattle.encoding.specs.Written.{middle-kept}
 use Rattle.sidebyside.specs.Shares.{shareOf}
@@ -20,14 +21,14 @@ use Rattle.values.proofs.position.announce_shares.Statement.{statement}
 use Rattle.values.proofs.position.announce_shares.Tie as tie
 
 abbrev Inv-loop : tie.InvT-loop
-Inv-loop p n shares l qs rs vs multiplier factor out₀ start size room made₀ a₀ b₀ i₀ out made a b i =
+Inv-loop p n shares l qs ss ps leading multiplier factor out₀ start size room made₀ a₀ b₀ i₀ out made a b i =
     (i ≤ n) × (a ≡ i * shareLength p) × (b ≡ i * (12 * p .t))
-    × ((key : Key) (m2 : List ℕ) (first : Bool) → Valued p key m2 first shares l n qs rs vs → Factors p m2 l multiplier factor
+    × ((key : Key) (m2 : List ℕ) (first : Bool) → Valued p key first shares n (pointOf p m2 l) qs ss ps leading → Factors p m2 l multiplier factor
     → EachAnnounced p key m2 first shares l out₀ out i)
     × Left p out₀ out i n × (length out ≡ length out₀) × (made ≡ start + 2 * i)
 
 abbrev μ-loop : tie.MeasureT-loop
-μ-loop p n shares l qs rs vs multiplier factor out₀ start size room made₀ a₀ b₀ i₀ out made a b i = n - i
+μ-loop p n shares l qs ss ps leading multiplier factor out₀ start size room made₀ a₀ b₀ i₀ out made a b i = n - i
 
 abbrev back-to-start : tie.At-loop Inv-loop μ-loop → tie.Start Inv-loop μ-loop
 back-to-start c = search
@@ -75,7 +76,7 @@ announce-share-requires c κs =
     )
 
 loop-again : tie.Need-loop-again Inv-loop μ-loop
-unfolding part
+unfolding part _⊕_
 loop-again c =
     let d : tie.After-announce-share Inv-loop μ-loop = search in
     let q : tie.In-loop Inv-loop μ-loop = search in
@@ -92,7 +93,7 @@ loop-again c =
       next-block (g .i) _ (g .a) (g .inv .1),
       next-block (g .i) _ (g .b) (g .inv .2),
       λ key m2 first v w. each-turn (a .p) (a .out .now) (g .out) u _ (a .n) (g .i) (g .b) (q .loop-test .taken) n (g .inv .2) eu refl key m2 first (a .shares .now) (a .l)
-          (share-made (a .p) key m2 first (a .shares .now) (a .l) (a .n) (g .i) _ _ _ _ _ _ (q .loop-test .taken) v w
+          (share-made (a .p) key m2 first (a .shares .now) (a .l) (a .n) (g .i) _ _ _ _ _ _ _ (q .loop-test .taken) v w
           (ap₂ (λ (m m′ : ℕ). take m (drop m′ (a .shares .now))) k (g .inv .1)) _ _ (d .announce-share .ensures .0))
           (g .inv .4) (g .inv .3 key m2 first v w),
       left-turn (a .p) (a .out .now) (g .out) u _ (a .n) (g .i) (g .b) (q .loop-test .taken) n (g .inv .2) eu refl (g .inv .4),

@@ -1,7 +1,16 @@
--- Three evaluations at the point read: of S of each share, of the low coefficients of Q, to which the leading term is added, and of P.
+-- Three evaluations at the point read: of S of each share and of F's low coefficients, of Q's, and of P. The power with which the first ends
+-- is F's leading term, that of the second Q's.
+use mathlib.Core.Path.{sym, ap, _∙_}
+use Prim.Native.Nat.{_+_}
 use native.Mathlib.Omega.{arith}
 use borrow.Author.Needs.{needs}
-use Rattle.values.specs.Position.Evaluated.{evaluation-asked, evaluation-small, evaluation-count, evaluated}
+use Rattle.tower.specs.Field.{point, bytesOf, point-bytesOf}
+use Rattle.packed.specs.Word.{bytes}
+use Rattle.exchange.specs.Values.{pointOf}
+use Rattle.points.specs.Multiples.Laws.{bytes-wordOf}
+use Rattle.values.specs.Position.Evaluated.{vanishing-value, at-point, locators-made, quotients-made, interpolants-made, vanishing-made, evaluation-asked}
+use Rattle.values.specs.Products.{evaluation-few}
+use Rattle.values.specs.Terms.{sum-made}
 use Rattle.values.proofs.valued.evaluate.Statement.{statement}
 use Rattle.values.proofs.valued.evaluate.Tie as tie
 
@@ -18,21 +27,21 @@ values-at-requires : tie.Need-values-at-requires
 values-at-requires c κs =
     let s : tie.Start = search back-to-start in
     let (g, few, l, p) = s .pre in
-    (evaluation-asked _ _ _ _ _ _ _ (omega arith) (omega arith) (omega arith) (omega arith) (g .sized-rows) (g .sized-rs) (omega arith), l, p)
+    (evaluation-asked _ _ _ _ _ _ _ (omega arith) (omega arith) (omega arith) (omega arith) (g .sized-rows) (g .sized-ss) (omega arith), l, p)
 
 values-at-requires-2 : tie.Need-values-at-requires-2
 values-at-requires-2 c κs =
     let d : tie.After-values-at = search in
     let s : tie.Start = search back-to-start in
     let (g, few, l, p) = s .pre in
-    let a = evaluation-small (s .args .p .m) (s .args .n) (omega arith) (omega arith) in (
+    let a = evaluation-few (s .args .p .m) (s .args .n + 1) (omega arith) (omega arith) in (
       evaluation-asked _ _ _ _ _ _ _ (omega arith) (omega arith) (omega arith) (omega arith) (g .sized-shares) (g .sized-qs)
           (omega (arith, d .values-at .ensures)),
       l,
       p,
     )
 
-add-values-at : tie.Need-add-values-at
+add-values-at : tie.Need-add-values-at-2
 add-values-at c =
     let s : tie.Start = search (back-to-start, back-to-point) in
     let (g, few, l, p) = s .pre in omega arith
@@ -43,32 +52,57 @@ values-at-requires-3 c κs =
     let d : tie.After-values-at = search in
     let s : tie.Start = search (back-to-start, back-to-point) in
     let (g, few, l, p) = s .pre in
-    let a = evaluation-small (s .args .p .m) (s .args .n) (omega arith) (omega arith) in
-    let e = evaluation-small (s .args .p .w) (s .args .n) (omega arith) (omega arith) in (
-      evaluation-asked _ _ _ _ _ _ _ (omega arith) (omega arith) (omega arith) (omega arith) (g .sized-shares) (g .sized-vs)
+    let a = evaluation-few (s .args .p .m) (s .args .n + 1) (omega arith) (omega arith) in
+    let e = evaluation-few (s .args .p .w) (s .args .n) (omega arith) (omega arith) in (
+      evaluation-asked _ _ _ _ _ _ _ (omega arith) (omega arith) (omega arith) (omega arith) (g .sized-shares) (g .sized-ps)
           (omega (arith, d .values-at .ensures, b .values-at2 .ensures)),
       l,
       p,
     )
 
+small-place : tie.Need-mul-point-of
+small-place c =
+    let b : tie.After-values-at2 = search back-to-low in
+    let s : tie.Start = search (back-to-start, back-to-point) in
+    omega (arith, s .pre .0 .few)
+
+inside : tie.Need-slice-read-point-of
+inside c =
+    let b : tie.After-values-at2 = search back-to-low in
+    let d : tie.After-values-at = search in
+    let s : tie.Start = search (back-to-start, back-to-point) in
+    omega (arith, d .values-at, s .pre .0 .sized-ss)
+
 returns : tie.Need-returns
+unfolding pointOf
 returns c =
+    let a : tie.After-leading-word = search in
+    let f : tie.After-sum = search in
+    let o : tie.After-point-of = search in
     let v : tie.After-values-at3 = search in
-    let a : tie.After-add-leading = search in
     let b : tie.After-values-at2 = search back-to-low in
     let d : tie.After-values-at = search in
     let r : tie.After-point-at = search back-to-point in
     let s : tie.Start = search back-to-start in
-    let q = s .args .p in (
-      λ key given. evaluated q key (s .args .m2 .now) (s .args .first) (s .args .shares .now) (s .args .rows .now) (s .args .l) (s .args .n) _ _ _ _ _ _
-          (s .pre .0 .within .k-most) (r .point-at .ensures) (d .values-at .ensures .0) (b .values-at2 .ensures .0) (b .values-at2 .ensures .1)
-          (a .add-leading .ensures) (v .values-at3 .ensures .0) given,
-      evaluation-count (q .m) (q .w) (s .args .n) (s .args .made) _ _ _ (d .values-at .ensures .2) (b .values-at2 .ensures .2) (v .values-at3 .ensures .2),
+    let q = s .args .p in
+    let x = point (r .point-at .result) in
+    let small = s .pre .0 .within .k-most in (
+      λ key given. at-point q key (s .args .first) (s .args .shares .now) (s .args .n) x _ _ _ _ _ _ (ap point (r .point-at .ensures) ∙ point-bytesOf _)
+          record {
+            locators = locators-made q (s .args .n) (s .args .shares .now) x (s .args .first) _ _ _ (b .values-at2 .ensures .0) (b .values-at2 .ensures .1) (a .leading-word .ensures);
+            interpolants = interpolants-made q (s .args .n) (s .args .shares .now) x key (s .args .first) _ _ small given (d .values-at .ensures .0);
+            quotients = quotients-made q (s .args .n) (s .args .shares .now) x _ (v .values-at3 .ensures .0);
+          }
+          (sum-made _ _ _ _ _
+          (o .point-of .ensures ∙ ap (bytes 4) (vanishing-made q (s .args .n) (s .args .shares .now) x key (s .args .first) _ _ small given (d .values-at .ensures .0)) ∙ bytes-wordOf _)
+          (d .values-at .ensures .1) (f .sum .ensures) ∙ ap bytesOf (sym (vanishing-value q x))),
+      omega (arith, d .values-at .ensures .2, b .values-at2 .ensures .2, v .values-at3 .ensures .2),
     )
 
 pub evaluate-spec : {M : Type 1} → statement M
 evaluate-spec =
     tie.close
     (tie.spec (λ c. search needs) (λ c. search needs) (λ c. search needs) (λ c. search needs) (λ c. search needs) (λ c. search needs)
-    (λ c. search needs) (λ c. search needs) (λ c. search needs) (λ c κs. search needs) values-at-requires values-at-requires-2
-    (λ c κs. search needs) add-values-at values-at-requires-3 (λ c. search needs) (λ c. search needs) (λ c. search needs) returns)
+    (λ c. search needs) (λ c. search needs) (λ c. search needs) (λ c κs. search needs) (λ c. search needs) values-at-requires values-at-requires-2
+    add-values-at values-at-requires-3 small-place inside (λ c κs. search needs) (λ c κs. search needs) (λ c κs. search needs)
+    (λ c. search needs) (λ c. search needs) (λ c. search needs) returns)

@@ -1,0 +1,92 @@
+-- The values are those of Q, S and P, the tables those of ε and of ε·F(r), so that each share announces what it should.
+use mathlib.Core.Path.{_≡_, ap, _∙_}
+use Prim.Native.Nat.{_+_, _≤_}
+use native.Mathlib.Omega.{arith}
+use borrow.Author.Needs.{needs}
+use lib.ListN.{length}
+use Rattle.tower.specs.Field.{point, point-bytesOf}
+use Rattle.exchange.specs.Values.{multiplierOf}
+use Rattle.points.specs.Multiples.{multiplesOf}
+use Rattle.points.specs.Multiples.Laws.{length-multiplesOf}
+use Rattle.values.specs.Position.Evaluated.{factor-made}
+use Rattle.values.specs.Products.{evaluation-few}
+use Rattle.values.proofs.position.announce_with.Statement.{statement}
+use Rattle.values.proofs.position.announce_with.Tie as tie
+
+abbrev back-to-evaluate : tie.After-multiples-of2 → tie.After-evaluate
+back-to-evaluate c = search
+
+abbrev back-to-point : tie.After-evaluate → tie.After-point-at
+back-to-point c = search
+
+abbrev back-to-start : tie.After-point-at → tie.Start
+back-to-start c = search
+
+of-multiplier : (m : tie.After-multiples-of)
+    → m .multiples-of .result ≡ multiplesOf (multiplierOf (back-to-start (m .before) .args .p) (back-to-start (m .before) .args .m2 .now) (back-to-start (m .before) .args .l))
+unfolding multiplierOf
+of-multiplier m = m .multiples-of .ensures ∙ ap multiplesOf (ap point (m .before .point-at .ensures) ∙ point-bytesOf _)
+
+table : (m : tie.After-multiples-of) → length (m .multiples-of .result) ≡ 128
+table m = ap length (m .multiples-of .ensures) ∙ length-multiplesOf _
+
+-- how many products the evaluations made
+few : (e : tie.After-evaluate) → e .evaluate .result .made ≤ 2147483648 + 13005
+few e =
+    let s = back-to-start (back-to-point e) in
+    let g = s .pre .0 in
+    let w = g .within in
+    let a = evaluation-few (s .args .p .m) (s .args .n + 1) (w .m-most) (omega (arith, g .few)) in
+    let b = evaluation-few (s .args .p .w) (s .args .n) (omega (arith, w .m-most, w .w-most)) (omega (arith, g .few)) in
+    omega (arith, e .evaluate .ensures .1, s .pre .2)
+
+announce-shares-requires : tie.Need-announce-shares-requires
+announce-shares-requires c κs =
+    let n : tie.After-multiples-of2 = search in
+    let x : tie.After-product-by = search in
+    let e : tie.After-evaluate = search back-to-evaluate in
+    let m : tie.After-multiples-of = search in
+    let s = back-to-start (m .before) in
+    let g = s .pre .0 in
+    let b : length (n .multiples-of2 .result) ≡ 128 = ap length (n .multiples-of2 .ensures) ∙ length-multiplesOf _ in (
+      record {
+        within = g .within;
+        few = g .few;
+        position = g .position;
+        sized-shares = g .sized-shares;
+        sized-qs = omega (arith, e .evaluate, g .sized-qs);
+        sized-ss = omega (arith, e .evaluate, g .sized-ss);
+        sized-ps = omega (arith, e .evaluate, g .sized-ps);
+        sized-multiplier = omega (arith, table m);
+        sized-factor = omega arith;
+        sized-out = s .pre .1;
+      },
+      omega (arith, x .product-by .ensures .1, few e),
+    )
+
+returns : tie.Need-returns
+returns c =
+    let d : tie.After-announce-shares = search in
+    let n : tie.After-multiples-of2 = search in
+    let x : tie.After-product-by = search in
+    let e : tie.After-evaluate = search back-to-evaluate in
+    let m : tie.After-multiples-of = search in
+    let s = back-to-start (m .before) in (
+      λ key given.
+          let v = e .evaluate .ensures .0 key given in
+          d .announce-shares .ensures .0 key (s .args .m2 .now) (s .args .first) (v .0) record {
+            of-multiplier = of-multiplier m;
+            of-vanishing = n .multiples-of2 .ensures ∙ ap multiplesOf
+                (ap point (factor-made (s .args .p) (s .args .m2 .now) _ _ (s .args .l) _ (v .1) (x .product-by .ensures .0 _ (of-multiplier m))) ∙ point-bytesOf _);
+          },
+      omega (arith, d .announce-shares .ensures .1, x .product-by .ensures .1, e .evaluate .ensures .1),
+    )
+
+pub announce-with-spec : {M : Type 1} → statement M
+announce-with-spec =
+    tie.close
+    (tie.spec (λ c. search needs) (λ c. search needs) (λ c. search needs) (λ c κs. search needs) (λ c κs. search needs) (λ c κs. search needs)
+    (λ c. search needs) (λ c κs. let e : tie.After-evaluate = search in let m : tie.After-multiples-of = search in (omega (arith, table m), omega (arith, few e)))
+    (λ c κs. let e : tie.After-evaluate = search in let s = back-to-start (back-to-point e) in (s .pre .3, s .pre .4))
+    (λ c. let e : tie.After-evaluate = search back-to-evaluate in let m : tie.After-multiples-of = search in search needs) (λ c. search needs) announce-shares-requires
+    (λ c. search needs) (λ c. search needs) (λ c. search needs) (λ c. search needs) returns)
