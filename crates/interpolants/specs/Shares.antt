@@ -1,8 +1,8 @@
 -- The quotient of the power sums by the complement is S, share by share.
 --
 --   share-end            the end of a share behind zeros
---   complement-value     the value of the complement: its leading coefficient is 1
---   length-low           it has 255 − m others
+--   monic-value          the value of a polynomial whose leading coefficient is 1
+--   length-low           the complement has 255 − m other coefficients
 --   quotient-made        what is G(f_i)·x_i at each point and zero at the bytes above m leaves zeros and S of x
 --   share-made           so the power sums leave zeros and S
 use mathlib.Core.Path.{_≡_, refl, sym, ap, _∙_}
@@ -25,7 +25,7 @@ use Rattle.powersums.specs.PowerSum.{timesEach, PowerSums}
 use Rattle.interpolants.specs.Complement.{complementOf, weightsOf}
 use Rattle.interpolants.specs.Complement.Laws.{length-complement, complement-monic}
 use Rattle.interpolants.specs.Interpolating.{transform-elsewhere, transform-here, interpolant-made}
-use Rattle.interpolants.specs.Division.{monicAt, Divided}
+use Rattle.interpolants.specs.Division.{Divided}
 use Rattle.interpolants.specs.Division.Laws.{eval-append, bytes-share}
 
 share-drop : (i n : ℕ) (t : List ℕ) → share i (drop n t) ≡ drop n (share i t)
@@ -48,16 +48,13 @@ pow-byte z (suc n) = ⊗-lt (pow byteOps z n) z
 one-value : (z w : ℕ) → w < 256 → w ⊗ (1 ⊕ z ⊗ 0) ≡ w
 one-value z w h = simp bytefield (one-⊗ w h)
 
-pub monic-value : (g : List ℕ) (z : ℕ) → eval byteOps (g ++ (1 ∷ [])) z ≡ monicAt g z
+pub monic-value : (p g : List ℕ) (n z : ℕ) → p ≡ g ++ (1 ∷ []) → length g ≡ n → eval byteOps p z ≡ eval byteOps g z ⊕ pow byteOps z n
 unfolding eval
-monic-value g z =
-    eval-append g (1 ∷ []) z (lit< tt, tt)
-    ∙ ap (_⊕_ (eval byteOps g z)) (one-value z (pow byteOps z (length g)) (pow-byte z (length g)))
+monic-value p g n z e l =
+    ap (λ (q : List ℕ). eval byteOps q z) e ∙ eval-append g (1 ∷ []) z (lit< tt, tt)
+    ∙ ap (_⊕_ (eval byteOps g z)) (one-value z (pow byteOps z (length g)) (pow-byte z (length g)) ∙ ap (pow byteOps z) l)
 
-module _ (m : ℕ) (some : 0 < m) (few : m < 256) where
-  pub complement-value : (z : ℕ) → eval byteOps (complementOf m) z ≡ monicAt (take (255 - m) (complementOf m)) z
-  complement-value z = ap (λ (p : List ℕ). eval byteOps p z) (complement-monic m) ∙ monic-value (take (255 - m) (complementOf m)) z
-
+module _ (m : ℕ) (few : m < 256) where
   pub length-low : (g : List ℕ) → g ≡ complementOf m → length (take (255 - m) g) ≡ 255 - m
   length-low g e = let l : length g ≡ 256 - m = ap length e ∙ length-complement m few in length-take-le (255 - m) g (omega arith)
 
@@ -67,13 +64,13 @@ module _ (m : ℕ) (some : 0 < m) (few : m < 256) where
       → ((j : ℕ) → j < m → eval byteOps (share i t) (1 + j) ≡ eval byteOps (complementOf m) (1 + j) ⊗ getD x j 0)
       → Divided (take (255 - m) g) t a → share i a ≡ replicate (255 - m) 0 ++ interpolantOf x
   quotient-made i x t a g h la eg lx bx elsewhere here divided =
-      let ls = length-share i a in
-      let r = take (255 - m) (share i a) in
-      let s = drop (255 - m) (share i a) in
-      sym (take-append-drop (255 - m) (share i a))
-      ∙ interpolant-made m x (share i t) r s few lx bx elsewhere here (length-take-le (255 - m) (share i a) (omega arith))
-      (bytes-take (255 - m) (share i a) (bytes-share i a)) (rw share-drop at (bytes-share i (drop (255 - m) a)))
-      (λ z. rw (complement-value z, length-low (complementOf m) refl) (rw (eg, length-low (complementOf m) refl) at divided i h z))
+      let l = length-low (complementOf m) refl in
+      let n = length-share i a in
+      let q = share i a in
+      sym (take-append-drop (255 - m) q)
+      ∙ interpolant-made m x (share i t) (take (255 - m) q) (drop (255 - m) q) few lx bx elsewhere here (length-take-le (255 - m) q (omega arith))
+      (bytes-take (255 - m) q (bytes-share i a)) (rw share-drop at (bytes-share i (drop (255 - m) a)))
+      (λ z. rw (monic-value (complementOf m) (take (255 - m) (complementOf m)) (255 - m) z (complement-monic m) l) (rw (eg, l) at divided i h z))
       (simp length-drop (omega arith))
 
   pub share-made : (i : ℕ) (a t a′ w g : List ℕ) → i < 8 → length a ≡ 255 → length a′ ≡ 255 → w ≡ weightsOf m → g ≡ complementOf m
@@ -82,5 +79,4 @@ module _ (m : ℕ) (some : 0 < m) (few : m < 256) where
   share-made i a t a′ w g h la la′ ew eg sums divided =
       let lx : length (share i (take m a)) ≡ m = length-share i (take m a) ∙ length-take-le m a (omega arith) in
       let p = rw ew at sums in
-      quotient-made i (share i (take m a)) t a′ g h la′ eg lx (bytes-share i (take m a))
-      (transform-elsewhere m (share i (take m a)) (share i t) few lx p) (transform-here m (share i (take m a)) (share i t) few lx p) divided
+      quotient-made i _ t a′ g h la′ eg lx (bytes-share i (take m a)) (transform-elsewhere m _ _ few lx p) (transform-here m _ _ few lx p) divided

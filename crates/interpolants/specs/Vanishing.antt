@@ -70,11 +70,11 @@ module _ (m : ℕ) (some : 0 < m) (few : m < 256) where
   begun-value z s h =
       let p = one (m - 1) in
       let g = take (255 - m) (complementOf m) in
-      let l : length (p ++ g) ≡ 255 = length-append p g ∙ ap₂ _+_ sized (length-low m some few (complementOf m) refl) ∙ omega arith in
+      let l : length (p ++ g) ≡ 255 = length-append p g ∙ ap₂ _+_ sized (length-low m few (complementOf m) refl) ∙ omega arith in
       let v : eval byteOps p z ≡ 1 = ap (λ (x : ℕ). 1 ⊕ z ⊗ x) (zeros-value (m - 1) z) ∙ simp bytefield in
       cancel _ _ 1
-      (ap (_⊕_ (eval byteOps (p ++ g) z)) (sym (nonzero-around z s h) ∙ ap (pow byteOps z) (sym l))
-      ∙ sym (monic-value (p ++ g) z) ∙ ap (λ (q : List ℕ). eval byteOps q z) (append-assoc p g (1 ∷ []) ∙ ap (_++_ p) (sym (complement-monic m)))
+      (ap (_⊕_ (eval byteOps (p ++ g) z)) (sym (nonzero-around z s h))
+      ∙ sym (monic-value (p ++ complementOf m) (p ++ g) 255 z (ap (_++_ p) (complement-monic m) ∙ sym (append-assoc p g (1 ∷ []))) l)
       ∙ eval-append p (complementOf m) z (bytes-complement m few)
       ∙ ap₂ (λ (x n : ℕ). x ⊕ pow byteOps z n ⊗ eval byteOps (complementOf m) z) v sized
       ∙ ap (_⊕_ 1) (⊗-comm (pow byteOps z m) (eval byteOps (complementOf m) z)))
@@ -82,10 +82,8 @@ module _ (m : ℕ) (some : 0 < m) (few : m < 256) where
   low-value : (i : ℕ) → i < m → eval byteOps (take m (vanishingOf m)) (1 + i) ≡ pow byteOps (1 + i) m
   unfolding vanishingOf
   low-value i h =
-      let l : length (take m (vanishingOf m)) ≡ m = length-take-le m (vanishingOf m) (omega (arith, length-vanishing m)) in
       cancel _ _ (pow byteOps (1 + i) m)
-      (ap (λ (n : ℕ). eval byteOps (take m (vanishingOf m)) (1 + i) ⊕ pow byteOps (1 + i) n) (sym l)
-      ∙ sym (monic-value (take m (vanishingOf m)) (1 + i)) ∙ ap (λ (q : List ℕ). eval byteOps q (1 + i)) (sym (vanishing-monic m))
+      (sym (monic-value (vanishingOf m) _ m (1 + i) (vanishing-monic m) (length-take-le m (vanishingOf m) (omega (arith, length-vanishing m))))
       ∙ rw (ascending-at 1 m i h) at (product-zero (interpolationPoints m) i (omega (arith, length-ascending 1 m)))
       ∙ sym (⊕-self (pow byteOps (1 + i) m)))
 
@@ -105,7 +103,7 @@ module _ (m : ℕ) (some : 0 < m) (few : m < 256) where
       ∙ ap₂ _++_ (ap (_∷_ 1) (zeros-share 0 (m - 1)))
       (ap (share 0) (e ∙ ap (λ (l : List ℕ). xorList l (map (placed 0) g)) (tail-part (one 254) m ∙ ap (drop m) one-parted ∙ drop-at p z m sized))
       ∙ share-own 0 z g (λ k. byte-at k g b) ∙ ap (λ (l : List ℕ). xorList l g) (zeros-share 0 (255 - m))
-      ∙ xorList-comm z g ∙ xorList-zeros g (255 - m) (omega (arith, length-low m some few (complementOf m) refl)))
+      ∙ xorList-comm z g ∙ xorList-zeros g (255 - m) (omega (arith, length-low m few (complementOf m) refl)))
 
   pub vanishing-made : (g ys a out : List ℕ) → g ≡ complementOf m → length a ≡ 255
       → ys ≡ xorList (take (255 - m) (drop m (one 254))) (map (placed 0) (take (255 - m) g))
@@ -122,7 +120,7 @@ module _ (m : ℕ) (some : 0 < m) (few : m < 256) where
       let lf : length f ≡ m = length-take-le m (vanishingOf m) (omega (arith, length-vanishing m)) in
       let value : (z : ℕ) → 0 < z → z < 256 → eval byteOps (share 0 t) z ≡ eval byteOps (complementOf m) z ⊗ pow byteOps z m
       = λ z s h. ap (λ (l : List ℕ). eval byteOps l z) (begun ys (rw eg at ey)) ∙ begun-value z s h in
-      eo ∙ rw la at (share-end 0 m a (interpolantOf x) (quotient-made m some few 0 x t a g (lit< tt) la eg lx bx
+      eo ∙ rw la at (share-end 0 m a (interpolantOf x) (quotient-made m few 0 x t a g (lit< tt) la eg lx bx
       (λ z h k. value z (omega arith) k ∙ ap (λ (v : ℕ). v ⊗ pow byteOps z m) (complement-zero m z h k) ∙ simp bytefield)
       (λ j h. value (1 + j) (omega arith) (omega arith) ∙ ap (_⊗_ (eval byteOps (complementOf m) (1 + j)))
       (sym (getD-map-in (eval byteOps f) (interpolationPoints m) j (omega (arith, length-ascending 1 m))

@@ -13,7 +13,7 @@ abbrev m : tie.Start → ℕ
 m s = length (s .args .out .now)
 
 low : (s : tie.Start) → length (take (255 - m s) (s .args .g .now)) ≡ 255 - m s
-low s = let (some, few, eg) = s .pre in length-low (m s) some few (s .args .g .now) eg
+low s = let (some, few, eg) = s .pre in length-low (m s) few (s .args .g .now) eg
 
 add-share-requires : tie.Need-add-share-requires
 add-share-requires c κs = (simp (length-take, length-drop) (omega arith), search needs)
@@ -21,12 +21,6 @@ add-share-requires c κs = (simp (length-take, length-drop) (omega arith), searc
 -- the words keep their number
 words : (a : tie.After-add-share) → let s : tie.Start = search in length (a .add-share .last .0) ≡ 255 - m s
 words a = a .add-share .kept .0 ∙ simp (length-take, length-drop) (omega arith)
-
-slice-aggregate-divide : tie.Need-slice-aggregate-divide
-slice-aggregate-divide c = let a : tie.After-add-share = search in simp (length-append, length-take, length-drop) (omega (arith, words a))
-
-divide-requires : tie.Need-divide-requires
-divide-requires c κs = let a : tie.After-add-share = search in simp (length-append, length-take, length-drop) (omega (arith, words a))
 
 returns : tie.Need-returns
 returns c =
@@ -39,7 +33,11 @@ returns c =
     (a .add-share .ensures) (d .divide .ensures) (h .share .ensures)
 
 pub vanishing-spec : {M : Type 1} → statement M
-vanishing-spec = tie.close (tie.spec (λ c. search needs) (λ c. search needs) (λ c. search needs) (λ c. search needs)
+vanishing-spec =
+    tie.close
+    (tie.spec (λ c. search needs) (λ c. search needs) (λ c. search needs) (λ c. search needs)
     (λ c. search needs) (λ c. search needs) (λ c. let s : tie.Start = search in sym (low s)) add-share-requires
-    slice-aggregate-divide (λ c. let s : tie.Start = search in sym (low s)) divide-requires (λ c. search needs)
-    (λ c. search needs) (λ c. search needs) (λ c. search needs) (λ c κs. search needs) (λ c. search needs) returns)
+    (λ c. let a : tie.After-add-share = search in simp (length-append, length-take, length-drop) (omega (arith, words a)))
+    (λ c. let s : tie.Start = search in sym (low s))
+    (λ c κs. let a : tie.After-add-share = search in simp (length-append, length-take, length-drop) (omega (arith, words a)))
+    (λ c. search needs) (λ c. search needs) (λ c. search needs) (λ c. search needs) (λ c κs. search needs) (λ c. search needs) returns)

@@ -6,8 +6,7 @@
 --   bytes-complement      they are bytes
 --   complement-monic      the highest is 1
 --   complement-zero       G is zero at each byte above m
---   complement-not, complement-some
---                         and at no other
+--   complement-some       and at no other
 --   length-weights        there are m weights
 --   weight-at             the weight of the byte f is f times G(f)
 --   weight-some           it is not zero
@@ -21,12 +20,12 @@ use lib.ListN.{length, take, getD}
 use Rattle.lists.specs.Xor.{positive}
 use Rattle.algebra.specs.Ring.{ops}
 use Rattle.algebra.specs.Each.{each-from, each-to-map}
-use Rattle.algebra.specs.Polynomial.{eval, vanishing}
+use Rattle.algebra.specs.Polynomial.{eval}
 use Rattle.algebra.specs.Polynomial.Lengths.{length-product}
 use Rattle.algebra.specs.Polynomial.Quotients.{vanishing-elsewhere}
 use Rattle.algebra.specs.Polynomial.Maps.{map-eval}
 use Rattle.bytefield.specs.Product.{_⊗_, byteOps}
-use Rattle.bytefield.specs.Byte.{Byte, byte, byteRing, byteField, byte-zero, byte-homomorphism}
+use Rattle.bytefield.specs.Byte.{byte, byteRing, byteField, byte-zero, byte-homomorphism}
 use Rattle.polynomial.specs.Bytes.{Bytes, inField, byte-equal, byte-eval, bytes-product}
 use Rattle.polynomial.specs.Interpolant.{ascending}
 use Rattle.polynomial.specs.Interpolant.Laws.{length-ascending, ascending-at, product-in-field, product-monic, product-zero}
@@ -59,23 +58,18 @@ pub complement-monic : (m : ℕ) → complementOf m ≡ take (255 - m) (compleme
 unfolding complementOf
 complement-monic m = product-monic (255 - m) (missing m) (length-missing m)
 
-value-in-field : (m z : ℕ) → byte (eval byteOps (complementOf m) z) ≡ eval (ops byteRing) (vanishing (ops byteRing) (inField (missing m))) (byte z)
-unfolding complementOf
-value-in-field m z =
-    map-eval byteOps (ops byteRing) byte byte-homomorphism (complementOf m) z
-    ∙ ap (λ (p : List Byte). eval (ops byteRing) p (byte z)) (product-in-field (missing m))
-
 pub complement-zero : (m z : ℕ) → m < z → z < 256 → eval byteOps (complementOf m) z ≡ 0
 unfolding complementOf
 complement-zero m z h k =
     let p : getD (missing m) (z - (1 + m)) 0 ≡ z = missing-at m (z - (1 + m)) (omega arith) ∙ omega arith in
     rw p at (product-zero (missing m) (z - (1 + m)) (omega (arith, length-missing m)))
 
-pub complement-not : (m z : ℕ) → z ≤ m → m < 256 → eval byteOps (complementOf m) z ≡ 0 → ⊥
-complement-not m z h k e =
-    vanishing-elsewhere byteField (inField (missing m)) (byte z)
+pub complement-some : (m z : ℕ) → z ≤ m → m < 256 → 0 < eval byteOps (complementOf m) z
+unfolding complementOf
+complement-some m z h k =
+    positive (eval byteOps (complementOf m) z) (λ e. vanishing-elsewhere byteField (inField (missing m)) (byte z)
     (each-to-map (λ f. byte z ≡ f → ⊥) byte (missing m) (each-from (λ f. byte z ≡ byte f → ⊥) 0 (missing m) apart))
-    (sym (value-in-field m z) ∙ ap byte e ∙ byte-zero)
+    (rw (product-in-field (missing m)) at (sym (map-eval byteOps (ops byteRing) byte byte-homomorphism (complementOf m) z)) ∙ ap byte e ∙ byte-zero))
   where
     apart : (i : ℕ) → i < length (missing m) → byte z ≡ byte (getD (missing m) i 0) → ⊥
     apart i l q =
@@ -83,9 +77,6 @@ complement-not m z h k e =
         let a = missing-at m i (omega arith) in
         let b : z ≡ getD (missing m) i 0 = byte-equal z (getD (missing m) i 0) (omega arith) (omega arith) q in
         omega arith
-
-pub complement-some : (m z : ℕ) → z ≤ m → m < 256 → 0 < eval byteOps (complementOf m) z
-complement-some m z h k = positive (eval byteOps (complementOf m) z) (complement-not m z h k)
 
 -- ---- the weights
 
