@@ -72,23 +72,20 @@ module _ (p : Parameters) (key : Key) (m2 : List ℕ) (s : ℕ → List ℕ) (al
   β̂ : ℕ → ℕ → Point
   β̂ h = hatBeta p key m2 all β⋆ (ltb h 2)
 
-  alpha-second : (l : ℕ) → alpha p key m2 false (s 1) l ≡ alpha p key m2 true all l ⊞ alpha p key m2 true (s 0) l
-  alpha-second l = ap (λ (z : List ℕ). alpha p key m2 false z l) second ∙ alpha-difference p key m2 all (s 0) l
-
-  beta-second : (l : ℕ) → beta p key m2 false (s 1) l ≡ beta p key m2 true all l ⊞ beta p key m2 true (s 0) l
-  beta-second l = ap (λ (z : List ℕ). beta p key m2 false z l) second ∙ beta-difference p key m2 all (s 0) l
+  hats : (f : Bool → List ℕ → Point) (x : Point) (h : ℕ) → h ≤ 2 → f false (xorList all (s 0)) ≡ f true all ⊞ f true (s 0)
+      → sums (λ c. f (eqb c 0) (s c) ⊞ cond (eqb c h) x 𝟎) (side p) ≡ f true all ⊞ cond (ltb h 2) x 𝟎
+  unfolding bits
+  hats f x h b e =
+      hat (additive (points .base)) (λ c. f (eqb c 0) (s c) ⊞ cond (eqb c h) x 𝟎) (f true (s 0)) (f true all) x h b refl
+      (ap (λ (y : Point). y ⊞ cond (eqb 1 h) x 𝟎) (ap (f false) second ∙ e))
 
   alpha-hat : (h l : ℕ) → h ≤ 2 → sums (λ c. alphaWith p key m2 s α⋆ β⋆ h c l) (side p) ≡ α̂ h l
-  unfolding alphaWith bits hatAlpha α̂
-  alpha-hat h l b =
-      hat (additive (points .base)) (λ c. alphaWith p key m2 s α⋆ β⋆ h c l) (alpha p key m2 true (s 0) l) (alpha p key m2 true all l) (α⋆ l) h b refl
-      (ap (λ (x : Point). x ⊞ cond (eqb 1 h) (α⋆ l) 𝟎) (alpha-second l))
+  unfolding alphaWith hatAlpha α̂
+  alpha-hat h l b = hats (λ b z. alpha p key m2 b z l) (α⋆ l) h b (alpha-difference p key m2 all (s 0) l)
 
   beta-hat : (h l : ℕ) → h ≤ 2 → sums (λ c. betaWith p key m2 s α⋆ β⋆ h c l) (side p) ≡ β̂ h l
-  unfolding betaWith bits hatBeta β̂
-  beta-hat h l b =
-      hat (additive (points .base)) (λ c. betaWith p key m2 s α⋆ β⋆ h c l) (beta p key m2 true (s 0) l) (beta p key m2 true all l) (β⋆ l) h b refl
-      (ap (λ (x : Point). x ⊞ cond (eqb 1 h) (β⋆ l) 𝟎) (beta-second l))
+  unfolding betaWith hatBeta β̂
+  beta-hat h l b = hats (λ b z. beta p key m2 b z l) (β⋆ l) h b (beta-difference p key m2 all (s 0) l)
 
   formula-is : (h c l : ℕ) → h ≤ 2 → formulaWith p key m2 s α⋆ β⋆ h c l ≡ partV p key m2 (eqb c 0) (s c) (α̂ h l) (β̂ h l) l
   unfolding formulaWith

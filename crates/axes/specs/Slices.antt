@@ -1,18 +1,12 @@
--- Slices that are written part by part.
+-- Slices that are read part by part.
 --
--- pair-made                    two lists written one after the other
 -- middle-part                  the part that is lent as `&w[a..e]`
-use mathlib.Core.Path.{_≡_, refl, sym, ap, _∙_}
-use mathlib.Core.List.{List, _++_}
+use mathlib.Core.Path.{_≡_, ap}
+use mathlib.Core.List.{List}
 use Prim.Native.Nat.{ℕ, _+_, _-_}
 use native.Mathlib.Omega.{arith}
-use lib.ListN.{length, take, drop, length-append}
-use Rattle.lists.specs.Part.{part, putAt}
-use Rattle.lists.specs.Part.Laws.{putAt-putAt, putAt-whole}
-
-pub pair-made : (d a b : List ℕ) → length d ≡ length a + length b → putAt (putAt d 0 a) (length a) b ≡ a ++ b
-pair-made d a b e =
-    putAt-putAt d a b (omega arith) ∙ putAt-whole d (a ++ b) (length-append a b ∙ sym e)
+use lib.ListN.{take, drop}
+use Rattle.lists.specs.Part.{part}
 
 pub middle-part : (w : List ℕ) (a n : ℕ) → take (a + n - a) (drop a w) ≡ part w a n
 unfolding part

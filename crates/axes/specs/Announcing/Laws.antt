@@ -3,28 +3,25 @@
 -- announced-with     the verifier's parties: what they announce is what exchange/specs/Opening.antt says
 -- own-announced      the prover's parties, none of which holds a hidden leaf: what they announce is what exchange/specs/Messages.antt says
 -- with-ext           what is announced depends on the parties of the side and the positions below t alone
--- party-from         the sums of both parties of an axis, from the first party's and the sum of all disclosed leaves
 use mathlib.Core.Path.{_≡_, refl, sym, ap, ap₂, _∙_}
 use mathlib.Core.Bool.{Bool, false, cond}
 use mathlib.Core.List.{List, _++_}
-use Prim.Native.Nat.{ℕ, zero, suc, _*_, _≤_, _<_}
+use Prim.Native.Nat.{ℕ, _<_}
 use native.Mathlib.Omega.{arith}
-use borrow.Author.Tests.{ne-eqb, lt-ltb, le-ltb}
+use borrow.Author.Tests.{ne-eqb}
 use lib.Dec.{eqb}
 use Rattle.cube.specs.Group.{additive}
 use Rattle.cube.specs.Sum.Laws.{sum-ext}
-use Rattle.lists.specs.Part.{part}
-use Rattle.lists.specs.Sum.{xorList}
 use Rattle.tower.specs.Field.{Point}
 use Rattle.parameters.specs.declared.Parameters.{Parameters}
-use Rattle.exchange.specs.Layout.{bits, side, leaves, digit, shareLength}
+use Rattle.exchange.specs.Layout.{side, leaves, digit}
 use Rattle.exchange.specs.Reading.{points, _⊞_, 𝟎}
 use Rattle.exchange.specs.Reading.Laws.{encode-ext}
 use Rattle.exchange.specs.Values.{Key, alpha, beta, partV}
 use Rattle.exchange.specs.Parties.{Announced, sums, announcedBytes}
 use Rattle.exchange.specs.Messages.{ownParty, ownAlpha, ownBeta, ownAnnounced}
 use Rattle.exchange.specs.Opening.{Exchange, alphaOf, betaOf, disclosed, partyAlpha, partyBeta, formulaV, partyV, announced}
-use Rattle.axes.specs.Announcing.{alphaWith, betaWith, formulaWith, vWith, announcedWith, partyFrom}
+use Rattle.axes.specs.Announcing.{alphaWith, betaWith, formulaWith, vWith, announcedWith}
 
 pub announced-with : (hash : List ℕ → ℕ → List ℕ) (p : Parameters) (e : Exchange) (key : Key) (j : ℕ)
     → announced hash p e key j
@@ -49,17 +46,16 @@ module _ (hash : List ℕ → ℕ → List ℕ) (p : Parameters) (x salt root : 
   none : (c : ℕ) → c < side p → eqb c (side p) ≡ false
   none c h = ne-eqb c (side p) (λ e. omega arith)
 
+  plain : (c : ℕ) (x y : Point) → c < side p → x ≡ x ⊞ cond (eqb c (side p)) y 𝟎
+  plain c x y h = sym (points .base .add-zero x) ∙ ap (λ (b : Bool). x ⊞ cond b y 𝟎) (sym (none c h))
+
   own-alpha : (c l : ℕ) → c < side p → ownAlpha hash p x salt root key m2 j c l ≡ alphaWith p key m2 own α⋆ β⋆ (side p) c l
   unfolding ownAlpha alphaWith own
-  own-alpha c l h =
-      sym (points .base .add-zero (alpha p key m2 (eqb c 0) (own c) l))
-      ∙ ap (λ (b : Bool). alpha p key m2 (eqb c 0) (own c) l ⊞ cond b (α⋆ l) 𝟎) (sym (none c h))
+  own-alpha c l h = plain c _ (α⋆ l) h
 
   own-beta : (c l : ℕ) → c < side p → ownBeta hash p x salt root key m2 j c l ≡ betaWith p key m2 own α⋆ β⋆ (side p) c l
   unfolding ownBeta betaWith own
-  own-beta c l h =
-      sym (points .base .add-zero (beta p key m2 (eqb c 0) (own c) l))
-      ∙ ap (λ (b : Bool). beta p key m2 (eqb c 0) (own c) l ⊞ cond b (β⋆ l) 𝟎) (sym (none c h))
+  own-beta c l h = plain c _ (β⋆ l) h
 
   own-v : (c l : ℕ) → c < side p → ownAnnounced hash p x salt root key m2 j .v c l ≡ vWith p key m2 own α⋆ β⋆ (side p) c l
   unfolding ownAnnounced vWith formulaWith own
@@ -120,13 +116,3 @@ module _ (p : Parameters) (key : Key) (m2 : List ℕ) (s s′ : ℕ → List ℕ
   with-ext c k =
       same-bytes p (announcedWith p key m2 s α⋆ β⋆ h) (announcedWith p key m2 s′ α⋆′ β⋆′ h) c (λ l b. alpha-ext c l k b) (λ l b. beta-ext c l k b)
       (λ l b. v-ext c l k b)
-
--- ---- sums
-
-pub party-from : (p : Parameters) (parts : List ℕ) (j : ℕ) (s : ℕ → List ℕ) → part parts (j * shareLength p) (shareLength p) ≡ s 0
-    → xorList (part parts (p .d * shareLength p) (shareLength p)) (part parts (j * shareLength p) (shareLength p)) ≡ s 1
-    → (c : ℕ) → c < side p → partyFrom p parts j c ≡ s c
-unfolding partyFrom bits
-party-from p parts j s first second zero h = first
-party-from p parts j s first second (suc zero) h = second
-party-from p parts j s first second (suc (suc c)) h = absurd (omega arith)

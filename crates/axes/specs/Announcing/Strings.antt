@@ -1,10 +1,9 @@
 -- The rows of all axes one after another, and the strings of layers 6 and 7 made of them.
 --
 -- length-row, length-rows, row-at  a row has 24t bytes, and row j is found at its place
--- axis-string                      behind a row's number stands what layer 6 hashes
 -- rows-string                      rows that are those of the announcements of the axes give layer 7's string
 -- own-row, own-rows                the prover's parties: the rows give message 3
--- opened-row, opened-rows          the verifier's parties: a row is what its axis announces, and the rows give layer 7's string
+-- opened-row                       the verifier's parties: a row is what its axis announces
 use mathlib.Core.Path.{_≡_, refl, sym, ap, _∙_}
 use mathlib.Core.List.{List, [], _∷_, append-nil}
 use Prim.Native.Nat.{ℕ, _+_, _*_, _≤_, _<_}
@@ -25,9 +24,8 @@ use Rattle.exchange.specs.Values.{Key}
 use Rattle.exchange.specs.Parties.{Announced, announcedBytes, axisString}
 use Rattle.exchange.specs.Parties.Laws.{length-announcedBytes}
 use Rattle.exchange.specs.Messages.{ownParty, ownAnnounced, message3}
-use Rattle.exchange.specs.Opening.{Exchange, alphaOf, betaOf, disclosed, announced, responseString}
+use Rattle.exchange.specs.Opening.{Exchange, alphaOf, betaOf, disclosed, announced}
 use Rattle.axisdigests.specs.Rows.{rowsString}
-use Rattle.partyrows.specs.Row.{hiddenParty}
 use Rattle.partyrows.specs.Row.Laws.{hidden-inside, hidden-outside}
 use Rattle.axes.specs.Announcing.{announcedWith, partyFrom, rowOf}
 use Rattle.axes.specs.Announcing.Laws.{announced-with, own-announced, with-ext}
@@ -35,7 +33,7 @@ use Rattle.axes.specs.Announcing.Laws.{announced-with, own-announced, wi
 -- ---- rows
 
 module _ (p : Parameters) (key : Key) (m2 parts : List ℕ) (leaf : ℕ) (hidden : List ℕ) where
-  pub length-row : (j : ℕ) → length (rowOf p key m2 parts leaf hidden j) ≡ 24 * p .t
+  length-row : (j : ℕ) → length (rowOf p key m2 parts leaf hidden j) ≡ 24 * p .t
   unfolding rowOf
   length-row j =
       length-joined (announcedBytes p _) (side p) (12 * p .t) (λ c h. length-announcedBytes p _ c)
@@ -44,19 +42,12 @@ module _ (p : Parameters) (key : Key) (m2 parts : List ℕ) (leaf : ℕ) (hidden
   pub length-rows : length (joined (rowOf p key m2 parts leaf hidden) (p .d)) ≡ p .d * (24 * p .t)
   length-rows = length-joined (rowOf p key m2 parts leaf hidden) (p .d) (24 * p .t) (λ j h. length-row j)
 
-  pub row-at : (j : ℕ) → j < p .d
+  row-at : (j : ℕ) → j < p .d
       → part (joined (rowOf p key m2 parts leaf hidden) (p .d)) (j * (24 * p .t)) (24 * p .t) ≡ rowOf p key m2 parts leaf hidden j
   unfolding part
   row-at j h =
       ap (λ (r : List ℕ). part r (j * (24 * p .t)) (24 * p .t)) (sym (append-nil (joined (rowOf p key m2 parts leaf hidden) (p .d))))
       ∙ joined-at (rowOf p key m2 parts leaf hidden) (24 * p .t) (p .d) (λ j h. length-row j) [] j h
-
-  pub axis-string : (prefix : List ℕ) (j : ℕ)
-      → string 6 prefix ((j + 1) ∷ rowOf p key m2 parts leaf hidden j)
-      ≡ axisString p prefix j
-      (announcedWith p key m2 (partyFrom p parts j) (λ l. pointAt hidden (4 * l)) (λ l. pointAt hidden (4 * p .t + 4 * l)) (hiddenParty p leaf j))
-  unfolding axisString string6 rowOf
-  axis-string prefix j = refl
 
   pub rows-string : (hash : List ℕ → ℕ → List ℕ) (prefix : List ℕ) (A : ℕ → Announced)
       → ((j : ℕ) → j < p .d → rowOf p key m2 parts leaf hidden j ≡ joined (announcedBytes p (A j)) (side p))
@@ -79,7 +70,7 @@ module _ (hash : List ℕ → ℕ → List ℕ) (p : Parameters) (x salt root : 
   β⋆ : ℕ → Point
   β⋆ l = pointAt hidden (4 * p .t + 4 * l)
 
-  pub own-row : (j : ℕ) → j < p .d
+  own-row : (j : ℕ) → j < p .d
       → rowOf p key m2 parts leaf hidden j ≡ joined (announcedBytes p (ownAnnounced hash p x salt root key m2 j)) (side p)
   unfolding rowOf α⋆ β⋆
   own-row j h =
@@ -128,7 +119,3 @@ module _ (hash : List ℕ → ℕ → List ℕ) (p : Parameters) (e : Exchange) 
           unfold betaOf in
           let q : 16 * levels p + 32 + (4 * p .t + 4 * l) ≡ 16 * levels p + 32 + 4 * p .t + 4 * l = omega arith in
           read (4 * p .t + 4 * l) (omega arith) ∙ ap (pointAt (e .message5)) q
-
-  pub opened-rows : rowsString hash p (e .prefix) (joined (rowOf p key (e .message2) parts (e .leaf) hidden) (p .d)) ≡ responseString hash p e key
-  unfolding responseString
-  opened-rows = rows-string p key (e .message2) parts (e .leaf) hidden hash (e .prefix) (announced hash p e key) opened-row

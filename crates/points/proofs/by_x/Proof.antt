@@ -12,5 +12,5 @@ returns c =
     (c .before .before .before .product .ensures) (c .before .before .sum .ensures) (c .before .product2 .ensures) (c .sum2 .ensures)
 
 pub by-x-spec : {M : Type 1} → statement M
-by-x-spec = tie.close (tie.spec (λ c. search needs) (λ c κs. search needs) (λ c. search needs) (λ c. search needs) (λ c κs. search needs)
-    (λ c. search needs) (λ c κs. search needs) (λ c. search needs) (λ c. search needs) (λ c κs. search needs) returns)
+by-x-spec = tie.close (tie.spec (λ c. search needs) (λ c κs. search needs) (λ c. search needs) (λ c. search needs) (λ c κs. search needs) (λ c. search needs)
+    (λ c κs. search needs) (λ c. search needs) (λ c. search needs) (λ c κs. search needs) returns)

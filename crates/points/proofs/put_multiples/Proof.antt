@@ -14,5 +14,4 @@ returns c =
     t .put-table .ensures ∙ ap (putAt _ (s .args .at)) (m .multiples .ensures ∙ ap multiples (m .before .word-of .ensures))
 
 pub put-multiples-spec : {M : Type 1} → statement M
-put-multiples-spec =
-    tie.close (tie.spec (λ c κs. search needs) (λ c κs. search needs) (λ c. search needs) (λ c κs. search needs) (λ c. search needs) returns)
+put-multiples-spec = tie.close (tie.spec (λ c κs. search needs) (λ c κs. search needs) (λ c. search needs) (λ c κs. search needs) (λ c. search needs) returns)

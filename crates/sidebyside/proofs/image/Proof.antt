@@ -45,6 +45,6 @@ returns c =
     (g .kept, imaged-all (s .args .words .now) (s .args .matrix .now) (s .args .k) (p .loop .i) (p .loop .words) (s .pre .0) (omega arith) g)
 
 pub image-spec : {M : Type 1} → statement M
-image-spec = tie.close (tie.spec Inv-loop μ-loop loop-holds (λ c. search needs) (λ c. search needs)
-    (λ c κs. search needs) (λ c. search needs) (λ c. search needs) (λ c. search needs) (λ c. search needs)
-    add-column-requires (λ c. search needs) (λ c. search needs) loop-again (λ c. search needs) returns)
+image-spec = tie.close (tie.spec Inv-loop μ-loop loop-holds (λ c. search needs) (λ c. search needs) (λ c κs. search needs) (λ c. search needs)
+    (λ c. search needs) (λ c. search needs) (λ c. search needs) add-column-requires (λ c. search needs) (λ c. search needs) loop-again (λ c. search needs)
+    returns)

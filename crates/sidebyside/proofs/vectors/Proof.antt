@@ -64,7 +64,7 @@ returns c =
     (d .gather .ensures i ∙ ap (bytesAt (shareOf p (a .shares .now) i) (atX p)) (sym (front s)))
 
 pub vectors-spec : {M : Type 1} → statement M
-vectors-spec = tie.close (tie.spec (λ c. search needs) (λ c. search needs)
-    (λ c. let s : tie.Start = search in front s) (λ c κs. let s : tie.Start = search in let e = front s in search needs) (λ c. search needs) (λ c. search needs)
-    (λ c. search needs) (λ c. search needs) (λ c κs. search needs) image-requires (λ c. search needs)
-    (λ c. search needs) (λ c. search needs) (λ c. search needs) (λ c κs. search needs) (λ c. search needs) returns)
+vectors-spec = tie.close (tie.spec (λ c. search needs) (λ c. search needs) (λ c. let s : tie.Start = search in front s)
+    (λ c κs. let s : tie.Start = search in let e = front s in search needs) (λ c. search needs) (λ c. search needs) (λ c. search needs) (λ c. search needs)
+    (λ c κs. search needs) image-requires (λ c. search needs) (λ c. search needs) (λ c. search needs) (λ c. search needs) (λ c κs. search needs)
+    (λ c. search needs) returns)

@@ -20,5 +20,5 @@ returns c =
     (hides .1 ∙ ap₂ (secondBy (a .p) (a .party) (a .hidden .now)) (rows .0) (rows .1))
 
 pub axis-row-with-spec : {M : Type 1} → statement M
-axis-row-with-spec = tie.close (tie.spec (λ c κs. search needs) (λ c κs. search needs) (λ c κs. search needs)
-    (λ c. search needs) (λ c. search needs) (λ c. search needs) returns)
+axis-row-with-spec = tie.close (tie.spec (λ c κs. search needs) (λ c κs. search needs) (λ c κs. search needs) (λ c. search needs) (λ c. search needs)
+    (λ c. search needs) returns)

@@ -13,5 +13,4 @@ returns c =
     (first, c .before .before .xor-into .ensures ∙ ap₂ xorList (after-copy .copy .ensures) first)
 
 pub formula-rows-spec : {M : Type 1} → statement M
-formula-rows-spec = tie.close (tie.spec (λ c κs. search needs) (λ c κs. search needs) (λ c κs. search needs)
-    (λ c. search needs) (λ c. search needs) returns)
+formula-rows-spec = tie.close (tie.spec (λ c κs. search needs) (λ c κs. search needs) (λ c κs. search needs) (λ c. search needs) (λ c. search needs) returns)

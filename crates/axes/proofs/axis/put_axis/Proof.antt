@@ -22,37 +22,12 @@ inside : (s : tie.Start)
     × (s .args .axis * (12 * s .args .p .t) + 12 * s .args .p .t ≤ length (s .args .blocks .now))
 inside s = let h = s .pre .1 in share-fits _ _ _ _ _ _ (s .pre .0) (s .args .axis) (omega arith)
 
-mul-a : tie.Need-mul-a
-mul-a c = let start : tie.Start = search back-to-start in omega (arith, inside start .0)
-
-mul-b-2 : tie.Need-mul-b-2
-mul-b-2 c = let start : tie.Start = search back-to-start in omega (arith, inside start .1)
-
-add-e : tie.Need-add-e
-add-e c = let start : tie.Start = search back-to-start in omega (arith, inside start .0)
-
-add-f : tie.Need-add-f
-add-f c = let start : tie.Start = search back-to-start in omega (arith, inside start .1)
-
-part-axis-row-end : tie.Need-part-axis-row-end
-part-axis-row-end c = let start : tie.Start = search back-to-start in omega (arith, inside start .0)
-
-part-axis-row-end-2 : tie.Need-part-axis-row-end-2
-part-axis-row-end-2 c = let start : tie.Start = search back-to-start in omega (arith, inside start .1)
-
 axis-row-requires : tie.Need-axis-row-requires
 axis-row-requires c κs =
     let s : tie.Start = search back-to-start in
-    let h = s .pre .1 in (
-      record {
-        row = row-asked (s .args .p) (s .args .parts .now) (s .args .blocks .now) (s .args .sums .now) (s .args .total .now) (s .args .hidden .now) (s .pre .0) (s .args .axis) (omega arith);
-        sized-total = s .pre .0 .sized-total;
-        sized-hidden = s .pre .0 .of .sized-hidden;
-      },
-      s .pre .2,
-      s .pre .3,
-      s .pre .4,
-    )
+    let (f, h, n, l, p) = s .pre in
+    let r = row-asked (s .args .p) _ _ _ _ _ f (s .args .axis) (omega arith) in
+    (record { row = r; sized-total = f .sized-total; sized-hidden = f .of .sized-hidden }, n, l, p)
 
 returns : tie.Need-returns
 returns c =
@@ -67,7 +42,10 @@ returns c =
     (party .hidden-party .ensures)
 
 pub put-axis-spec : {M : Type 1} → statement M
-put-axis-spec = tie.close (tie.spec (λ c. search needs) (λ c. search needs) (λ c. search needs) (λ c. search needs)
-    (λ c. search needs) (λ c. search needs) mul-a (λ c. search needs) mul-b-2 add-e (λ c. search needs) add-f
-    (λ c κs. search needs) (λ c. search needs) (λ c. search needs) part-axis-row-end (λ c. search needs)
-    (λ c. search needs) part-axis-row-end-2 axis-row-requires (λ c. search needs) returns)
+put-axis-spec = tie.close (tie.spec (λ c. search needs) (λ c. search needs) (λ c. search needs) (λ c. search needs) (λ c. search needs) (λ c. search needs)
+    (λ c. let s : tie.Start = search back-to-start in omega (arith, inside s .0)) (λ c. search needs)
+    (λ c. let s : tie.Start = search back-to-start in omega (arith, inside s .1))
+    (λ c. let s : tie.Start = search back-to-start in omega (arith, inside s .0)) (λ c. search needs)
+    (λ c. let s : tie.Start = search back-to-start in omega (arith, inside s .1)) (λ c κs. search needs) (λ c. search needs) (λ c. search needs)
+    (λ c. let s : tie.Start = search back-to-start in omega (arith, inside s .0)) (λ c. search needs) (λ c. search needs)
+    (λ c. let s : tie.Start = search back-to-start in omega (arith, inside s .1)) axis-row-requires (λ c. search needs) returns)

@@ -1,7 +1,9 @@
 -- What is made once for all axes, and then the axes, are the rows of the definition (`rows-made`).
-use mathlib.Core.Path.{_∙_}
+use mathlib.Core.Path.{_≡_, _∙_}
+use Prim.Native.Nat.{_+_, _*_}
 use native.Mathlib.Omega.{arith}
 use borrow.Author.Needs.{needs}
+use lib.ListN.{length}
 use Rattle.exchange.specs.Values.{keyOf}
 use Rattle.axes.specs.Axes.{rows-made}
 use Rattle.axes.proofs.rows.axis_rows_with.Statement.{statement}
@@ -14,32 +16,23 @@ total-row-requires : tie.Need-total-row-requires
 total-row-requires c κs =
     let made : tie.After-evaluate = search in
     let s : tie.Start = search back-to-start in
-    let f = s .pre .0 in
-    let g = s .pre .1 in (
-      record {
-        of = record { within = f .within; sized-parts = f .sized-parts; sized-blocks = omega (arith, made .evaluate, g .sized-blocks); sized-hidden = f .sized-hidden };
-        sized-sums = g .sized-sums;
-        sized-total = g .sized-total;
-      },
-      s .pre .2,
-      s .pre .3,
-    )
+    let b : length (made .evaluate .last .1 .1 .1 .1 .1 .0) ≡ (s .args .p .d + 1) * (12 * s .args .p .t) = omega (arith, made .evaluate, s .pre .1 .sized-blocks) in
+    search needs
 
 put-rows-requires : tie.Need-put-rows-requires
 put-rows-requires c κs =
     let all : tie.After-total-row = search in
     let made : tie.After-evaluate = search in
     let s : tie.Start = search back-to-start in
-    let f = s .pre .0 in
-    let g = s .pre .1 in (
+    let (f, g, l, p) = s .pre in (
       record {
         of = record { within = f .within; sized-parts = f .sized-parts; sized-blocks = omega (arith, made .evaluate, g .sized-blocks); sized-hidden = f .sized-hidden };
         sized-sums = omega (arith, all .total-row, g .sized-sums);
         sized-total = omega (arith, all .total-row, g .sized-total);
       },
       f .sized-rows,
-      s .pre .2,
-      s .pre .3,
+      l,
+      p,
     )
 
 returns : tie.Need-returns
@@ -56,5 +49,5 @@ returns c =
     )
 
 pub axis-rows-with-spec : {M : Type 1} → statement M
-axis-rows-with-spec = tie.close (tie.spec (λ c κs. search needs) total-row-requires put-rows-requires
-    (λ c. search needs) (λ c. search needs) (λ c. search needs) (λ c. search needs) returns)
+axis-rows-with-spec = tie.close (tie.spec (λ c κs. search needs) total-row-requires put-rows-requires (λ c. search needs) (λ c. search needs)
+    (λ c. search needs) (λ c. search needs) returns)

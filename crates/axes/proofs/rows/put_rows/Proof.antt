@@ -9,10 +9,8 @@ use Rattle.parameters.specs.declared.Parameters.{Parameters}
 use Rattle.encoding.specs.Written.{middle-kept}
 use Rattle.sidebyside.specs.Shares.{shareOf}
 use Rattle.values.specs.Shares.{blockOf}
-use Rattle.encoding.specs.Blocks.{within-blocks, next-block, length-block}
-use Rattle.partyrows.specs.Row.{hiddenParty}
-use Rattle.partyrows.specs.Row.{axisBy}
-use Rattle.encoding.specs.Blocks.{Blocks, blocks-none, blocks-turn, blocks-end}
+use Rattle.encoding.specs.Blocks.{Blocks, within-blocks, next-block, length-block, blocks-none, blocks-turn, blocks-end}
+use Rattle.partyrows.specs.Row.{hiddenParty, axisBy}
 use Rattle.axes.proofs.rows.put_rows.Statement.{statement}
 use Rattle.axes.proofs.rows.put_rows.Tie as tie
 
@@ -37,12 +35,6 @@ inside q h =
 
 loop-holds : tie.Need-loop-holds Inv-loop μ-loop
 loop-holds c = (omega arith, omega arith, blocks-none _ _ _, refl)
-
-add-e : tie.Need-add-e Inv-loop μ-loop
-add-e c = let h = inside (c .before .before) (c .if1 .taken) in omega (arith, h)
-
-part-put-axis-end : tie.Need-part-put-axis-end Inv-loop μ-loop
-part-put-axis-end c = let h = inside (c .before .before) (c .if1 .taken) in omega (arith, h)
 
 put-axis-requires : tie.Need-put-axis-requires Inv-loop μ-loop
 put-axis-requires c κs =
@@ -81,6 +73,6 @@ returns c =
     (q .rows) (q .j) (omega (arith, c .if1 .left)) (q .inv .2)
 
 pub put-rows-spec : {M : Type 1} → statement M
-put-rows-spec = tie.close (tie.spec Inv-loop μ-loop (λ c. search needs) loop-holds add-e (λ c. omega arith)
-    (λ c. omega arith) part-put-axis-end put-axis-requires (λ c. search needs) (λ c. search needs) loop-again
-    (λ c. search needs) returns)
+put-rows-spec = tie.close (tie.spec Inv-loop μ-loop (λ c. search needs) loop-holds (λ c. omega (arith, inside (c .before .before) (c .if1 .taken)))
+    (λ c. omega arith) (λ c. omega arith) (λ c. omega (arith, inside (c .before .before) (c .if1 .taken))) put-axis-requires (λ c. search needs)
+    (λ c. search needs) loop-again (λ c. search needs) returns)

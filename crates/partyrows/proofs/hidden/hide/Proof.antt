@@ -21,5 +21,5 @@ returns c =
     (ap (λ (n : ℕ). take (n - a) (drop a (s .args .other .now))) (sym (s .pre .3)) ∙ tail-part (s .args .other .now) a)
 
 pub hide-spec : {M : Type 1} → statement M
-hide-spec = tie.close (tie.spec (λ c. search needs) (λ c. search needs) (λ c κs. search needs) (λ c. search needs)
-    (λ c. search needs) (λ c. search needs) (λ c κs. search needs) (λ c. search needs) returns)
+hide-spec = tie.close (tie.spec (λ c. search needs) (λ c. search needs) (λ c κs. search needs) (λ c. search needs) (λ c. search needs) (λ c. search needs)
+    (λ c κs. search needs) (λ c. search needs) returns)

@@ -30,5 +30,5 @@ returns-3 c =
     rw (ne-eqb (s .args .party) 0 (c .before .if1 .left), ne-eqb (s .args .party) 1 (c .if2 .left)) (refl, refl)
 
 pub hide-leaf-spec : {M : Type 1} → statement M
-hide-leaf-spec = tie.close (tie.spec (λ c κs. search needs) (λ c. search needs) (λ c. search needs) returns
-    (λ c κs. search needs) (λ c. search needs) (λ c. search needs) returns-2 returns-3)
+hide-leaf-spec = tie.close (tie.spec (λ c κs. search needs) (λ c. search needs) (λ c. search needs) returns (λ c κs. search needs) (λ c. search needs)
+    (λ c. search needs) returns-2 returns-3)

@@ -34,5 +34,5 @@ returns c =
 
 pub put-row-spec : {M : Type 1} → statement M
 put-row-spec = tie.close (tie.spec (λ c. search needs) (λ c. search needs) (λ c. let s : tie.Start = search in sym (front s))
-    (λ c κs. let s : tie.Start = search in let e = front s in search needs) (λ c. search needs) (λ c. search needs) (λ c. search needs) put-v-requires (λ c. search needs)
-    returns)
+    (λ c κs. let s : tie.Start = search in let e = front s in search needs) (λ c. search needs) (λ c. search needs) (λ c. search needs) put-v-requires
+    (λ c. search needs) returns)

@@ -43,5 +43,5 @@ returns c =
     (omega (arith, c .if1 .left)) (sym (s .pre .4)) (q .inv .1)
 
 pub put-v-spec : {M : Type 1} → statement M
-put-v-spec = tie.close (tie.spec Inv-loop μ-loop loop-holds (λ c κs. search needs) (λ c. search needs)
-    (λ c κs. search needs) (λ c. search needs) (λ c. search needs) loop-again (λ c. search needs) returns)
+put-v-spec = tie.close (tie.spec Inv-loop μ-loop loop-holds (λ c κs. search needs) (λ c. search needs) (λ c κs. search needs) (λ c. search needs)
+    (λ c. search needs) loop-again (λ c. search needs) returns)

@@ -24,5 +24,4 @@ returns c =
     (b .add-hidden .ensures ∙ ap (withHidden (a .p) (a .leaf) (a .hidden .now)) (d .put-front .ensures), e .put-row .ensures)
 
 pub total-row-with-spec : {M : Type 1} → statement M
-total-row-with-spec = tie.close (tie.spec (λ c κs. search needs) (λ c κs. search needs) put-row-requires
-    (λ c. search needs) (λ c. search needs) returns)
+total-row-with-spec = tie.close (tie.spec (λ c κs. search needs) (λ c κs. search needs) put-row-requires (λ c. search needs) (λ c. search needs) returns)
