@@ -87,7 +87,8 @@ pub fn values_at(
     ensures { λ c. ⌜ (now (values .exit) ≡ valuesOf (now (s .entry)) n stride from len (point r)) × (c .point ≡ bytesOf (pointPower (point r) len)) × (c .made ≡ made + len * (n + 1)) × (0 < n → c .made ≤ made + 2 * (n * len)) ⌝ }
 {
     packed::clear(values);
-    let table = multiples_of(r, log, pow);
+    let mut table = [0u64; 128];
+    multiples_of(&mut table, r, log, pow);
     let mut power = [1u8, 0, 0, 0];
     let mut count: usize = 0;
     let mut at = from;

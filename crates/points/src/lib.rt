@@ -154,20 +154,18 @@ fn put_multiples(out: &mut [u64], at: usize, b: [u8; 4])
     put_table(out, at, &packed::multiples(word_of(b)));
 }
 
-// The multiples of a point: by the steps of the tower, X and Z, and by bytes.
-pub fn multiples_of(b: [u8; 4], log: &[u8; 256], pow: &[u8; 256]) -> [u64; 128]
-    requires { ⌜ (now log ≡ logs) × (now pow ≡ powers) ⌝ }
-    ensures { λ r. ⌜ r ≡ multiplesOf (point b) ⌝ }
+// out becomes the multiples of a point: by the steps of the tower, X and Z, and by bytes.
+pub fn multiples_of(out: &mut [u64], b: [u8; 4], log: &[u8; 256], pow: &[u8; 256])
+    requires { ⌜ (length (now out) ≡ 128) × (now log ≡ logs) × (now pow ≡ powers) ⌝ }
+    ensures { λ _. ⌜ now (out .exit) ≡ multiplesOf (point b) ⌝ }
 {
     let x = by_x(b, log, pow);
     let z = by_z(b, log, pow);
     let xz = by_z(x, log, pow);
-    let mut out = [0u64; 128];
-    put_multiples(&mut out, 0, b);
-    put_multiples(&mut out, 32, x);
-    put_multiples(&mut out, 64, z);
-    put_multiples(&mut out, 96, xz);
-    out
+    put_multiples(out, 0, b);
+    put_multiples(out, 32, x);
+    put_multiples(out, 64, z);
+    put_multiples(out, 96, xz);
 }
 
 // The product of two points, by the multiples of the second.
@@ -175,7 +173,8 @@ pub fn product(a: [u8; 4], b: [u8; 4], log: &[u8; 256], pow: &[u8; 256]) -> [u8;
     requires { ⌜ (now log ≡ logs) × (now pow ≡ powers) ⌝ }
     ensures { λ r. ⌜ r ≡ bytesOf (point a ⊠ point b) ⌝ }
 {
-    let table = multiples_of(b, log, pow);
+    let mut table = [0u64; 128];
+    multiples_of(&mut table, b, log, pow);
     let made = product_by(a, &table, 0);
     made.point
 }

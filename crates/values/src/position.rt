@@ -88,12 +88,14 @@ fn announce_with(
         → EachAnnounced p key (now (m2 .entry)) first (now (shares .entry)) l (now (out .entry)) (now (out .exit)) n) × (c ≡ made + productsAt p n) ⌝ }
 {
     let e = point_at(m2, 4 * p.t + 4 * l);
-    let multiplier = multiples_of(e, log, pow);
+    let mut multiplier = [0u64; 128];
+    multiples_of(&mut multiplier, e, log, pow);
     let f = evaluate(p, n, shares, rows, m2, l, first, qs, ss, ps, made, log, pow);
     let x = f.vanishing;
     let product = product_by(x, &multiplier, f.made);
     let y = product.point;
-    let factor = multiples_of(y, log, pow);
+    let mut factor = [0u64; 128];
+    multiples_of(&mut factor, y, log, pow);
     announce_shares(
         p,
         n,

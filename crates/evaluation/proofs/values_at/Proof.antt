@@ -49,7 +49,7 @@ next-term-requires c κs =
     let p : tie.At-loop Inv-loop μ-loop = search in
     let m : tie.After-multiples-of Inv-loop μ-loop = search in
     let s : tie.Start Inv-loop μ-loop = search in
-    let t : length (m .multiples-of .result) ≡ 128 = ap length (m .multiples-of .ensures) ∙ length-multiplesOf _ in
+    let t : length (m .multiples-of .last .0) ≡ 128 = m .multiples-of .kept .0 in
     let i = p .loop .inv .1 in
     (terms-ready _ _ _ _ _ _ _ (s .args .len - p .loop .left) _ _ _ (s .pre .0) (omega arith) (i .2) (i .1) (i .3), omega arith)
 
@@ -89,7 +89,7 @@ returns c =
       λ h. let b = count-twice (s .args .n) (s .args .len) h in omega arith,
     )
 
-count-fits : tie.Need-add-t27 Inv-loop μ-loop
+count-fits : tie.Need-add-t28 Inv-loop μ-loop
 count-fits c =
     let p : tie.At-loop Inv-loop μ-loop = search in
     let s : tie.Start Inv-loop μ-loop = search in
@@ -100,5 +100,5 @@ count-fits c =
 pub values-at-spec : {M : Type 1} → statement M
 values-at-spec =
     tie.close
-    (tie.spec Inv-loop μ-loop (λ c κs. search needs) (λ c κs. search needs) loop-holds (λ c. search needs) next-term-requires
+    (tie.spec Inv-loop μ-loop (λ c κs. search needs) (λ c. search needs) (λ c κs. search needs) loop-holds (λ c. search needs) next-term-requires
     (λ c. search needs) (λ c. search needs) (λ c. search needs) loop-again count-fits (λ c. search needs) returns)

@@ -14,7 +14,7 @@ use mathlib.Core.List.{List, [], _∷_, _++_, map, append-assoc}
 use Prim.Native.Nat.{ℕ, zero, _+_, _*_, _/_, _%_, _<_}
 use native.Mathlib.Omega.{arith}
 use lib.Dec.{lit<}
-use lib.ListN.{length, getD, take, drop, replicate, length-append}
+use lib.ListN.{length, getD, take, drop, length-append}
 use lib.Seq.{getD-take}
 use Rattle.algebra.specs.Ring.{Ring2, ring}
 use Rattle.algebra.specs.Extension.Laws.{pair}
@@ -255,18 +255,18 @@ pub own-table : (own a : List ℕ) (w : ℕ) → own ≡ multiples w → w ≡ w
 unfolding multiples nibbles
 own-table own a w e ew = ap (take 32) (e ∙ ap multiples ew)
 
-pub tables-made : (b x z xz q₁ q₂ q₃ q₄ : List ℕ) → x ≡ bytesOf (point b ⊠ byX) → z ≡ bytesOf (point b ⊠ byZ) → xz ≡ bytesOf (point x ⊠ byZ)
-    → q₁ ≡ putAt (replicate 128 0) 0 (multiples (wordOf (point b))) → q₂ ≡ putAt q₁ 32 (multiples (wordOf (point x)))
+pub tables-made : (d b x z xz q₁ q₂ q₃ q₄ : List ℕ) → length d ≡ 128 → x ≡ bytesOf (point b ⊠ byX) → z ≡ bytesOf (point b ⊠ byZ) → xz ≡ bytesOf (point x ⊠ byZ)
+    → q₁ ≡ putAt d 0 (multiples (wordOf (point b))) → q₂ ≡ putAt q₁ 32 (multiples (wordOf (point x)))
     → q₃ ≡ putAt q₂ 64 (multiples (wordOf (point z))) → q₄ ≡ putAt q₃ 96 (multiples (wordOf (point xz))) → q₄ ≡ multiplesOf (point b)
 unfolding multiplesOf
-tables-made b x z xz q₁ q₂ q₃ q₄ ex ez exz e₁ e₂ e₃ e₄ =
+tables-made d b x z xz q₁ q₂ q₃ q₄ ld ex ez exz e₁ e₂ e₃ e₄ =
     let px : point x ≡ point b ⊠ byX = ap point ex ∙ point-bytesOf _ in
     let pz : point z ≡ point b ⊠ byZ = ap point ez ∙ point-bytesOf _ in
     let pxz : point xz ≡ point b ⊠ (byX ⊠ byZ)
     = ap point exz ∙ point-bytesOf _ ∙ ap (λ (y : Point). y ⊠ byZ) px ∙ points .base .mul-assoc (point b) byX byZ in
     e₄ ∙ ap (λ (l : List ℕ). putAt l 96 (multiples (wordOf (point xz)))) (e₃ ∙ ap (λ (l : List ℕ). putAt l 64 (multiples (wordOf (point z))))
     (e₂ ∙ ap (λ (l : List ℕ). putAt l 32 (multiples (wordOf (point x)))) e₁))
-    ∙ tables-joined (replicate 128 0) _ _ _ _ refl (length-multiples _) (length-multiples _) (length-multiples _) (length-multiples _)
+    ∙ tables-joined d _ _ _ _ ld (length-multiples _) (length-multiples _) (length-multiples _) (length-multiples _)
     ∙ ap (_++_ (multiples (wordOf (point b))))
     (ap₂ _++_ (ap (λ (y : Point). multiples (wordOf y)) px)
     (ap₂ _++_ (ap (λ (y : Point). multiples (wordOf y)) pz) (ap (λ (y : Point). multiples (wordOf y)) pxz)))

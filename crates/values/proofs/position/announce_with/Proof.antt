@@ -3,11 +3,9 @@ use mathlib.Core.Path.{_≡_, ap, _∙_}
 use Prim.Native.Nat.{_+_, _≤_}
 use native.Mathlib.Omega.{arith}
 use borrow.Author.Needs.{needs}
-use lib.ListN.{length}
 use Rattle.tower.specs.Field.{point, point-bytesOf}
 use Rattle.exchange.specs.Values.{multiplierOf}
 use Rattle.points.specs.Multiples.{multiplesOf}
-use Rattle.points.specs.Multiples.Laws.{length-multiplesOf}
 use Rattle.values.specs.Position.Evaluated.{factor-made}
 use Rattle.values.specs.Products.{evaluation-few}
 use Rattle.values.proofs.position.announce_with.Statement.{statement}
@@ -22,13 +20,16 @@ back-to-point c = search
 abbrev back-to-start : tie.After-point-at → tie.Start
 back-to-start c = search
 
-of-multiplier : (m : tie.After-multiples-of)
-    → m .multiples-of .result ≡ multiplesOf (multiplierOf (back-to-start (m .before) .args .p) (back-to-start (m .before) .args .m2 .now) (back-to-start (m .before) .args .l))
-unfolding multiplierOf
-of-multiplier m = m .multiples-of .ensures ∙ ap multiplesOf (ap point (m .before .point-at .ensures) ∙ point-bytesOf _)
+abbrev point-read : tie.After-multiples-of → tie.After-point-at
+point-read c = search
 
-table : (m : tie.After-multiples-of) → length (m .multiples-of .result) ≡ 128
-table m = ap length (m .multiples-of .ensures) ∙ length-multiplesOf _
+abbrev start : tie.After-multiples-of → tie.Start
+start m = back-to-start (point-read m)
+
+of-multiplier : (m : tie.After-multiples-of)
+    → m .multiples-of .last .0 ≡ multiplesOf (multiplierOf (start m .args .p) (start m .args .m2 .now) (start m .args .l))
+unfolding multiplierOf
+of-multiplier m = m .multiples-of .ensures ∙ ap multiplesOf (ap point (point-read m .point-at .ensures) ∙ point-bytesOf _)
 
 -- how many products the evaluations made
 few : (e : tie.After-evaluate) → e .evaluate .result .made ≤ 2147483648 + 13005
@@ -46,9 +47,8 @@ announce-shares-requires c κs =
     let x : tie.After-product-by = search in
     let e : tie.After-evaluate = search back-to-evaluate in
     let m : tie.After-multiples-of = search in
-    let s = back-to-start (m .before) in
-    let g = s .pre .0 in
-    let b : length (n .multiples-of2 .result) ≡ 128 = ap length (n .multiples-of2 .ensures) ∙ length-multiplesOf _ in (
+    let s = start m in
+    let g = s .pre .0 in (
       record {
         within = g .within;
         few = g .few;
@@ -57,8 +57,8 @@ announce-shares-requires c κs =
         sized-qs = omega (arith, e .evaluate, g .sized-qs);
         sized-ss = omega (arith, e .evaluate, g .sized-ss);
         sized-ps = omega (arith, e .evaluate, g .sized-ps);
-        sized-multiplier = omega (arith, table m);
-        sized-factor = omega arith;
+        sized-multiplier = omega (arith, m .multiples-of);
+        sized-factor = omega (arith, n .multiples-of2);
         sized-out = s .pre .1;
       },
       omega (arith, x .product-by .ensures .1, few e),
@@ -71,7 +71,7 @@ returns c =
     let x : tie.After-product-by = search in
     let e : tie.After-evaluate = search back-to-evaluate in
     let m : tie.After-multiples-of = search in
-    let s = back-to-start (m .before) in (
+    let s = start m in (
       λ key given.
           let v = e .evaluate .ensures .0 key given in
           d .announce-shares .ensures .0 key (s .args .m2 .now) (s .args .first) (v .0) record {
@@ -85,8 +85,8 @@ returns c =
 pub announce-with-spec : {M : Type 1} → statement M
 announce-with-spec =
     tie.close
-    (tie.spec (λ c. search needs) (λ c. search needs) (λ c. search needs) (λ c κs. search needs) (λ c κs. search needs) (λ c κs. search needs)
-    (λ c. search needs) (λ c κs. let e : tie.After-evaluate = search in let m : tie.After-multiples-of = search in (omega (arith, table m), omega (arith, few e)))
-    (λ c κs. let e : tie.After-evaluate = search in let s = back-to-start (back-to-point e) in (s .pre .3, s .pre .4))
+    (tie.spec (λ c. search needs) (λ c. search needs) (λ c. search needs) (λ c κs. search needs) (λ c. search needs) (λ c κs. search needs) (λ c κs. search needs)
+    (λ c. search needs) (λ c κs. let e : tie.After-evaluate = search in let m : tie.After-multiples-of = search in (omega (arith, m .multiples-of), omega (arith, few e)))
+    (λ c. search needs) (λ c κs. let e : tie.After-evaluate = search in let s = back-to-start (back-to-point e) in (search needs, s .pre .3, s .pre .4))
     (λ c. let e : tie.After-evaluate = search back-to-evaluate in let m : tie.After-multiples-of = search in search needs) (λ c. search needs) announce-shares-requires
     (λ c. search needs) (λ c. search needs) (λ c. search needs) (λ c. search needs) returns)
