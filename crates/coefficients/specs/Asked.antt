@@ -1,7 +1,7 @@
 -- What the functions of this crate ask for.
 --
 --   RowsAsked p n c shares matrix y rows   n shares within the limits, up to fifteen, one after another, with the key and room for c rows of m bytes
---   Lent p weights g a                     the weights and the complement of the m interpolation points, and an area of words
+--   Lent p weights g                       the weights and the complement of the m interpolation points
 use mathlib.Core.Path.{_≡_}
 use mathlib.Core.List.{List}
 use Prim.Native.Nat.{ℕ, _-_, _*_, _≤_}
@@ -19,7 +19,6 @@ pub record RowsAsked (p : Parameters) (n c : ℕ) (shares matrix y rows : List �
   pub sized-y : length y ≡ p .m - p .k
   pub sized-rows : length rows ≡ c * p .m
 
-pub record Lent (p : Parameters) (weights g a : List ℕ) : Type 0 where
+pub record Lent (p : Parameters) (weights g : List ℕ) : Type 0 where
   pub made-weights : weights ≡ weightsOf (p .m)
   pub made-complement : g ≡ complementOf (p .m)
-  pub sized-a : length a ≡ 255

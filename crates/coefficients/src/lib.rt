@@ -28,7 +28,7 @@ fn unpack(words: &[u64], n: usize, rows: &mut [u8])
     }
 }
 
-// rows becomes S of each of n shares, up to eight, from the weights and the complement g. a is a work area.
+// rows becomes S of each of n shares, up to eight, from the weights and the complement g.
 fn interpolate_group(
     p: Parameters,
     n: usize,
@@ -38,17 +38,17 @@ fn interpolate_group(
     first: bool,
     weights: &[u8],
     g: &[u8],
-    a: &mut [u64],
     rows: &mut [u8],
     log: &[u8; 256],
     pow: &[u8; 256],
 )
-    requires { ⌜ RowsAsked p n n (now shares) (now matrix) (now y) (now rows) × (n ≤ 8) × Lent p (now weights) (now g) (now a) × (now log ≡ logs) × (now pow ≡ powers) ⌝ }
+    requires { ⌜ RowsAsked p n n (now shares) (now matrix) (now y) (now rows) × (n ≤ 8) × Lent p (now weights) (now g) × (now log ≡ logs) × (now pow ≡ powers) ⌝ }
     ensures { λ _. ⌜ now (rows .exit) ≡ joined (λ i. SOf p (keyOf (now (matrix .entry)) (now (y .entry))) first (shareOf p (now (shares .entry)) i)) n ⌝ }
 {
+    let mut a = [0u64; 255];
     let m = p.m;
     sidebyside::vectors(p, n, shares, matrix, y, first, &mut a[..m]);
-    interpolants::interpolate(a, m, weights, g, log, pow);
+    interpolants::interpolate(&mut a, m, weights, g, log, pow);
     let d = 255 - m;
     unpack(&a[d..], n, rows);
 }
@@ -64,7 +64,7 @@ fn group_size(left: usize) -> usize
     8
 }
 
-// rows becomes S of each of n shares, from the weights and the complement g. a is a work area.
+// rows becomes S of each of n shares, from the weights and the complement g.
 fn interpolate_with(
     p: Parameters,
     n: usize,
@@ -74,12 +74,11 @@ fn interpolate_with(
     first: bool,
     weights: &[u8],
     g: &[u8],
-    a: &mut [u64],
     rows: &mut [u8],
     log: &[u8; 256],
     pow: &[u8; 256],
 )
-    requires { ⌜ RowsAsked p n n (now shares) (now matrix) (now y) (now rows) × Lent p (now weights) (now g) (now a) × (now log ≡ logs) × (now pow ≡ powers) ⌝ }
+    requires { ⌜ RowsAsked p n n (now shares) (now matrix) (now y) (now rows) × Lent p (now weights) (now g) × (now log ≡ logs) × (now pow ≡ powers) ⌝ }
     ensures { λ _. ⌜ now (rows .exit) ≡ joined (λ i. SOf p (keyOf (now (matrix .entry)) (now (y .entry))) first (shareOf p (now (shares .entry)) i)) n ⌝ }
 {
     let size = share_length(p);
@@ -100,7 +99,6 @@ fn interpolate_with(
             first,
             weights,
             g,
-            a,
             &mut rows[to..f],
             log,
             pow,
@@ -128,7 +126,6 @@ pub fn interpolate_each(
 {
     let mut g = [0u8; 256];
     let mut weights = [0u8; 255];
-    let mut a = [0u64; 255];
     let m = p.m;
     let e = 256 - m;
     let end = n * m;
@@ -144,7 +141,6 @@ pub fn interpolate_each(
         first,
         &weights[..m],
         &g[..e],
-        &mut a,
         &mut rows[..end],
         log,
         pow,

@@ -1,6 +1,7 @@
 // Message 5: the siblings of the leaf, what the leaf itself gives, and aux unless it is leaf n−1.
 use bytefield::log_table;
 use bytefield::power_table;
+use encoding::share_length;
 use leaves::COMMITMENTS;
 use leaves::SHARES;
 use leaves::is_last;
@@ -8,7 +9,6 @@ use leaves::leaf_commitment;
 use leaves::leaf_share;
 use lists::put_at;
 use ownleaves::own_leaves;
-use ownleaves::share_length;
 use parameters::Parameters;
 use seedtree::sibling_seeds;
 use strings::begin;

@@ -1,5 +1,5 @@
 // What the prover has of its leaves: all states, and aux.
-use layout::aux_length;
+use encoding::share_length;
 use leafstates::leaf_states;
 use leaves::leaf_count;
 use lists::zero_front;
@@ -11,7 +11,6 @@ ghost use Prim.Native.Nat.{_*_};
 ghost use lib.ListN.{length, replicate};
 ghost use Rattle.bytefield.specs.Tables.{logs, powers};
 ghost use Rattle.shake256.specs.Fips.{SHAKE256};
-ghost use Rattle.parameters.specs.Limits.{Within};
 ghost use Rattle.exchange.specs.Layout as spec;
 ghost use Rattle.exchange.specs.Messages.{ownAux};
 ghost use Rattle.auxiliary.specs.Auxiliary.{auxFor};
@@ -75,12 +74,4 @@ pub fn own_leaves(
     aux_by(p, x, salt, states, &mut area[..size], aux, log, pow);
     let all = area.len();
     zero_front(area, all);
-}
-
-// The length of a share.
-pub fn share_length(p: Parameters) -> usize
-    requires { ⌜ Within p ⌝ }
-    ensures { λ r. ⌜ r ≡ spec.shareLength p ⌝ }
-{
-    8 * p.t + aux_length(p)
 }

@@ -1,11 +1,11 @@
 // The work area filled: the sums of all parties' leaves, and in the second party's part on axis 0 the sum of all leaves.
+use encoding::share_length;
 use layout::aux_length;
 use leaves::leaf_count;
 use lists::xor_at;
 use ownleaves::LONGEST_AUX;
 use ownleaves::MOST_STATES;
 use ownleaves::own_states;
-use ownleaves::share_length;
 use parameters::Parameters;
 use parties::party_sums;
 use parties::put_total;

@@ -1,4 +1,4 @@
--- The fronts of two arrays become the complement and the weights (`front-made`), and are lent with an area of words. The last row becomes F's,
+-- The fronts of two arrays become the complement and the weights (`front-made`), and are lent. The last row becomes F's,
 -- and those before it S (`rows-whole`).
 use mathlib.Core.Path.{_≡_, refl, sym, ap, _∙_}
 use mathlib.Core.List.{List, _++_}
@@ -77,7 +77,7 @@ rows-room c =
     let s : tie.Start = search in
     omega (arith, behind s, r .rows .given .1)
 
-rows-lent : tie.Need-slice-aggregate-interpolate-with-4
+rows-lent : tie.Need-slice-aggregate-interpolate-with-3
 rows-lent c = simp length-take (omega (arith, rows-room (c .before)))
 
 interpolate-with-requires : tie.Need-interpolate-with-requires
@@ -87,7 +87,7 @@ interpolate-with-requires c κs =
     let s : tie.Start = search in
     let (r, el, ep) = s .pre in
     let sized-rows = sym (rows-lent c) in
-    (search, record { made-weights = weights-made v .front; made-complement = g-made d .front; sized-a = refl }, el, ep)
+    (search, record { made-weights = weights-made v .front; made-complement = g-made d .front }, el, ep)
 
 abbrev back-to-start : tie.After-vanishing → tie.Start
 back-to-start c = search
@@ -109,4 +109,4 @@ interpolate-each-spec =
     (λ c. let d : tie.After-complement = search in g-made d .room) (λ c. let d : tie.After-complement = search in g-made d .sized) vanishing-requires
     (λ c. let v : tie.After-weights2 = search in weights-made v .room) (λ c. let v : tie.After-weights2 = search in weights-made v .sized)
     (λ c. let d : tie.After-complement = search in g-made d .room) (λ c. let d : tie.After-complement = search in g-made d .sized)
-    (λ c. search needs) rows-room rows-lent interpolate-with-requires (λ c. search needs) returns)
+    rows-room rows-lent interpolate-with-requires (λ c. search needs) returns)

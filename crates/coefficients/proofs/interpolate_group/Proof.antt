@@ -1,11 +1,12 @@
 -- The front of the words becomes x of each share, their end S of each, and the shares of the end are the rows (`rows-made`).
 use mathlib.Core.Path.{_≡_, sym, ap, _∙_}
-use mathlib.Core.List.{_++_}
+use mathlib.Core.List.{List, _++_}
 use Prim.Native.Nat.{ℕ, _-_, _*_}
 use native.Mathlib.Omega.{arith}
 use borrow.Author.Needs.{needs}
-use lib.ListN.{length, take, drop, length-drop}
-use Rattle.lists.specs.Part.Laws.{tail-part}
+use lib.ListN.{length, take, drop, replicate, length-take, length-drop}
+use Rattle.packed.specs.Share.{share}
+use Rattle.exchange.specs.Sequences.{joined}
 use Rattle.exchange.specs.Values.{keyOf}
 use Rattle.encoding.specs.Written.{front-length, front-kept}
 use Rattle.coefficients.specs.Groups.{rows-made}
@@ -15,9 +16,12 @@ use Rattle.coefficients.proofs.interpolate_group.Tie as tie
 abbrev back-to-start : tie.After-vectors → tie.Start
 back-to-start c = search
 
+abbrev zeros : List ℕ
+zeros = replicate 255 0
+
 -- m words are lent
-front : (s : tie.Start) → s .args .p .m ≡ length (take (s .args .p .m) (s .args .a .now))
-front s = let w = s .pre .0 .within in let l = s .pre .2 in front-length (s .args .p .m) (s .args .a .now) (omega arith)
+front : (s : tie.Start) → s .args .p .m ≡ length (take (s .args .p .m) zeros)
+front s = front-length (s .args .p .m) zeros (s .pre .0 .within .m-most)
 
 vectors-requires : tie.Need-vectors-requires
 vectors-requires c κs =
@@ -29,12 +33,8 @@ made : (v : tie.After-vectors) → length (v .vectors .last .1 .1 .1 .1 .1 .1 .0
 made v = v .vectors .kept .1 .1 .1 .1 .1 .1 .0 ∙ sym (front (back-to-start v))
 
 -- the words keep their number
-words : (v : tie.After-vectors) → length (v .vectors .last .1 .1 .1 .1 .1 .1 .0 ++ drop (back-to-start v .args .p .m) (back-to-start v .args .a .now)) ≡ 255
-words v =
-    let s = back-to-start v in
-    let w = s .pre .0 .within in
-    let l = s .pre .2 in
-    front-kept (s .args .p .m) (v .vectors .last .1 .1 .1 .1 .1 .1 .0) (s .args .a .now) (made v) (omega arith) ∙ l .sized-a
+words : (v : tie.After-vectors) → length (v .vectors .last .1 .1 .1 .1 .1 .1 .0 ++ drop (back-to-start v .args .p .m) zeros) ≡ 255
+words v = let s = back-to-start v in front-kept (s .args .p .m) (v .vectors .last .1 .1 .1 .1 .1 .1 .0) zeros (made v) (s .pre .0 .within .m-most)
 
 interpolate-requires : tie.Need-interpolate-requires
 interpolate-requires c κs =
@@ -44,31 +44,34 @@ interpolate-requires c κs =
     let w = r .within in
     (words v, omega arith, omega arith, l .made-weights, l .made-complement, el, ep)
 
+abbrev back-to-vectors : tie.After-interpolate → tie.After-vectors
+back-to-vectors c = search
+
+full : (d : tie.After-interpolate) → length (d .interpolate .last .0) ≡ 255
+full d = d .interpolate .kept .0 ∙ words (back-to-vectors d)
+
 unpack-requires : tie.Need-unpack-requires
 unpack-requires c κs =
     let d : tie.After-interpolate = search in
-    let v : tie.After-vectors = search in
-    let s = back-to-start v in
-    let (r, few, l, el, ep) = s .pre in
-    let w = r .within in
+    let s = back-to-start (back-to-vectors d) in
     let m = s .args .p .m in
-    let a = d .interpolate .last .0 in
-    let k : length a ≡ 255 = d .interpolate .kept .0 ∙ words v in
-    let e : length (drop (255 - m) a) ≡ m = length-drop (255 - m) a ∙ omega arith in
-    (few, r .sized-rows ∙ ap (λ (n : ℕ). s .args .n * n) (sym (ap length (tail-part a (255 - m)) ∙ e)))
+    let e : length (take (255 - (255 - m)) (drop (255 - m) (d .interpolate .last .0))) ≡ m
+    = simp (length-take, length-drop) (omega (arith, full d, s .pre .0 .within)) in
+    (s .pre .1, s .pre .0 .sized-rows ∙ ap (λ (n : ℕ). s .args .n * n) (sym e))
 
 returns : tie.Need-returns
 returns c =
     let u : tie.After-unpack = search in
     let d : tie.After-interpolate = search in
-    let v : tie.After-vectors = search in
+    let v = back-to-vectors d in
     let s = back-to-start v in
     let a = s .args in
+    let words = d .interpolate .last .0 in
     rows-made (a .p) (keyOf (a .matrix .now) (a .y .now)) (a .first) (a .shares .now) (a .n) (a .p .m) (v .vectors .last .1 .1 .1 .1 .1 .1 .0)
-    (drop (a .p .m) (a .a .now)) (d .interpolate .last .0) _ (s .pre .1) (made v) (λ i h. v .vectors .ensures i (omega arith)) (d .interpolate .ensures) (u .unpack .ensures)
+    (drop (a .p .m) zeros) words _ (s .pre .1) (made v) (λ i h. v .vectors .ensures i (omega (arith, s .pre .1))) (d .interpolate .ensures)
+    (u .unpack .ensures ∙ ap (λ (l : ℕ). joined (λ i. share i (take (l - (255 - a .p .m)) (drop (255 - a .p .m) words))) (a .n)) (sym (full d)))
 
 pub interpolate-group-spec : {M : Type 1} → statement M
-interpolate-group-spec = tie.close (tie.spec (λ c. search needs) (λ c. let s : tie.Start = search in front s)
-    vectors-requires interpolate-requires (λ c. search needs) (λ c. search needs) (λ c. search needs)
-    (λ c. search needs) (λ c. search needs) unpack-requires (λ c. search needs) (λ c. search needs)
-    returns)
+interpolate-group-spec = tie.close (tie.spec (λ c. search needs) (λ c. let s : tie.Start = search in front s) vectors-requires
+    (λ c. let v : tie.After-vectors = search in sym (words v)) interpolate-requires (λ c. search needs) (λ c. search needs)
+    (λ c. search needs) (λ c. search needs) (λ c. search needs) unpack-requires (λ c. search needs) returns)

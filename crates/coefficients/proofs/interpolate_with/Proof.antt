@@ -14,11 +14,11 @@ use Rattle.coefficients.proofs.interpolate_with.Statement.{statement}
 use Rattle.coefficients.proofs.interpolate_with.Tie as tie
 
 abbrev Inv-loop : tie.InvT-loop
-Inv-loop p n shares matrix y first weights g a₀ rows₀ log pow size m from₀ to₀ i₀ a rows from to i =
-    (i ≤ n) × (from ≡ i * size) × (to ≡ i * m) × Blocks (rowOf p (keyOf matrix y) first shares) m rows₀ rows i × (length a ≡ length a₀) × (length rows ≡ length rows₀)
+Inv-loop p n shares matrix y first weights g rows₀ log pow size m from₀ to₀ i₀ rows from to i =
+    (i ≤ n) × (from ≡ i * size) × (to ≡ i * m) × Blocks (rowOf p (keyOf matrix y) first shares) m rows₀ rows i × (length rows ≡ length rows₀)
 
 abbrev μ-loop : tie.MeasureT-loop
-μ-loop p n shares matrix y first weights g a₀ rows₀ log pow size m from₀ to₀ i₀ a rows from to i = n - i
+μ-loop p n shares matrix y first weights g rows₀ log pow size m from₀ to₀ i₀ rows from to i = n - i
 
 abbrev size-at : tie.At-loop Inv-loop μ-loop → tie.After-share-length Inv-loop μ-loop
 size-at c = search
@@ -31,7 +31,7 @@ loop-holds c =
     let s = back-to-start c in
     let e = zero-mul (c .share-length .result) in
     let f = zero-mul (s .args .p .m) in
-    (omega arith, sym e, sym f, blocks-none _ _ _, refl, refl)
+    (omega arith, sym e, sym f, blocks-none _ _ _, refl)
 
 -- the next group
 module _ (d : tie.After-group-size Inv-loop μ-loop) where
@@ -60,7 +60,7 @@ module _ (d : tie.After-group-size Inv-loop μ-loop) where
   rows-fit : q .loop .to + c * s .args .p .m ≤ length (q .loop .rows)
   rows-fit =
       group-fits (q .loop .i) c (s .args .n) (s .args .p .m) (q .loop .to) _ _ left (q .loop .inv .2) refl
-      (q .loop .inv .5 ∙ s .pre .0 .sized-rows)
+      (q .loop .inv .4 ∙ s .pre .0 .sized-rows)
 
   rows-lent : length (take (q .loop .to + c * s .args .p .m - q .loop .to) (drop (q .loop .to) (q .loop .rows))) ≡ c * s .args .p .m
   rows-lent = length-block (q .loop .to) (c * s .args .p .m) (q .loop .rows) rows-fit
@@ -75,11 +75,10 @@ interpolate-group-requires c κs =
     let d : tie.After-group-size Inv-loop μ-loop = search in
     let s : tie.Start Inv-loop μ-loop = search in
     let (r, l, el, ep) = s .pre in
-    let sized-a = d .before .before .loop .inv .4 ∙ l .sized-a in
     let few : d .group-size .result ≤ 15 = omega (arith, d .group-size .ensures) in
     let sized-shares = shares-lent d in
     let sized-rows = rows-lent d in
-    (search, d .group-size .ensures .1, search, el, ep)
+    (search, d .group-size .ensures .1, l, el, ep)
 
 loop-again : tie.Need-loop-again Inv-loop μ-loop
 loop-again c =
@@ -92,9 +91,9 @@ loop-again c =
     let n = d .group-size .result in
     let a = s .args in
     let m = a .p .m in
-    let u = e .interpolate-group .last .1 .1 .1 .1 .1 .1 .1 .1 .1 .0 in
+    let u = e .interpolate-group .last .1 .1 .1 .1 .1 .1 .1 .1 .0 in
     let size = z .share-length .result in
-    let eu : length u ≡ n * m = e .interpolate-group .kept .1 .1 .1 .1 .1 .1 .1 .1 .1 .0 ∙ rows-lent d in
+    let eu : length u ≡ n * m = e .interpolate-group .kept .1 .1 .1 .1 .1 .1 .1 .1 .0 ∙ rows-lent d in
     let ez = z .share-length .ensures in
     let key = keyOf (a .matrix .now) (a .y .now) in (
       left d,
@@ -103,8 +102,7 @@ loop-again c =
       blocks-more (rowOf (a .p) key (a .first) (a .shares .now)) m (a .n) (a .rows .now) (s .pre .0 .sized-rows) (v .rows) u (v .i) n (v .to) (n * m) (left d) (v .inv .2) refl eu
           (rows-from (a .p) key (a .first) (a .shares .now) u (v .i) n (v .from) (n * size) (v .inv .1 ∙ ap (λ (k : ℕ). v .i * k) ez) (ap (λ (k : ℕ). n * k) ez) (e .interpolate-group .ensures))
           (v .inv .3),
-      e .interpolate-group .kept .1 .1 .1 .1 .1 .1 .1 .1 .0 ∙ v .inv .4,
-      middle-kept (v .to) (v .to + n * m - v .to) u (v .rows) (eu ∙ omega arith) (omega (arith, rows-fit d)) ∙ v .inv .5,
+      middle-kept (v .to) (v .to + n * m - v .to) u (v .rows) (eu ∙ omega arith) (omega (arith, rows-fit d)) ∙ v .inv .4,
     )
 
 returns : tie.Need-returns Inv-loop μ-loop
@@ -121,4 +119,4 @@ interpolate-with-spec =
     (tie.spec Inv-loop μ-loop (λ c κs. search needs) loop-holds (λ c. search needs) (λ c κs. search needs) (λ c. omega (arith, shares-fit c))
     (λ c. omega (arith, shares-fit c)) (λ c. omega (arith, rows-fit c)) (λ c. omega (arith, rows-fit c)) (λ c. search needs) (λ c. search needs)
     (λ c. omega (arith, shares-fit c)) (λ c. search needs) (λ c. search needs) (λ c. let d : tie.After-group-size Inv-loop μ-loop = search in omega (arith, rows-fit d))
-    interpolate-group-requires (λ c. search needs) (λ c. search needs) loop-again (λ c. search needs) (λ c. search needs) returns)
+    interpolate-group-requires (λ c. search needs) (λ c. search needs) loop-again (λ c. search needs) returns)
