@@ -35,22 +35,10 @@ announce-at-requires c κs =
     let t : tie.Then1 Inv-loop μ-loop = search in
     let q : tie.At-loop Inv-loop μ-loop = search in
     let s = back-to-start q in
-    let f = s .pre .0 in
-    let i = q .loop .inv in
-    let few = products-few (s .args .p) (s .args .n) (q .loop .l) (f .within) (f .few) (let t = f .within .t-most in omega arith) in (
-      record {
-        within = f .within;
-        few = f .few;
-        sized-shares = f .sized-shares;
-        sized-rows = f .sized-rows;
-        sized-m2 = f .sized-m2;
-        sized-out = i .2 ∙ f .sized-out;
-      },
-      t .if1 .taken,
-      omega (arith, i .3),
-      s .pre .1,
-      s .pre .2,
-    )
+    let (f, el, ep) = s .pre in
+    let w = f .within in
+    let few = products-few (s .args .p) (s .args .n) (q .loop .l) w (f .few) (omega arith) in
+    (omega (arith, q .loop .inv .2), t .if1 .taken, omega (arith, q .loop .inv .3), el, ep)
 
 loop-again : tie.Need-loop-again Inv-loop μ-loop
 loop-again c =

@@ -9,15 +9,9 @@ use Rattle.values.proofs.announce_leaf.Tie as tie
 announce-single-requires : tie.Need-announce-single-requires
 announce-single-requires c κs =
     let s : tie.Start = search in
-    let w = s .pre .0 .within in
-    let m = w .m-most in
-    let k = w .k-least in
-    let t = w .t-most in (
-      s .pre .0,
-      record { sized-y = sym (front-length _ _ (omega arith)); sized-rows = sym (front-length _ _ (omega arith)); sized-block = sym (front-length _ _ (omega arith)) },
-      s .pre .1,
-      s .pre .2,
-    )
+    let (f, el, ep) = s .pre in
+    let w = f .within in
+    (f, record { sized-y = sym (front-length _ _ (omega arith)); sized-rows = sym (front-length _ _ (omega arith)); sized-block = sym (front-length _ _ (omega arith)) }, el, ep)
 
 pub announce-leaf-spec : {M : Type 1} → statement M
 announce-leaf-spec =

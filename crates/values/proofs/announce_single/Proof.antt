@@ -1,6 +1,6 @@
 -- S of the share is made, the share alone is announced, and the front of its block is copied (`leaf-made`).
 use mathlib.Core.Path.{_≡_, sym, _∙_}
-use Prim.Native.Nat.{_*_}
+use Prim.Native.Nat.{_*_, _≤_}
 use native.Mathlib.Nat.{one-mul}
 use native.Mathlib.Omega.{arith}
 use borrow.Author.Needs.{needs}
@@ -13,19 +13,8 @@ use Rattle.values.proofs.announce_single.Tie as tie
 interpolate-each-requires : tie.Need-interpolate-each-requires
 interpolate-each-requires c κs =
     let s : tie.Start = search in
-    let f = s .pre .0 in
-    let g = s .pre .1 in (
-      record {
-        within = f .within;
-        few = omega arith;
-        sized-shares = f .sized-s ∙ sym (one-mul _);
-        sized-matrix = f .sized-matrix;
-        sized-y = g .sized-y;
-        sized-rows = g .sized-rows;
-      },
-      s .pre .2,
-      s .pre .3,
-    )
+    let (f, g, el, ep) = s .pre in
+    (omega arith, el, ep)
 
 abbrev back-to-start : tie.After-interpolate-each → tie.Start
 back-to-start c = search
@@ -34,19 +23,8 @@ announce-each-requires : tie.Need-announce-each-requires
 announce-each-requires c κs =
     let d : tie.After-interpolate-each = search in
     let s = back-to-start d in
-    let f = s .pre .0 in
-    let g = s .pre .1 in (
-      record {
-        within = f .within;
-        few = omega arith;
-        sized-shares = f .sized-s ∙ sym (one-mul _);
-        sized-rows = omega (arith, d .interpolate-each, g .sized-rows);
-        sized-m2 = f .sized-m2;
-        sized-out = g .sized-block ∙ sym (one-mul _);
-      },
-      s .pre .2,
-      s .pre .3,
-    )
+    let (f, g, el, ep) = s .pre in
+    (omega (arith, d .interpolate-each), el, ep)
 
 abbrev back-to-rows : tie.After-announce-each → tie.After-interpolate-each
 back-to-rows c = search

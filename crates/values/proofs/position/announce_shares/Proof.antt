@@ -47,15 +47,8 @@ inside q =
 
 loop-holds : tie.Need-loop-holds Inv-loop μ-loop
 loop-holds c =
-    let s : tie.Start Inv-loop μ-loop = search in (
-      omega arith,
-      omega arith,
-      omega arith,
-      λ key m2 first v f. each-none _ key m2 first _ _ _ _,
-      left-none (s .args .p) (s .args .out .now) (s .args .n),
-      refl,
-      omega arith,
-    )
+    let s : tie.Start Inv-loop μ-loop = search in
+    (omega arith, omega arith, omega arith, (λ key m2 first v f. each-none _ key m2 first _ _ _ _), (λ j a b. refl), refl, omega arith)
 
 announce-share-requires : tie.Need-announce-share-requires Inv-loop μ-loop
 announce-share-requires c κs =
@@ -63,17 +56,10 @@ announce-share-requires c κs =
     let s = back-to-start (q .before) in
     let f = s .pre .0 in
     let h = inside q in
-    let i = q .before .loop .inv in (
-      record {
-        within = f .within;
-        position = f .position;
-        sized-s = length-block (q .before .loop .a) (shareLength (s .args .p)) (s .args .shares .now) (h .0);
-        sized-multiplier = f .sized-multiplier;
-        sized-factor = f .sized-factor;
-        sized-out = length-block (q .before .loop .b) (12 * s .args .p .t) (q .before .loop .out) (h .1);
-      },
-      omega (arith, i .6, f .few, s .pre .1),
-    )
+    let i = q .before .loop .inv in
+    let sized-s = length-block (q .before .loop .a) (shareLength (s .args .p)) (s .args .shares .now) (h .0) in
+    let sized-out = length-block (q .before .loop .b) (12 * s .args .p .t) (q .before .loop .out) (h .1) in
+    (search, omega (arith, i .6, f .few, s .pre .1))
 
 loop-again : tie.Need-loop-again Inv-loop μ-loop
 unfolding part _⊕_

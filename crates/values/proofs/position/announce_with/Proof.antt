@@ -48,21 +48,8 @@ announce-shares-requires c κs =
     let e : tie.After-evaluate = search back-to-evaluate in
     let m : tie.After-multiples-of = search in
     let s = start m in
-    let g = s .pre .0 in (
-      record {
-        within = g .within;
-        few = g .few;
-        position = g .position;
-        sized-shares = g .sized-shares;
-        sized-qs = omega (arith, e .evaluate, g .sized-qs);
-        sized-ss = omega (arith, e .evaluate, g .sized-ss);
-        sized-ps = omega (arith, e .evaluate, g .sized-ps);
-        sized-multiplier = omega (arith, m .multiples-of);
-        sized-factor = omega (arith, n .multiples-of2);
-        sized-out = s .pre .1;
-      },
-      omega (arith, x .product-by .ensures .1, few e),
-    )
+    let (g, sized-out, made, el, ep) = s .pre in
+    (omega (arith, e .evaluate, m .multiples-of, n .multiples-of2), omega (arith, x .product-by .ensures .1, few e))
 
 returns : tie.Need-returns
 returns c =
