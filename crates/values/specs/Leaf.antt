@@ -4,7 +4,7 @@
 -- LeafAsked                  the share, message 2 and the matrix, and room for α and β
 -- RoomAsked                  room for what is made on the way
 -- leafValues-any             it is α and β of the exchange without the constants, for every y
--- leaf-front, leaf-made      it is the front of what the share announces
+-- leaf-made                  it is the front of what the share announces
 use mathlib.Core.Path.{_≡_, refl, sym, ap, _∙_}
 use mathlib.Core.Bool.{false}
 use mathlib.Core.List.{List, [], _++_, append-assoc}
@@ -44,20 +44,13 @@ pub leafValues-any : (p : Parameters) (key : Key) (m2 s : List ℕ)
 unfolding leafValues alpha beta SOf xOf imageOf
 leafValues-any p key m2 s = refl
 
-pub leaf-front : (p : Parameters) (key : Key) (m2 s block : List ℕ) → block ≡ announcedOf p key m2 false s
-    → take (8 * p .t) block ≡ leafValues p (key .matrix) m2 s
-unfolding announcedOf
-leaf-front p key m2 s block e =
-    let a = length-encode (alpha p key m2 false s) (p .t) in
-    let b = length-encode (beta p key m2 false s) (p .t) in
-    let c = length-append (encode (alpha p key m2 false s) (p .t)) (encode (beta p key m2 false s) (p .t)) in
-    ap (take (8 * p .t)) (e ∙ sym (append-assoc (encode (alpha p key m2 false s) (p .t)) (encode (beta p key m2 false s) (p .t)) _))
-    ∙ take-at (encode (alpha p key m2 false s) (p .t) ++ encode (beta p key m2 false s) (p .t)) _ (8 * p .t) (omega arith)
-    ∙ sym (leafValues-any p key m2 s)
-
 pub leaf-made : (p : Parameters) (key : Key) (m2 s u : List ℕ) → length s ≡ shareLength p → length u ≡ 12 * p .t → Announcements p key m2 false s 1 u
     → take (8 * p .t) u ≡ leafValues p (key .matrix) m2 s
+unfolding announcedOf
 leaf-made p key m2 s u ls lu h =
-    leaf-front p key m2 s u
-    (sym (part-whole u (12 * p .t) (le-of-eq lu)) ∙ ap (λ (i : ℕ). part u i (12 * p .t)) (sym (zero-mul (12 * p .t))) ∙ h 0 (omega arith)
-    ∙ ap (announcedOf p key m2 false) (ap (λ (i : ℕ). part s i (shareLength p)) (zero-mul (shareLength p)) ∙ part-whole s (shareLength p) (le-of-eq ls)))
+    let α : List ℕ = encode (alpha p key m2 false s) (p .t) in
+    let β : List ℕ = encode (beta p key m2 false s) (p .t) in
+    let n : length (α ++ β) ≡ 8 * p .t = length-append α β ∙ omega (arith, length-encode (alpha p key m2 false s) (p .t), length-encode (beta p key m2 false s) (p .t)) in
+    let own = ap (λ (i : ℕ). part s i (shareLength p)) (zero-mul (shareLength p)) ∙ part-whole s (shareLength p) (le-of-eq ls) in
+    let first = sym (part-whole u (12 * p .t) (le-of-eq lu)) ∙ ap (λ (i : ℕ). part u i (12 * p .t)) (sym (zero-mul (12 * p .t))) in
+    ap (take (8 * p .t)) (first ∙ h 0 (omega arith) ∙ ap (announcedOf p key m2 false) own ∙ sym (append-assoc α β _)) ∙ take-at (α ++ β) _ (8 * p .t) n ∙ sym (leafValues-any p key m2 s)

@@ -3,13 +3,14 @@
 -- sum-made             a sum of points from their bytes
 -- written-made         three writes, one after another
 -- share-made           with the values of Q, S and P, what is written for share i is what it announces
-use mathlib.Core.Path.{_≡_, refl, ap, ap₂, _∙_}
+use mathlib.Core.Path.{_≡_, ap, ap₂, _∙_}
 use mathlib.Core.Bool.{Bool}
 use mathlib.Core.List.{List}
 use Prim.Native.Nat.{ℕ, _+_, _*_, _<_}
 use lib.ListN.{getD}
 use Rattle.lists.specs.Xor.{_⊕_}
 use Rattle.lists.specs.Part.{putAt}
+use Rattle.algebra.specs.Ring.{Ring2, ring}
 use Rattle.tower.specs.Field.{Point, point, bytesOf, point-bytesOf}
 use Rattle.parameters.specs.declared.Parameters.{Parameters}
 use Rattle.exchange.specs.Reading.{points, value, _⊞_, _⊠_}
@@ -17,7 +18,7 @@ use Rattle.exchange.specs.Values.{Key, QOf, POf, SOf, F, aOf, bOf, cOf, pointOf
 use Rattle.points.specs.Multiples.{wordOf, multiplesOf}
 use Rattle.sidebyside.specs.Shares.{shareOf}
 use Rattle.values.specs.Position.{Valued, Factors, writtenAt, announcedAt}
-use Rattle.values.specs.Position.Evaluated.{term-sum}
+use Rattle.values.specs.Announced.{gamma}
 
 pub sum-made : (a b r : List ℕ) (x y : Point) → a ≡ bytesOf x → b ≡ bytesOf y → r ≡ bytesOf (point a ⊞ point b) → r ≡ bytesOf (x ⊞ y)
 sum-made a b r x y ea eb er = er ∙ ap₂ (λ (u v : Point). bytesOf (u ⊞ v)) (ap point ea ∙ point-bytesOf x) (ap point eb ∙ point-bytesOf y)
@@ -28,18 +29,21 @@ unfolding writtenAt
 written-made p l α β γ out a b c ea eb ec =
     ec ∙ ap (λ (d : List ℕ). putAt d (8 * p .t + 4 * l) (bytesOf γ)) (eb ∙ ap (λ (d : List ℕ). putAt d (4 * p .t + 4 * l) (bytesOf β)) ea)
 
+gather : {K : Type 0} (R : Ring2 K) (c e f q : K) → R .add (R .mul (R .mul e f) q) c ≡ R .add c (R .mul e (R .mul f q))
+gather R c e f q = simp (ring, R)
+
 module _ (p : Parameters) (key : Key) (m2 : List ℕ) (first : Bool) (shares : List ℕ) (l n i : ℕ) (qs ss ps : List ℕ) (leading : ℕ) (multiplier factor s : List ℕ) (below : i < n)
     (valued : Valued p key first shares n (pointOf p m2 l) qs ss ps leading) (factors : Factors p m2 l multiplier factor) (es : s ≡ shareOf p shares i) where
   pub share-made : (out next : List ℕ)
       → ((ε φ Q S P : Point) → multiplier ≡ multiplesOf ε → factor ≡ multiplesOf φ → getD qs i 0 ⊕ leading ≡ wordOf Q → getD ss i 0 ≡ wordOf S → getD ps i 0 ≡ wordOf P
       → next ≡ writtenAt p l (ε ⊠ Q ⊞ aOf p s l) (S ⊞ bOf p s l) (φ ⊠ P ⊞ cOf p s l) out)
       → next ≡ announcedAt p key m2 first (shareOf p shares i) l out
-  unfolding alpha beta
+  unfolding alpha beta gamma
   share-made out next h =
-      h (multiplierOf p m2 l) (multiplierOf p m2 l ⊠ value (F p) (pointOf p m2 l)) _ _ _ (factors .of-multiplier) (factors .of-vanishing)
-      (valued .locators i below) (valued .interpolants i below) (valued .quotients i below)
-      ∙ ap (λ (z : List ℕ). writtenAt p l (multiplierOf p m2 l ⊠ value (QOf p first (shareOf p shares i)) (pointOf p m2 l) ⊞ aOf p z l)
-      (value (SOf p key first (shareOf p shares i)) (pointOf p m2 l) ⊞ bOf p z l)
-      (multiplierOf p m2 l ⊠ value (F p) (pointOf p m2 l) ⊠ value (POf p (shareOf p shares i)) (pointOf p m2 l) ⊞ cOf p z l) out) es
-      ∙ ap (λ (z : Point). writtenAt p l (alpha p key m2 first (shareOf p shares i) l) (beta p key m2 first (shareOf p shares i) l) z out)
-      (term-sum p m2 (shareOf p shares i) l _ refl)
+      let x = pointOf p m2 l in
+      let ε = multiplierOf p m2 l in
+      let f = value (F p) x in
+      let σ = shareOf p shares i in
+      h ε (ε ⊠ f) _ _ _ (factors .of-multiplier) (factors .of-vanishing) (valued .locators i below) (valued .interpolants i below) (valued .quotients i below)
+      ∙ ap (λ (z : List ℕ). writtenAt p l (ε ⊠ value (QOf p first σ) x ⊞ aOf p z l) (value (SOf p key first σ) x ⊞ bOf p z l) (ε ⊠ f ⊠ value (POf p σ) x ⊞ cOf p z l) out) es
+      ∙ ap (λ (z : Point). writtenAt p l (alpha p key m2 first σ l) (beta p key m2 first σ l) z out) (gather (points .base) (cOf p σ l) ε f (value (POf p σ) x))

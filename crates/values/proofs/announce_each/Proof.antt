@@ -3,10 +3,8 @@ use mathlib.Core.Path.{_≡_, refl, ap, _∙_, subst}
 use Prim.Native.Nat.{ℕ, _-_, _*_, _≤_}
 use native.Mathlib.Nat.{zero-mul}
 use native.Mathlib.Omega.{arith}
-use borrow.Author.Needs.{needs}
 use lib.ListN.{length}
 use Rattle.exchange.specs.Values.{Key}
-use Rattle.values.specs.Asked.{PositionAsked}
 use Rattle.values.specs.Position.{RowsOf}
 use Rattle.values.specs.Position.Laws.{EachTo, to-none, to-turn, to-end}
 use Rattle.values.specs.Products.{productsAt, products-few, products-turn}

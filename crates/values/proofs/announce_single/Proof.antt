@@ -1,7 +1,6 @@
 -- S of the share is made, the share alone is announced, and the front of its block is copied (`leaf-made`).
 use mathlib.Core.Path.{_≡_, sym, _∙_}
-use Prim.Native.Nat.{_*_, _≤_}
-use native.Mathlib.Nat.{one-mul}
+use Prim.Native.Nat.{_*_}
 use native.Mathlib.Omega.{arith}
 use borrow.Author.Needs.{needs}
 use lib.ListN.{length, take}
@@ -10,21 +9,8 @@ use Rattle.values.specs.Leaf.{leaf-made}
 use Rattle.values.proofs.announce_single.Statement.{statement}
 use Rattle.values.proofs.announce_single.Tie as tie
 
-interpolate-each-requires : tie.Need-interpolate-each-requires
-interpolate-each-requires c κs =
-    let s : tie.Start = search in
-    let (f, g, el, ep) = s .pre in
-    (omega arith, el, ep)
-
 abbrev back-to-start : tie.After-interpolate-each → tie.Start
 back-to-start c = search
-
-announce-each-requires : tie.Need-announce-each-requires
-announce-each-requires c κs =
-    let d : tie.After-interpolate-each = search in
-    let s = back-to-start d in
-    let (f, g, el, ep) = s .pre in
-    (omega (arith, d .interpolate-each), el, ep)
 
 abbrev back-to-rows : tie.After-announce-each → tie.After-interpolate-each
 back-to-rows c = search
@@ -52,7 +38,8 @@ returns c =
 pub announce-single-spec : {M : Type 1} → statement M
 announce-single-spec =
     tie.close
-    (tie.spec (λ c. search needs) interpolate-each-requires announce-each-requires
+    (tie.spec (λ c. search needs) (λ c κs. let s : tie.Start = search in let (f, g, el, ep) = s .pre in (omega arith, el, ep))
+    (λ c κs. let d : tie.After-interpolate-each = search in let (f, g, el, ep) = back-to-start d .pre in (omega (arith, d .interpolate-each), el, ep))
     (λ c. let d : tie.After-announce-each = search in let e = sized d in omega arith) (λ c. let d : tie.After-announce-each = search in front d)
     (λ c κs. let d : tie.After-announce-each = search in sym (front d) ∙ sym (start d .pre .0 .sized-out))
     (λ c. search needs) (λ c. search needs) (λ c. search needs) returns)

@@ -33,10 +33,7 @@ pub v-made : (p : Parameters) (s : List ℕ) (l : ℕ) (γ α̂ β̂ a b h x y u
     → r ≡ bytesOf (vOf p s true (point γ) (point α̂) (point β̂) l)
 unfolding vOf aOf bOf
 v-made p s l γ α̂ β̂ a b h x y u r ea eb eh ex ey eu er =
-    er
-    ∙ ap bytesOf
-    (ap₂ _⊞_
-    (back u _ eu ∙ ap (λ (z : Point). point γ ⊞ z)
-    (back x _ ex ∙ ap (λ (z : Point). z ⊠ point α̂) (back h _ eh ∙ ap (λ (z : Point). z ⊞ point β̂) (back b _ eb))))
-    (back y _ ey ∙ ap (λ (z : Point). z ⊠ point β̂) (back a _ ea))
+    let vx = back x _ ex ∙ ap (λ (z : Point). z ⊠ point α̂) (back h _ eh ∙ ap (λ (z : Point). z ⊞ point β̂) (back b _ eb)) in
+    let vy = back y _ ey ∙ ap (λ (z : Point). z ⊠ point β̂) (back a _ ea) in
+    er ∙ ap bytesOf (ap₂ _⊞_ (back u _ eu ∙ ap (λ (z : Point). point γ ⊞ z) vx) vy
     ∙ regroup (points .base) (point γ) (point α̂) (point β̂) (pointAt s (4 * l)) (pointAt s (4 * p .t + 4 * l)))

@@ -9,7 +9,6 @@
 -- at-point             all of them at an equal point
 -- evaluation-asked     n polynomials that stand in blocks of one size, at one place of each, can be evaluated
 -- factor-made          ε·F(r)
--- term-sum             γ: ε·F(r) times P(r), and c
 use mathlib.Core.Path.{_≡_, refl, sym, ap, ap₂, _∙_, subst}
 use mathlib.Core.Bool.{Bool, true, false, cond}
 use mathlib.Core.List.{List, [], _∷_, _++_, append-nil}
@@ -30,13 +29,12 @@ use Rattle.exchange.specs.Sequences.{joined}
 use Rattle.exchange.specs.Sequences.Laws.{getD-listed, length-joined}
 use Rattle.exchange.specs.Reading.{points, bytesAt, value, _⊞_, _⊠_, 𝟎}
 use Rattle.exchange.specs.Reading.Laws.{length-bytesAt, bytesAt-ext, bytesAt-part, bytesAt-inside, lone-homomorphism}
-use Rattle.exchange.specs.Values.{Key, QOf, POf, SOf, F, cOf, pointOf, multiplierOf}
+use Rattle.exchange.specs.Values.{Key, QOf, POf, SOf, F, pointOf}
 use Rattle.exchange.specs.Values.Laws.{length-SOf}
 use Rattle.encoding.specs.Blocks.{blocks-at}
 use Rattle.sidebyside.specs.Shares.{shareOf}
 use Rattle.points.specs.Multiples.{wordOf}
 use Rattle.points.specs.Multiples.Laws.{wordOf-sum}
-use Rattle.values.specs.Announced.{gamma}
 use Rattle.evaluation.specs.Evaluation.{pointPower, valuesOf, EvaluationAsked}
 use Rattle.evaluation.specs.Evaluation.Laws.{value-snoc}
 use Rattle.values.specs.Position.{Valued, RowsOf}
@@ -54,9 +52,6 @@ module _ {K : Type 0} (R : Ring2 K) where
 
   zero-times : (a w : K) → R .add a (R .mul (R .zero) w) ≡ R .add a (R .zero)
   zero-times a w = simp (ring, R)
-
-  gather : (c e f q : K) → R .add (R .mul (R .mul e f) q) c ≡ R .add c (R .mul e (R .mul f q))
-  gather c e f q = simp (ring, R)
 
 leading-one : (q : List ℕ) (n : ℕ) (x : Point) → length q ≡ n → value (q ++ (1 ∷ [])) x ≡ value q x ⊞ pointPower x n
 leading-one q n x e =
@@ -136,17 +131,11 @@ at-point p key first shares n x y qs ss ps leading f e v h =
 
 -- ---- what the evaluations ask
 
-pub evaluation-asked : (total n size from len entries made : ℕ) → n ≤ 16 → size ≤ 65536 → len ≤ 255 → from + len ≤ size → total ≡ n * size → entries ≡ n
-    → made ≤ 1099511627776 → EvaluationAsked total n size from len entries made
-evaluation-asked total n size from len entries made few near short h e sized count = record {
-  few = omega arith;
-  near = near;
-  start = omega arith;
-  short = omega arith;
-  inside = λ z. let f = part-fits (n - 1) n size (omega arith) in omega arith;
-  sized = sized;
-  count = count;
-}
+pub evaluation-asked : (total n size from len entries made : ℕ)
+    → (n ≤ 16) × (size ≤ 65536) × (len ≤ 255) × (from + len ≤ size) × (total ≡ n * size) × (entries ≡ n) × (made ≤ 1099511627776)
+    → EvaluationAsked total n size from len entries made
+evaluation-asked total n size from len entries made (few, near, short, h, e, sized, count) =
+    let inside : 0 < n → from + (n - 1) * size + len ≤ total = λ z. let f = part-fits (n - 1) n size (omega arith) in omega arith in search arith
 
 -- ---- ε·F(r)
 
@@ -154,12 +143,3 @@ pub factor-made : (p : Parameters) (m2 f x : List ℕ) (l : ℕ) (ε : Point) �
     → x ≡ bytesOf (point f ⊠ ε) → x ≡ bytesOf (ε ⊠ value (F p) (pointOf p m2 l))
 factor-made p m2 f x l ε ef ex =
     ex ∙ ap bytesOf (ap (λ (y : Point). y ⊠ ε) (ap point ef ∙ point-bytesOf _) ∙ points .base .mul-comm _ _)
-
--- ---- γ
-
-pub term-sum : (p : Parameters) (m2 s : List ℕ) (l : ℕ) (P : Point) → P ≡ value (POf p s) (pointOf p m2 l)
-    → multiplierOf p m2 l ⊠ value (F p) (pointOf p m2 l) ⊠ P ⊞ cOf p s l ≡ gamma p m2 s l
-unfolding gamma
-term-sum p m2 s l P e =
-    ap (λ (x : Point). multiplierOf p m2 l ⊠ value (F p) (pointOf p m2 l) ⊠ x ⊞ cOf p s l) e
-    ∙ gather (points .base) (cOf p s l) (multiplierOf p m2 l) (value (F p) (pointOf p m2 l)) (value (POf p s) (pointOf p m2 l))

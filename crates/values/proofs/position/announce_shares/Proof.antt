@@ -1,9 +1,9 @@
 -- The loop's invariant: the first i shares are announced, the parts of the others are as they were, share and part i start at a and b, and two
 -- products were made for each share (`share-made`, `each-turn`, `left-turn`).
-use mathlib.Core.Path.{_≡_, refl, sym, ap₂, _∙_}
+use mathlib.Core.Path.{_≡_, refl, ap₂, _∙_}
 use mathlib.Core.Bool.{Bool}
 use mathlib.Core.List.{List}
-use Prim.Native.Nat.{ℕ, _+_, _-_, _*_, _≤_, _<_}
+use Prim.Native.Nat.{ℕ, _+_, _-_, _*_, _≤_}
 use native.Mathlib.Omega.{arith}
 use borrow.Author.Needs.{needs}
 use lib.ListN.{length, take, drop}
@@ -13,9 +13,8 @@ use Rattle.exchange.specs.Layout.{shareLength}
 use Rattle.exchange.specs.Values.{Key, pointOf}
 use Rattle.encoding.specs.Blocks.{within-blocks, next-block, length-block}
 use Rattle.encoding.specs.Written.{middle-kept}
-use Rattle.sidebyside.specs.Shares.{shareOf}
 use Rattle.values.specs.Position.{Valued, Factors, EachAnnounced}
-use Rattle.values.specs.Position.Laws.{Left, left-none, left-turn, each-none, each-turn}
+use Rattle.values.specs.Position.Laws.{Left, left-turn, each-turn}
 use Rattle.values.specs.Terms.{share-made}
 use Rattle.values.proofs.position.announce_shares.Statement.{statement}
 use Rattle.values.proofs.position.announce_shares.Tie as tie
@@ -48,7 +47,7 @@ inside q =
 loop-holds : tie.Need-loop-holds Inv-loop μ-loop
 loop-holds c =
     let s : tie.Start Inv-loop μ-loop = search in
-    (omega arith, omega arith, omega arith, (λ key m2 first v f. each-none _ key m2 first _ _ _ _), (λ j a b. refl), refl, omega arith)
+    (omega arith, omega arith, omega arith, (λ key m2 first v f j l. absurd (omega arith)), (λ j a b. refl), refl, omega arith)
 
 announce-share-requires : tie.Need-announce-share-requires Inv-loop μ-loop
 announce-share-requires c κs =

@@ -7,7 +7,7 @@ use Rattle.tower.specs.Field.{point, point-bytesOf}
 use Rattle.exchange.specs.Values.{multiplierOf}
 use Rattle.points.specs.Multiples.{multiplesOf}
 use Rattle.values.specs.Position.Evaluated.{factor-made}
-use Rattle.values.specs.Products.{evaluation-few}
+use Rattle.values.specs.Products.{evaluations-few}
 use Rattle.values.proofs.position.announce_with.Statement.{statement}
 use Rattle.values.proofs.position.announce_with.Tie as tie
 
@@ -35,11 +35,7 @@ of-multiplier m = m .multiples-of .ensures ∙ ap multiplesOf (ap point (point-r
 few : (e : tie.After-evaluate) → e .evaluate .result .made ≤ 2147483648 + 13005
 few e =
     let s = back-to-start (back-to-point e) in
-    let g = s .pre .0 in
-    let w = g .within in
-    let a = evaluation-few (s .args .p .m) (s .args .n + 1) (w .m-most) (omega (arith, g .few)) in
-    let b = evaluation-few (s .args .p .w) (s .args .n) (omega (arith, w .m-most, w .w-most)) (omega (arith, g .few)) in
-    omega (arith, e .evaluate .ensures .1, s .pre .2)
+    omega (arith, evaluations-few (s .args .p) (s .args .n) (s .pre .0 .within) (s .pre .0 .few), e .evaluate .ensures .1, s .pre .2)
 
 announce-shares-requires : tie.Need-announce-shares-requires
 announce-shares-requires c κs =

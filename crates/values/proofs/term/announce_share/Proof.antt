@@ -1,12 +1,10 @@
 -- Three points are written, one after another.
-use mathlib.Core.Path.{_≡_, ap, ap₂, _∙_}
-use mathlib.Core.List.{List}
+use mathlib.Core.Path.{_≡_, ap, _∙_}
 use Prim.Native.Nat.{ℕ, _+_, _*_}
 use native.Mathlib.Omega.{arith}
 use borrow.Author.Needs.{needs}
-use Rattle.lists.specs.Part.{putAt}
 use Rattle.tower.specs.Field.{bytesOf}
-use Rattle.exchange.specs.Reading.{pointAt, _⊞_, _⊠_}
+use Rattle.exchange.specs.Reading.{pointAt}
 use Rattle.exchange.specs.Values.{aOf, bOf, cOf}
 use Rattle.values.specs.Terms.{written-made}
 use Rattle.values.proofs.term.announce_share.Statement.{statement}

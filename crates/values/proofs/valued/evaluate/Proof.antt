@@ -1,7 +1,6 @@
 -- Three evaluations at the point read: of S of each share and of F's low coefficients, of Q's, and of P. The power with which the first ends
 -- is F's leading term, that of the second Q's.
 use mathlib.Core.Path.{sym, ap, _∙_}
-use Prim.Native.Nat.{_+_}
 use native.Mathlib.Omega.{arith}
 use borrow.Author.Needs.{needs}
 use Rattle.tower.specs.Field.{point, bytesOf, point-bytesOf}
@@ -9,7 +8,7 @@ use Rattle.packed.specs.Word.{bytes}
 use Rattle.exchange.specs.Values.{pointOf}
 use Rattle.points.specs.Multiples.Laws.{bytes-wordOf}
 use Rattle.values.specs.Position.Evaluated.{vanishing-value, at-point, locators-made, quotients-made, interpolants-made, vanishing-made, evaluation-asked}
-use Rattle.values.specs.Products.{evaluation-few}
+use Rattle.values.specs.Products.{evaluations-few}
 use Rattle.values.specs.Terms.{sum-made}
 use Rattle.values.proofs.valued.evaluate.Statement.{statement}
 use Rattle.values.proofs.valued.evaluate.Tie as tie
@@ -23,28 +22,13 @@ back-to-point c = search
 abbrev back-to-low : tie.After-values-at3 → tie.After-values-at2
 back-to-low c = search
 
-values-at-requires : tie.Need-values-at-requires
-values-at-requires c κs =
-    let s : tie.Start = search back-to-start in
-    let (g, few, l, p) = s .pre in
-    (evaluation-asked _ _ _ _ _ _ _ (omega arith) (omega arith) (omega arith) (omega arith) (g .sized-rows) (g .sized-ss) (omega arith), l, p)
-
 values-at-requires-2 : tie.Need-values-at-requires-2
 values-at-requires-2 c κs =
     let d : tie.After-values-at = search in
     let s : tie.Start = search back-to-start in
     let (g, few, l, p) = s .pre in
-    let a = evaluation-few (s .args .p .m) (s .args .n + 1) (omega arith) (omega arith) in (
-      evaluation-asked _ _ _ _ _ _ _ (omega arith) (omega arith) (omega arith) (omega arith) (g .sized-shares) (g .sized-qs)
-          (omega (arith, d .values-at .ensures)),
-      l,
-      p,
-    )
-
-add-values-at : tie.Need-add-values-at-2
-add-values-at c =
-    let s : tie.Start = search (back-to-start, back-to-point) in
-    let (g, few, l, p) = s .pre in omega arith
+    let a = evaluations-few (s .args .p) (s .args .n) (g .within) (g .few) in
+    (evaluation-asked _ _ _ _ _ _ _ (omega (arith, d .values-at .ensures)), l, p)
 
 values-at-requires-3 : tie.Need-values-at-requires-3
 values-at-requires-3 c κs =
@@ -52,26 +36,15 @@ values-at-requires-3 c κs =
     let d : tie.After-values-at = search in
     let s : tie.Start = search (back-to-start, back-to-point) in
     let (g, few, l, p) = s .pre in
-    let a = evaluation-few (s .args .p .m) (s .args .n + 1) (omega arith) (omega arith) in
-    let e = evaluation-few (s .args .p .w) (s .args .n) (omega arith) (omega arith) in (
-      evaluation-asked _ _ _ _ _ _ _ (omega arith) (omega arith) (omega arith) (omega arith) (g .sized-shares) (g .sized-ps)
-          (omega (arith, d .values-at .ensures, b .values-at2 .ensures)),
-      l,
-      p,
-    )
+    let a = evaluations-few (s .args .p) (s .args .n) (g .within) (g .few) in
+    (evaluation-asked _ _ _ _ _ _ _ (omega (arith, d .values-at .ensures, b .values-at2 .ensures)), l, p)
 
-small-place : tie.Need-mul-point-of
-small-place c =
-    let b : tie.After-values-at2 = search back-to-low in
-    let s : tie.Start = search (back-to-start, back-to-point) in
-    omega (arith, s .pre .0 .few)
-
+-- F stands behind the n shares
 inside : tie.Need-slice-read-point-of
 inside c =
     let b : tie.After-values-at2 = search back-to-low in
     let d : tie.After-values-at = search in
-    let s : tie.Start = search (back-to-start, back-to-point) in
-    omega (arith, d .values-at, s .pre .0 .sized-ss)
+    let s : tie.Start = search (back-to-start, back-to-point) in omega (arith, d .values-at, s .pre .0 .sized-ss)
 
 returns : tie.Need-returns
 unfolding pointOf
@@ -103,6 +76,8 @@ pub evaluate-spec : {M : Type 1} → statement M
 evaluate-spec =
     tie.close
     (tie.spec (λ c. search needs) (λ c. search needs) (λ c. search needs) (λ c. search needs) (λ c. search needs) (λ c. search needs)
-    (λ c. search needs) (λ c. search needs) (λ c. search needs) (λ c κs. search needs) (λ c. search needs) values-at-requires values-at-requires-2
-    add-values-at values-at-requires-3 small-place inside (λ c κs. search needs) (λ c κs. search needs) (λ c κs. search needs)
+    (λ c. search needs) (λ c. search needs) (λ c. search needs) (λ c κs. search needs) (λ c. search needs)
+    (λ c κs. let s : tie.Start = search back-to-start in let (g, few, l, p) = s .pre in (evaluation-asked _ _ _ _ _ _ _ (omega arith), l, p)) values-at-requires-2
+    (λ c. let s : tie.Start = search (back-to-start, back-to-point) in let (g, few, l, p) = s .pre in omega arith) values-at-requires-3
+    (λ c. let b : tie.After-values-at2 = search back-to-low in let s : tie.Start = search (back-to-start, back-to-point) in omega (arith, s .pre .0 .few)) inside (λ c κs. search needs) (λ c κs. search needs) (λ c κs. search needs)
     (λ c. search needs) (λ c. search needs) (λ c. search needs) returns)
