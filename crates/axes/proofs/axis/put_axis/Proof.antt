@@ -26,8 +26,7 @@ axis-row-requires : tie.Need-axis-row-requires
 axis-row-requires c κs =
     let s : tie.Start = search back-to-start in
     let (f, h, n, l, p) = s .pre in
-    let r = row-asked (s .args .p) _ _ _ _ _ f (s .args .axis) (omega arith) in
-    (record { row = r; sized-total = f .sized-total; sized-hidden = f .of .sized-hidden }, n, l, p)
+    let row = row-asked (s .args .p) _ _ _ _ _ f (s .args .axis) (omega arith) in (search, n, l, p)
 
 returns : tie.Need-returns
 returns c =

@@ -24,16 +24,8 @@ put-rows-requires c κs =
     let all : tie.After-total-row = search in
     let made : tie.After-evaluate = search in
     let s : tie.Start = search back-to-start in
-    let (f, g, l, p) = s .pre in (
-      record {
-        of = record { within = f .within; sized-parts = f .sized-parts; sized-blocks = omega (arith, made .evaluate, g .sized-blocks); sized-hidden = f .sized-hidden };
-        sized-sums = omega (arith, all .total-row, g .sized-sums);
-        sized-total = omega (arith, all .total-row, g .sized-total);
-      },
-      f .sized-rows,
-      l,
-      p,
-    )
+    let (f, g, l, p) = s .pre in
+    (omega (arith, made .evaluate, all .total-row), f .sized-rows, l, p)
 
 returns : tie.Need-returns
 returns c =

@@ -29,9 +29,7 @@ abbrev start : tie.At-loop Inv-loop μ-loop → tie.Start Inv-loop μ-loop
 start q = search
 
 inside : (q : tie.At-loop Inv-loop μ-loop) → q .loop .j < start q .args .p .d → q .loop .b + 24 * start q .args .p .t ≤ length (q .loop .rows)
-inside q h =
-    let s = start q in
-    within-blocks (q .loop .j) (s .args .p .d) _ (q .loop .b) _ h (q .loop .inv .1) (q .loop .inv .3 ∙ s .pre .1)
+inside q h = within-blocks (q .loop .j) (start q .args .p .d) _ (q .loop .b) _ h (q .loop .inv .1) (q .loop .inv .3 ∙ start q .pre .1)
 
 loop-holds : tie.Need-loop-holds Inv-loop μ-loop
 loop-holds c = (omega arith, omega arith, blocks-none _ _ _, refl)
@@ -39,13 +37,9 @@ loop-holds c = (omega arith, omega arith, blocks-none _ _ _, refl)
 put-axis-requires : tie.Need-put-axis-requires Inv-loop μ-loop
 put-axis-requires c κs =
     let s : tie.Start Inv-loop μ-loop = search in
-    let q = c .before .before .before in (
-      s .pre .0,
-      c .before .if1 .taken,
-      length-block (q .loop .b) (24 * s .args .p .t) (q .loop .rows) (inside q (c .before .if1 .taken)),
-      s .pre .2,
-      s .pre .3,
-    )
+    let q = c .before .before .before in
+    let (f, sized, l, p) = s .pre in
+    (f, c .before .if1 .taken, length-block (q .loop .b) (24 * s .args .p .t) (q .loop .rows) (inside q (c .before .if1 .taken)), l, p)
 
 loop-again : tie.Need-loop-again Inv-loop μ-loop
 loop-again c =
