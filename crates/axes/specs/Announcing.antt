@@ -34,8 +34,7 @@ module _ (p : Parameters) (key : Key) (m2 : List ℕ) (s : ℕ → List ℕ) (α
 
   -- v by the formula, for the parties whose leaves are all disclosed
   unfoldable pub formulaWith : ℕ → ℕ → Point
-  formulaWith c l =
-      partV p key m2 (eqb c 0) (s c) (sums (λ c. alphaWith c l) (side p)) (sums (λ c. betaWith c l) (side p)) l
+  formulaWith c l = partV p key m2 (eqb c 0) (s c) (sums (λ c. alphaWith c l) (side p)) (sums (λ c. betaWith c l) (side p)) l
 
   unfoldable pub vWith : ℕ → ℕ → Point
   vWith c l = cond (eqb c h) (sums (λ c. cond (eqb c h) 𝟎 (formulaWith c l)) (side p)) (formulaWith c l)
@@ -50,8 +49,6 @@ partyFrom p parts j c =
 
 unfoldable pub rowOf : Parameters → Key → List ℕ → List ℕ → ℕ → List ℕ → ℕ → List ℕ
 rowOf p key m2 parts leaf hidden j =
-    joined (
-    announcedBytes p
-    (announcedWith p key m2 (partyFrom p parts j) (λ l. pointAt hidden (4 * l)) (λ l. pointAt hidden (4 * p .t + 4 * l)) (hiddenParty p leaf j))
-    )
+    joined
+    (announcedBytes p (announcedWith p key m2 (partyFrom p parts j) (λ l. pointAt hidden (4 * l)) (λ l. pointAt hidden (4 * p .t + 4 * l)) (hiddenParty p leaf j)))
     (side p)

@@ -2,7 +2,7 @@
 --
 -- Evaluated p key m2 parts blocks   the blocks of the D + 1 shares, with the constants
 -- points-of                  bytes are the points that are read from them
--- hidden-some, hidden-most   a party holds the hidden leaf exactly where one is hidden
+-- hidden-some                a party holds the hidden leaf exactly where one is hidden
 -- axis-made                  an axis
 -- rows-made                  all axes
 use mathlib.Core.Path.{_≡_, refl, sym, ap, ap₂, _∙_}
@@ -52,31 +52,21 @@ pub points-of : (s : List ℕ) (t : ℕ) → length s ≡ 8 * t → ((j : ℕ) �
     → s ≡ encode (λ l. pointAt s (4 * l)) t ++ encode (λ l. pointAt s (4 * t + 4 * l)) t
 unfolding part
 points-of s t e b =
+    let k = length-drop (4 * t) s in
+    let z : (l : ℕ) → 0 + 4 * l ≡ 4 * l = λ l. omega arith in
     sym (take-append-drop (4 * t) s)
-    ∙ ap₂ _++_
-    (filled-block (λ l. pointAt s (4 * l)) s 0 t
-    (λ l h. let z : 0 + 4 * l ≡ 4 * l = omega arith in ap (λ (i : ℕ). take 4 (drop i s)) z ∙ part-point s (4 * l) b (omega arith)))
-    (sym (take-all (4 * t) (drop (4 * t) s) (let k = length-drop (4 * t) s in omega arith))
-    ∙ filled-block (λ l. pointAt s (4 * t + 4 * l)) s (4 * t) t (λ l h. part-point s (4 * t + 4 * l) b (omega arith)))
+    ∙ ap₂ _++_ (filled-block (λ l. pointAt s (4 * l)) s 0 t (λ l h. ap (λ (i : ℕ). take 4 (drop i s)) (z l) ∙ part-point s (4 * l) b (omega arith)))
+    (sym (take-all (4 * t) (drop (4 * t) s) (omega arith)) ∙ filled-block (λ l. pointAt s (4 * t + 4 * l)) s (4 * t) t (λ l h. part-point s (4 * t + 4 * l) b (omega arith)))
 
 -- ---- the party that holds the hidden leaf
 
-module _ (p : Parameters) (leaf j : ℕ) where
-  pub hidden-most : hiddenParty p leaf j ≤ 2
-  unfolding hiddenParty bits
-  hidden-most = go (ltb leaf (leaves p))
-    where
-      go : (b : Bool) → cond b (digit p j leaf) 2 ≤ 2
-      go true = let h = digit-lt p j leaf in omega arith
-      go false = omega arith
-
-  pub hidden-some : ltb (hiddenParty p leaf j) 2 ≡ ltb leaf (leaves p)
-  unfolding hiddenParty bits
-  hidden-some = go (ltb leaf (leaves p))
-    where
-      go : (b : Bool) → ltb (cond b (digit p j leaf) 2) 2 ≡ b
-      go true = lt-ltb (digit p j leaf) 2 (digit-lt p j leaf)
-      go false = refl
+hidden-some : (p : Parameters) (leaf j : ℕ) → (hiddenParty p leaf j ≤ 2) × (ltb (hiddenParty p leaf j) 2 ≡ ltb leaf (leaves p))
+unfolding hiddenParty bits
+hidden-some p leaf j = go (ltb leaf (leaves p))
+  where
+    go : (b : Bool) → (cond b (digit p j leaf) 2 ≤ 2) × (ltb (cond b (digit p j leaf) 2) 2 ≡ b)
+    go true = let h = digit-lt p j leaf in (omega arith, lt-ltb (digit p j leaf) 2 h)
+    go false = (omega arith, refl)
 
 -- ---- the axes
 
@@ -119,9 +109,7 @@ module _ (p : Parameters) (key : Key) (m2 parts : List ℕ) (leaf : ℕ) (hidden
           ∙ xorList-append (encode (alpha p key m2 true all) (p .t)) (encode α⋆ (p .t)) (encode (beta p key m2 true all) (p .t)) (encode β⋆ (p .t))
           (length-encode _ (p .t) ∙ sym (length-encode _ (p .t)))
           ∙ ap₂ _++_ (encode-xor _ _ (p .t)) (encode-xor _ _ (p .t))
-      go false =
-          all-is
-          ∙ ap₂ _++_ (encode-ext _ _ (p .t) (λ l h. sym (points .base .add-zero _))) (encode-ext _ _ (p .t) (λ l h. sym (points .base .add-zero _)))
+      go false = all-is ∙ ap₂ _++_ (encode-ext _ _ (p .t) (λ l h. sym (points .base .add-zero _))) (encode-ext _ _ (p .t) (λ l h. sym (points .base .add-zero _)))
 
   -- the row of share i of the D + 1
   share-is : (i : ℕ) → i < p .d + 1 → rowBy p (shareOf p parts i) (blockOf p blocks i) sums ≡ shareRow p key m2 true (shareOf p parts i) α̂ β̂
@@ -132,14 +120,13 @@ module _ (p : Parameters) (key : Key) (m2 parts : List ℕ) (leaf : ℕ) (hidden
   unfolding axisBy rowOf partyFrom α̂ β̂ α⋆ β⋆ all
   axis-made j h =
       sym (row-made p key m2 (partyFrom p parts j) all refl α⋆ β⋆ hidden hidden-is (hiddenParty p leaf j)
-      (rowBy p (shareOf p parts j) (blockOf p blocks j) sums) total (hidden-most p leaf j)
+      (rowBy p (shareOf p parts j) (blockOf p blocks j) sums) total (hidden-some p leaf j .0)
       (share-is j (omega arith) ∙ hats (shareOf p parts j))
       (et ∙ share-is (p .d) (omega arith) ∙ hats (shareOf p parts (p .d))))
     where
       hats : (s : List ℕ) → shareRow p key m2 true s α̂ β̂
           ≡ shareRow p key m2 true s (hatAlpha p key m2 all α⋆ (ltb (hiddenParty p leaf j) 2)) (hatBeta p key m2 all β⋆ (ltb (hiddenParty p leaf j) 2))
-      hats s =
-          ap (λ (b : Bool). shareRow p key m2 true s (hatAlpha p key m2 all α⋆ b) (hatBeta p key m2 all β⋆ b)) (sym (hidden-some p leaf j))
+      hats s = ap (λ (b : Bool). shareRow p key m2 true s (hatAlpha p key m2 all α⋆ b) (hatBeta p key m2 all β⋆ b)) (sym (hidden-some p leaf j .1))
 
   pub rows-made : joined (λ j. axisBy p (shareOf p parts j) (blockOf p blocks j) sums total (hiddenParty p leaf j) hidden) (p .d)
       ≡ joined (rowOf p key m2 parts leaf hidden) (p .d)

@@ -30,22 +30,13 @@ module _ {A : Type 0} (G : Group2 A) where
   infixl 60 _+G_
   open Group2 G using (zero as 𝟘, add as _+G_)
 
-  hat-first : (a b x : A) → (𝟘 +G (a +G x)) +G ((b +G a) +G 𝟘) ≡ b +G x
-  hat-first a b x = simp (group, G)
-
-  hat-second : (a b x : A) → (𝟘 +G (a +G 𝟘)) +G ((b +G a) +G x) ≡ b +G x
-  hat-second a b x = simp (group, G)
-
-  hat-none : (a b : A) → (𝟘 +G (a +G 𝟘)) +G ((b +G a) +G 𝟘) ≡ b +G 𝟘
-  hat-none a b = simp (group, G)
-
   -- the parties have a and b + a, and party h has x more
   hat : (f : ℕ → A) (a b x : A) (h : ℕ) → h ≤ 2 → f 0 ≡ a +G cond (eqb 0 h) x 𝟘 → f 1 ≡ (b +G a) +G cond (eqb 1 h) x 𝟘
       → sum G f 2 ≡ b +G cond (ltb h 2) x 𝟘
   unfolding sum
-  hat f a b x zero l e e′ = ap₂ (λ (y z : A). (𝟘 +G y) +G z) e e′ ∙ hat-first a b x
-  hat f a b x (suc zero) l e e′ = ap₂ (λ (y z : A). (𝟘 +G y) +G z) e e′ ∙ hat-second a b x
-  hat f a b x (suc (suc zero)) l e e′ = ap₂ (λ (y z : A). (𝟘 +G y) +G z) e e′ ∙ hat-none a b
+  hat f a b x zero l e e′ = ap₂ (λ (y z : A). (𝟘 +G y) +G z) e e′ ∙ simp (group, G)
+  hat f a b x (suc zero) l e e′ = ap₂ (λ (y z : A). (𝟘 +G y) +G z) e e′ ∙ simp (group, G)
+  hat f a b x (suc (suc zero)) l e e′ = ap₂ (λ (y z : A). (𝟘 +G y) +G z) e e′ ∙ simp (group, G)
   hat f a b x (suc (suc (suc h))) l e e′ = absurd (omega arith)
 
   v-first : (a : A) → (𝟘 +G 𝟘) +G a ≡ a
@@ -79,17 +70,11 @@ module _ (p : Parameters) (key : Key) (m2 : List ℕ) (s : ℕ → List ℕ) (al
       hat (additive (points .base)) (λ c. f (eqb c 0) (s c) ⊞ cond (eqb c h) x 𝟎) (f true (s 0)) (f true all) x h b refl
       (ap (λ (y : Point). y ⊞ cond (eqb 1 h) x 𝟎) (ap (f false) second ∙ e))
 
-  alpha-hat : (h l : ℕ) → h ≤ 2 → sums (λ c. alphaWith p key m2 s α⋆ β⋆ h c l) (side p) ≡ α̂ h l
-  unfolding alphaWith hatAlpha α̂
-  alpha-hat h l b = hats (λ b z. alpha p key m2 b z l) (α⋆ l) h b (alpha-difference p key m2 all (s 0) l)
-
-  beta-hat : (h l : ℕ) → h ≤ 2 → sums (λ c. betaWith p key m2 s α⋆ β⋆ h c l) (side p) ≡ β̂ h l
-  unfolding betaWith hatBeta β̂
-  beta-hat h l b = hats (λ b z. beta p key m2 b z l) (β⋆ l) h b (beta-difference p key m2 all (s 0) l)
-
   formula-is : (h c l : ℕ) → h ≤ 2 → formulaWith p key m2 s α⋆ β⋆ h c l ≡ partV p key m2 (eqb c 0) (s c) (α̂ h l) (β̂ h l) l
-  unfolding formulaWith
-  formula-is h c l b = ap₂ (λ (x y : Point). partV p key m2 (eqb c 0) (s c) x y l) (alpha-hat h l b) (beta-hat h l b)
+  unfolding formulaWith alphaWith betaWith hatAlpha hatBeta α̂ β̂
+  formula-is h c l b =
+      ap₂ (λ (x y : Point). partV p key m2 (eqb c 0) (s c) x y l) (hats (λ b z. alpha p key m2 b z l) (α⋆ l) h b (alpha-difference p key m2 all (s 0) l))
+      (hats (λ b z. beta p key m2 b z l) (β⋆ l) h b (beta-difference p key m2 all (s 0) l))
 
   -- the row of party c by the formula, where h is the party that holds the hidden leaf
   formulaRow : ℕ → ℕ → List ℕ

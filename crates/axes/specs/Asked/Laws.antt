@@ -17,11 +17,7 @@ use Rattle.partyrows.specs.Asked.{RowAsked}
 use Rattle.axes.specs.Asked.{AxesAsked}
 
 pub blocks-fit : (p : Parameters) → Within p → (p .d + 1) * (12 * p .t) ≤ 864
-blocks-fit p w =
-    let d = w .d-most in
-    let t = w .t-most in
-    let h : (p .d + 1) * (12 * p .t) ≤ 9 * (12 * p .t) = mul-le-mul-right (12 * p .t) (omega arith) in
-    omega arith
+blocks-fit p w = let h : (p .d + 1) * (12 * p .t) ≤ 9 * (12 * p .t) = mul-le-mul-right (12 * p .t) (omega arith) in omega arith
 
 module _ (p : Parameters) (parts blocks sums total hidden : List ℕ) (asked : AxesAsked p parts blocks sums total hidden) (i : ℕ)
     (below : i < p .d + 1) where
@@ -33,9 +29,6 @@ module _ (p : Parameters) (parts blocks sums total hidden : List ℕ) (asked : A
 
   pub row-asked : RowAsked p (take (i * shareLength p + shareLength p - i * shareLength p) (drop (i * shareLength p) parts))
       (take (i * (12 * p .t) + 12 * p .t - i * (12 * p .t)) (drop (i * (12 * p .t)) blocks)) sums
-  row-asked = record {
-    within = asked .of .within;
-    sized-s = length-block (i * shareLength p) (shareLength p) parts (share-fits .0);
-    sized-block = length-block (i * (12 * p .t)) (12 * p .t) blocks (share-fits .1);
-    sized-sums = asked .sized-sums;
-  }
+  row-asked =
+      let sized-s = length-block (i * shareLength p) (shareLength p) parts (share-fits .0) in
+      let sized-block = length-block (i * (12 * p .t)) (12 * p .t) blocks (share-fits .1) in search
