@@ -80,40 +80,37 @@ module _ (p : Parameters) (key : Key) (m2 : List ℕ) (s : ℕ → List ℕ) (al
   formulaRow : ℕ → ℕ → List ℕ
   formulaRow h c = shareRow p key m2 (eqb c 0) (s c) (α̂ h) (β̂ h)
 
+  -- what party c announces; `holds` says whether it holds the hidden leaf
+  abbrev announcing : ℕ → ℕ → Bool → List ℕ
+  announcing h c holds =
+      encode (λ l. alpha p key m2 (eqb c 0) (s c) l ⊞ cond holds (α⋆ l) 𝟎) (p .t) ++ (encode (λ l. beta p key m2 (eqb c 0) (s c) l ⊞ cond holds (β⋆ l) 𝟎) (p .t)
+      ++ encode (λ l. cond holds (sums (λ c. cond (eqb c h) 𝟎 (formulaWith p key m2 s α⋆ β⋆ h c l)) (side p)) (formulaWith p key m2 s α⋆ β⋆ h c l)) (p .t))
+
   -- a party that holds no hidden leaf
   plain : (h c : ℕ) → h ≤ 2 → eqb c h ≡ false → announcedBytes p (announcedWith p key m2 s α⋆ β⋆ h) c ≡ formulaRow h c
   unfolding announcedBytes announcedWith alphaWith betaWith vWith formulaRow shareRow
   plain h c b e =
-      ap₂ _++_
-      (encode-ext _ _ (p .t) (λ l k. ap (λ (x : Bool). alpha p key m2 (eqb c 0) (s c) l ⊞ cond x (α⋆ l) 𝟎) e ∙ points .base .add-zero _))
-      (ap₂ _++_
-      (encode-ext _ _ (p .t) (λ l k. ap (λ (x : Bool). beta p key m2 (eqb c 0) (s c) l ⊞ cond x (β⋆ l) 𝟎) e ∙ points .base .add-zero _))
-      (encode-ext _ _ (p .t)
-      (λ l k.
-      ap (λ (x : Bool). cond x (sums (λ c. cond (eqb c h) 𝟎 (formulaWith p key m2 s α⋆ β⋆ h c l)) (side p)) (formulaWith p key m2 s α⋆ β⋆ h c l)) e
-      ∙ formula-is h c l b)))
+      ap (announcing h c) e ∙ ap₂ _++_ (encode-ext _ _ (p .t) (λ l k. points .base .add-zero _))
+      (ap₂ _++_ (encode-ext _ _ (p .t) (λ l k. points .base .add-zero _)) (encode-ext _ _ (p .t) (λ l k. formula-is h c l b)))
 
   module _ (hidden : List ℕ) (eh : hidden ≡ encode α⋆ (p .t) ++ encode β⋆ (p .t)) where
-    held-first : announcedBytes p (announcedWith p key m2 s α⋆ β⋆ 0) 0 ≡ hideIn p hidden (formulaRow 0 0) (formulaRow 0 1)
-    unfolding announcedBytes announcedWith alphaWith betaWith vWith formulaRow shareRow bits sum
-    held-first =
-        ap (λ (z : List ℕ). encode (λ l. alpha p key m2 true (s 0) l ⊞ α⋆ l) (p .t) ++ (encode (λ l. beta p key m2 true (s 0) l ⊞ β⋆ l) (p .t) ++ z))
-        (encode-ext _ _ (p .t) (λ l k. v-first (additive (points .base)) _ ∙ formula-is 0 1 l (omega arith)))
-        ∙ sym (hide-made p (alpha p key m2 true (s 0)) (beta p key m2 true (s 0)) _ (alpha p key m2 false (s 1)) (beta p key m2 false (s 1)) _ α⋆ β⋆ hidden eh)
-
-    held-second : announcedBytes p (announcedWith p key m2 s α⋆ β⋆ 1) 1 ≡ hideIn p hidden (formulaRow 1 1) (formulaRow 1 0)
-    unfolding announcedBytes announcedWith alphaWith betaWith vWith formulaRow shareRow bits sum
-    held-second =
-        ap (λ (z : List ℕ). encode (λ l. alpha p key m2 false (s 1) l ⊞ α⋆ l) (p .t) ++ (encode (λ l. beta p key m2 false (s 1) l ⊞ β⋆ l) (p .t) ++ z))
-        (encode-ext _ _ (p .t) (λ l k. v-second (additive (points .base)) _ ∙ formula-is 1 0 l (omega arith)))
-        ∙ sym (hide-made p (alpha p key m2 false (s 1)) (beta p key m2 false (s 1)) _ (alpha p key m2 true (s 0)) (beta p key m2 true (s 0)) _ α⋆ β⋆ hidden eh)
+    -- the party that holds it: its v is the other party's
+    held : (h o : ℕ) → h ≤ 2 → eqb h h ≡ true → ((v : ℕ → Point) → sums (λ c. cond (eqb c h) 𝟎 (v c)) (side p) ≡ v o)
+        → announcedBytes p (announcedWith p key m2 s α⋆ β⋆ h) h ≡ hideIn p hidden (formulaRow h h) (formulaRow h o)
+    unfolding announcedBytes announcedWith alphaWith betaWith vWith formulaRow shareRow
+    held h o b e lone =
+        let α = alpha p key m2 (eqb h 0) (s h) in
+        let β = beta p key m2 (eqb h 0) (s h) in
+        ap (announcing h h) e
+        ∙ ap (λ (z : List ℕ). encode (λ l. α l ⊞ α⋆ l) (p .t) ++ (encode (λ l. β l ⊞ β⋆ l) (p .t) ++ z)) (encode-ext _ _ (p .t) (λ l k. lone _ ∙ formula-is h o l b))
+        ∙ sym (hide-made p α β _ (alpha p key m2 (eqb o 0) (s o)) (beta p key m2 (eqb o 0) (s o)) _ α⋆ β⋆ hidden eh)
 
     both : (h : ℕ) → h ≤ 2
         → joined (announcedBytes p (announcedWith p key m2 s α⋆ β⋆ h)) (side p)
         ≡ firstBy p h hidden (formulaRow h 0) (formulaRow h 1) ++ secondBy p h hidden (formulaRow h 0) (formulaRow h 1)
-    unfolding joined bits firstBy secondBy
-    both zero b = ap₂ _++_ held-first (plain 0 1 b refl)
-    both (suc zero) b = ap₂ _++_ (plain 1 0 b refl) held-second
+    unfolding joined bits sum firstBy secondBy
+    both zero b = ap₂ _++_ (held 0 1 b refl (λ v. v-first (additive (points .base)) (v 1))) (plain 0 1 b refl)
+    both (suc zero) b = ap₂ _++_ (plain 1 0 b refl) (held 1 0 b refl (λ v. v-second (additive (points .base)) (v 0)))
     both (suc (suc zero)) b = ap₂ _++_ (plain 2 0 b refl) (plain 2 1 b refl)
     both (suc (suc (suc h))) b = absurd (omega arith)
 
@@ -124,7 +121,6 @@ module _ (p : Parameters) (key : Key) (m2 : List ℕ) (s : ℕ → List ℕ) (al
         ≡ firstBy p h hidden first (xorList total first) ++ secondBy p h hidden first (xorList total first)
     unfolding formulaRow α̂ β̂
     row-made h first total b ef et =
-        both h b
-        ∙ ap₂ (λ (a z : List ℕ). firstBy p h hidden a z ++ secondBy p h hidden a z) (sym ef)
+        both h b ∙ ap₂ (λ (a z : List ℕ). firstBy p h hidden a z ++ secondBy p h hidden a z) (sym ef)
         (sym (ap₂ xorList et ef ∙ row-difference p key m2 all (s 0) (α̂ h) (β̂ h)
         ∙ ap (λ (z : List ℕ). shareRow p key m2 false z (α̂ h) (β̂ h)) (sym second)))

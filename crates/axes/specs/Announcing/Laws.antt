@@ -61,10 +61,7 @@ module _ (hash : List ℕ → ℕ → List ℕ) (p : Parameters) (x salt root : 
   unfolding ownAnnounced vWith formulaWith own
   own-v c l h =
       ap₂ (λ (α̂ β̂ : Point). partV p key m2 (eqb c 0) (own c) α̂ β̂ l)
-      (sum-ext (additive (points .base)) (λ c. ownAlpha hash p x salt root key m2 j c l) (λ c. alphaWith p key m2 own α⋆ β⋆ (side p) c l) (side p)
-      (λ c h. own-alpha c l h))
-      (sum-ext (additive (points .base)) (λ c. ownBeta hash p x salt root key m2 j c l) (λ c. betaWith p key m2 own α⋆ β⋆ (side p) c l) (side p)
-      (λ c h. own-beta c l h))
+      (sum-ext (additive (points .base)) _ _ (side p) (λ c h. own-alpha c l h)) (sum-ext (additive (points .base)) _ _ (side p) (λ c h. own-beta c l h))
       ∙ ap (λ (b : Bool). cond b (sums (λ c. cond (eqb c (side p)) 𝟎 (formulaWith p key m2 own α⋆ β⋆ (side p) c l)) (side p))
       (formulaWith p key m2 own α⋆ β⋆ (side p) c l)) (sym (none c h))
 
@@ -82,33 +79,23 @@ module _ (p : Parameters) (key : Key) (m2 : List ℕ) (s s′ : ℕ → List ℕ
     (es : (c : ℕ) → c < side p → s c ≡ s′ c) (ea : (l : ℕ) → l < p .t → α⋆ l ≡ α⋆′ l) (eb : (l : ℕ) → l < p .t → β⋆ l ≡ β⋆′ l) where
   alpha-ext : (c l : ℕ) → c < side p → l < p .t → alphaWith p key m2 s α⋆ β⋆ h c l ≡ alphaWith p key m2 s′ α⋆′ β⋆′ h c l
   unfolding alphaWith
-  alpha-ext c l k b =
-      ap₂ (λ (z : List ℕ) (x : Point). alpha p key m2 (eqb c 0) z l ⊞ cond (eqb c h) x 𝟎) (es c k) (ea l b)
+  alpha-ext c l k b = ap₂ (λ (z : List ℕ) (x : Point). alpha p key m2 (eqb c 0) z l ⊞ cond (eqb c h) x 𝟎) (es c k) (ea l b)
 
   beta-ext : (c l : ℕ) → c < side p → l < p .t → betaWith p key m2 s α⋆ β⋆ h c l ≡ betaWith p key m2 s′ α⋆′ β⋆′ h c l
   unfolding betaWith
-  beta-ext c l k b =
-      ap₂ (λ (z : List ℕ) (x : Point). beta p key m2 (eqb c 0) z l ⊞ cond (eqb c h) x 𝟎) (es c k) (eb l b)
+  beta-ext c l k b = ap₂ (λ (z : List ℕ) (x : Point). beta p key m2 (eqb c 0) z l ⊞ cond (eqb c h) x 𝟎) (es c k) (eb l b)
 
   formula-ext : (c l : ℕ) → c < side p → l < p .t → formulaWith p key m2 s α⋆ β⋆ h c l ≡ formulaWith p key m2 s′ α⋆′ β⋆′ h c l
   unfolding formulaWith
   formula-ext c l k b =
-      ap₂ (λ (α̂ β̂ : Point). partV p key m2 (eqb c 0) (s c) α̂ β̂ l)
-      (sum-ext (additive (points .base)) (λ c. alphaWith p key m2 s α⋆ β⋆ h c l) (λ c. alphaWith p key m2 s′ α⋆′ β⋆′ h c l) (side p)
-      (λ c k. alpha-ext c l k b))
-      (sum-ext (additive (points .base)) (λ c. betaWith p key m2 s α⋆ β⋆ h c l) (λ c. betaWith p key m2 s′ α⋆′ β⋆′ h c l) (side p)
-      (λ c k. beta-ext c l k b))
-      ∙ ap (λ (z : List ℕ). partV p key m2 (eqb c 0) z (sums (λ c. alphaWith p key m2 s′ α⋆′ β⋆′ h c l) (side p)) (sums (λ c. betaWith p key m2 s′ α⋆′ β⋆′ h c l) (side p)) l)
-      (es c k)
+      ap (λ (z : List ℕ). partV p key m2 (eqb c 0) z (sums (λ c. alphaWith p key m2 s α⋆ β⋆ h c l) (side p)) (sums (λ c. betaWith p key m2 s α⋆ β⋆ h c l) (side p)) l) (es c k)
+      ∙ ap₂ (λ (α̂ β̂ : Point). partV p key m2 (eqb c 0) (s′ c) α̂ β̂ l) (sum-ext (additive (points .base)) _ _ (side p) (λ c k. alpha-ext c l k b))
+      (sum-ext (additive (points .base)) _ _ (side p) (λ c k. beta-ext c l k b))
 
   v-ext : (c l : ℕ) → c < side p → l < p .t → vWith p key m2 s α⋆ β⋆ h c l ≡ vWith p key m2 s′ α⋆′ β⋆′ h c l
   unfolding vWith
   v-ext c l k b =
-      ap₂ (λ (x y : Point). cond (eqb c h) x y)
-      (sum-ext (additive (points .base)) (λ c. cond (eqb c h) 𝟎 (formulaWith p key m2 s α⋆ β⋆ h c l))
-      (λ c. cond (eqb c h) 𝟎 (formulaWith p key m2 s′ α⋆′ β⋆′ h c l)) (side p)
-      (λ c k. ap (cond (eqb c h) 𝟎) (formula-ext c l k b)))
-      (formula-ext c l k b)
+      ap₂ (cond (eqb c h)) (sum-ext (additive (points .base)) _ _ (side p) (λ c k. ap (cond (eqb c h) 𝟎) (formula-ext c l k b))) (formula-ext c l k b)
 
   pub with-ext : (c : ℕ) → c < side p
       → announcedBytes p (announcedWith p key m2 s α⋆ β⋆ h) c ≡ announcedBytes p (announcedWith p key m2 s′ α⋆′ β⋆′ h) c
