@@ -1,11 +1,12 @@
 -- The rows of all axes one after another, and the strings of layers 6 and 7 made of them.
 --
--- length-row, length-rows, row-at  a row has 24t bytes, and row j is found at its place
+-- length-row, length-rows          a row has 24t bytes
 -- rows-string                      rows that are those of the announcements of the axes give layer 7's string
+-- row-is                           a row depends on the sums of leaves and on the hidden leaf's α and β alone
 -- own-row, own-rows                the prover's parties: the rows give message 3
 -- opened-row                       the verifier's parties: a row is what its axis announces
 use mathlib.Core.Path.{_≡_, refl, sym, ap, _∙_}
-use mathlib.Core.List.{List, [], _∷_, append-nil}
+use mathlib.Core.List.{List, _∷_}
 use Prim.Native.Nat.{ℕ, _+_, _*_, _≤_, _<_}
 use native.Mathlib.Omega.{arith}
 use lib.ListN.{length, getD}
@@ -16,7 +17,7 @@ use Rattle.parameters.specs.declared.Parameters.{Parameters}
 use Rattle.exchange.specs.Layout.{side, levels, leaves, digit}
 use Rattle.exchange.specs.Layout.Laws.{side-is}
 use Rattle.exchange.specs.Sequences.{joined}
-use Rattle.exchange.specs.Sequences.Laws.{joined-ext, joined-at, length-joined}
+use Rattle.exchange.specs.Sequences.Laws.{joined-ext, length-joined}
 use Rattle.exchange.specs.Strings.{string, string6, string7}
 use Rattle.exchange.specs.Reading.{pointAt}
 use Rattle.exchange.specs.Reading.Laws.{pointAt-ext}
@@ -25,7 +26,9 @@ use Rattle.exchange.specs.Parties.{Announced, announcedBytes, axisString}
 use Rattle.exchange.specs.Parties.Laws.{length-announcedBytes}
 use Rattle.exchange.specs.Messages.{ownParty, ownAnnounced, message3}
 use Rattle.exchange.specs.Opening.{Exchange, alphaOf, betaOf, disclosed, announced}
+use Rattle.encoding.specs.Blocks.{blocks-at}
 use Rattle.axisdigests.specs.Rows.{rowsString}
+use Rattle.partyrows.specs.Row.{hiddenParty}
 use Rattle.partyrows.specs.Row.Laws.{hidden-inside, hidden-outside}
 use Rattle.axes.specs.Announcing.{announcedWith, partyFrom, rowOf}
 use Rattle.axes.specs.Announcing.Laws.{announced-with, own-announced, with-ext}
@@ -42,49 +45,38 @@ module _ (p : Parameters) (key : Key) (m2 parts : List ℕ) (leaf : ℕ) (hidden
   pub length-rows : length (joined (rowOf p key m2 parts leaf hidden) (p .d)) ≡ p .d * (24 * p .t)
   length-rows = length-joined (rowOf p key m2 parts leaf hidden) (p .d) (24 * p .t) (λ j h. length-row j)
 
-  row-at : (j : ℕ) → j < p .d
-      → part (joined (rowOf p key m2 parts leaf hidden) (p .d)) (j * (24 * p .t)) (24 * p .t) ≡ rowOf p key m2 parts leaf hidden j
-  unfolding part
-  row-at j h =
-      ap (λ (r : List ℕ). part r (j * (24 * p .t)) (24 * p .t)) (sym (append-nil (joined (rowOf p key m2 parts leaf hidden) (p .d))))
-      ∙ joined-at (rowOf p key m2 parts leaf hidden) (24 * p .t) (p .d) (λ j h. length-row j) [] j h
-
   pub rows-string : (hash : List ℕ → ℕ → List ℕ) (prefix : List ℕ) (A : ℕ → Announced)
       → ((j : ℕ) → j < p .d → rowOf p key m2 parts leaf hidden j ≡ joined (announcedBytes p (A j)) (side p))
       → rowsString hash p prefix (joined (rowOf p key m2 parts leaf hidden) (p .d))
       ≡ string7 prefix (λ j. hash (axisString p prefix j (A j)) 32) (p .d)
   unfolding string7 axisString string6
   rows-string hash prefix A same =
-      ap (string 7 prefix)
-      (joined-ext _ _ (p .d)
-      (λ j h. ap (λ (r : List ℕ). hash (string 6 prefix ((j + 1) ∷ r)) 32) (row-at j h ∙ same j h)))
+      ap (string 7 prefix) (joined-ext _ _ (p .d) (λ j h. ap (λ (r : List ℕ). hash (string 6 prefix ((j + 1) ∷ r)) 32)
+      (blocks-at (rowOf p key m2 parts leaf hidden) (24 * p .t) (p .d) _ j (λ j h. length-row j) h refl ∙ same j h)))
+
+  -- a row of parties with the same sums of leaves, and of a hidden leaf with the same α and β
+  row-is : (j z : ℕ) (s : ℕ → List ℕ) (α⋆ β⋆ : ℕ → Point) → hiddenParty p leaf j ≡ z → ((c : ℕ) → c < side p → partyFrom p parts j c ≡ s c)
+      → ((l : ℕ) → l < p .t → pointAt hidden (4 * l) ≡ α⋆ l) → ((l : ℕ) → l < p .t → pointAt hidden (4 * p .t + 4 * l) ≡ β⋆ l)
+      → rowOf p key m2 parts leaf hidden j ≡ joined (announcedBytes p (announcedWith p key m2 s α⋆ β⋆ z)) (side p)
+  unfolding rowOf
+  row-is j z s α⋆ β⋆ e es ea eb =
+      joined-ext _ _ (side p) (with-ext p key m2 (partyFrom p parts j) s (λ l. pointAt hidden (4 * l)) α⋆ (λ l. pointAt hidden (4 * p .t + 4 * l)) β⋆ _ es ea eb)
+      ∙ ap (λ (h : ℕ). joined (announcedBytes p (announcedWith p key m2 s α⋆ β⋆ h)) (side p)) e
 
 -- ---- the prover's parties
 
 module _ (hash : List ℕ → ℕ → List ℕ) (p : Parameters) (x salt root : List ℕ) (key : Key) (m2 parts : List ℕ) (leaf : ℕ) (hidden : List ℕ)
     (outside : leaves p ≤ leaf)
     (same : (j c : ℕ) → j < p .d → c < side p → partyFrom p parts j c ≡ ownParty hash p x salt root key m2 j c) where
-  α⋆ : ℕ → Point
-  α⋆ l = pointAt hidden (4 * l)
-
-  β⋆ : ℕ → Point
-  β⋆ l = pointAt hidden (4 * p .t + 4 * l)
-
   own-row : (j : ℕ) → j < p .d
       → rowOf p key m2 parts leaf hidden j ≡ joined (announcedBytes p (ownAnnounced hash p x salt root key m2 j)) (side p)
-  unfolding rowOf α⋆ β⋆
   own-row j h =
-      ap (λ (z : ℕ). joined (announcedBytes p (announcedWith p key m2 (partyFrom p parts j) α⋆ β⋆ z)) (side p)) (hidden-outside p leaf j outside)
-      ∙ joined-ext _ _ (side p)
-      (λ c k.
-      with-ext p key m2 (partyFrom p parts j) (ownParty hash p x salt root key m2 j) α⋆ α⋆ β⋆ β⋆ (side p) (λ c k. same j c h k) (λ l b. refl)
-      (λ l b. refl) c k
-      ∙ sym (own-announced hash p x salt root key m2 j α⋆ β⋆ c k))
+      row-is p key m2 parts leaf hidden j (side p) _ _ _ (hidden-outside p leaf j outside) (λ c k. same j c h k) (λ l b. refl) (λ l b. refl)
+      ∙ joined-ext _ _ (side p) (λ c k. sym (own-announced hash p x salt root key m2 j _ _ c k))
 
   pub own-rows : hash (rowsString hash p salt (joined (rowOf p key m2 parts leaf hidden) (p .d))) 32 ≡ message3 hash p x salt root key m2
   unfolding message3
-  own-rows =
-      ap (λ (s : List ℕ). hash s 32) (rows-string p key m2 parts leaf hidden hash salt (ownAnnounced hash p x salt root key m2) own-row)
+  own-rows = ap (λ (s : List ℕ). hash s 32) (rows-string p key m2 parts leaf hidden hash salt (ownAnnounced hash p x salt root key m2) own-row)
 
 -- ---- the verifier's parties
 
@@ -94,22 +86,14 @@ module _ (hash : List ℕ → ℕ → List ℕ) (p : Parameters) (e : Exchange) 
   read : (i : ℕ) → i + 4 ≤ 8 * p .t → pointAt hidden i ≡ pointAt (e .message5) (16 * levels p + 32 + i)
   read i h =
       pointAt-ext hidden (e .message5) i (16 * levels p + 32 + i)
-      (λ k b.
-      let q : 16 * levels p + 32 + (i + k) ≡ 16 * levels p + 32 + i + k = omega arith in
-      ap (λ (s : List ℕ). getD s (i + k) 0) lent ∙ getD-part (e .message5) (16 * levels p + 32) (8 * p .t) (i + k) (omega arith)
+      (λ k b. let q : 16 * levels p + 32 + (i + k) ≡ 16 * levels p + 32 + i + k = omega arith in ap (λ (s : List ℕ). getD s (i + k) 0) lent ∙ getD-part (e .message5) (16 * levels p + 32) (8 * p .t) (i + k) (omega arith)
       ∙ ap (λ (n : ℕ). getD (e .message5) n 0) q)
 
   pub opened-row : (j : ℕ) → j < p .d
       → rowOf p key (e .message2) parts (e .leaf) hidden j ≡ joined (announcedBytes p (announced hash p e key j)) (side p)
-  unfolding rowOf
   opened-row j h =
-      ap (λ (z : ℕ). joined (announcedBytes p (announcedWith p key (e .message2) (partyFrom p parts j) (λ l. pointAt hidden (4 * l)) (λ l. pointAt hidden (4 * p .t + 4 * l)) z)) (side p))
-      (hidden-inside p (e .leaf) j inside)
-      ∙ joined-ext _ _ (side p)
-      (λ c k.
-      with-ext p key (e .message2) (partyFrom p parts j) (disclosed hash p e j) (λ l. pointAt hidden (4 * l)) (alphaOf p e)
-      (λ l. pointAt hidden (4 * p .t + 4 * l)) (betaOf p e) (digit p j (e .leaf)) (λ c k. same j c h k) alphas betas c k
-      ∙ ap (λ (A : Announced). announcedBytes p A c) (sym (announced-with hash p e key j)))
+      row-is p key (e .message2) parts (e .leaf) hidden j (digit p j (e .leaf)) _ _ _ (hidden-inside p (e .leaf) j inside) (λ c k. same j c h k) alphas betas
+      ∙ ap (λ (A : Announced). joined (announcedBytes p A) (side p)) (sym (announced-with hash p e key j))
     where
       alphas : (l : ℕ) → l < p .t → pointAt hidden (4 * l) ≡ alphaOf p e l
       alphas l b = unfold alphaOf in read (4 * l) (omega arith)
