@@ -12,18 +12,10 @@ use Rattle.evaluation_c.proofs.count.Tie as tie
 abbrev back-to-start : tie.After-share-length → tie.Start
 back-to-start c = search
 
-shares-fit : (s : tie.Start) → s .args .n * shareLength (s .args .p) ≤ 9 * 860
-shares-fit s =
-    let w = s .pre .0 in
-    let m = w .m-most in
-    let k = w .k-most in
-    let l = w .w-most in
-    let t = w .t-most in
-    let h : shareLength (s .args .p) ≤ 860 = omega arith in
-    mul-le-mul (s .pre .1) h
-
-shares-fit-by : (d : tie.After-share-length) → back-to-start d .args .n * d .share-length .result ≤ 7740
-shares-fit-by d = let s = back-to-start d in let e = ap (λ (k : ℕ). s .args .n * k) (d .share-length .ensures) in let h = shares-fit s in omega arith
+shares-fit : (d : tie.After-share-length) → back-to-start d .args .n * d .share-length .result ≤ 9 * 860
+shares-fit d =
+    let (w, few) = back-to-start d .pre in
+    let h : d .share-length .result ≤ 860 = omega (arith, d .share-length .ensures) in mul-le-mul few h
 
 rows-fit : (s : tie.Start) → (s .args .n + 1) * s .args .p .m ≤ 10 * 255
 rows-fit s = let a : s .args .n + 1 ≤ 10 = omega (arith, s .pre .1) in mul-le-mul a (s .pre .0 .m-most)
@@ -37,13 +29,11 @@ announce-each-requires c κs =
     let p : tie.After-power-table = search in
     let l : tie.After-log-table = search in
     let s = back-to-start d in
-    let w = s .pre .0 in
-    let t = w .t-most in
-    let few = s .pre .1 in (
+    let (w, few) = s .pre in (
       record {
         within = w;
         few = omega arith;
-        sized-shares = sym (front-length _ _ (shares-fit-by d)) ∙ ap (λ (k : ℕ). s .args .n * k) (d .share-length .ensures);
+        sized-shares = sym (front-length _ _ (shares-fit d)) ∙ ap (λ (k : ℕ). s .args .n * k) (d .share-length .ensures);
         sized-rows = sym (front-length _ _ (rows-fit s));
         sized-m2 = sym (front-length _ _ (omega arith));
         sized-out = sym (front-length _ _ (out-fits s));
@@ -56,10 +46,10 @@ pub count-spec : {M : Type 1} → statement M
 count-spec =
     tie.close
     (tie.spec (λ c κs. search needs) (λ c κs. search needs) (λ c κs. search needs)
-    (λ c. let d : tie.After-share-length = search in let h = shares-fit-by d in omega arith) (λ c. search needs)
+    (λ c. let d : tie.After-share-length = search in let h = shares-fit d in omega arith) (λ c. search needs)
     (λ c. let d : tie.After-share-length = search in let h = rows-fit (back-to-start d) in omega arith) (λ c. search needs) (λ c. search needs)
     (λ c. let d : tie.After-share-length = search in let h = out-fits (back-to-start d) in omega arith)
-    (λ c. let d : tie.After-share-length = search in shares-fit-by d) (λ c. let d : tie.After-share-length = search in front-length _ _ (shares-fit-by d))
+    (λ c. let d : tie.After-share-length = search in shares-fit d) (λ c. let d : tie.After-share-length = search in front-length _ _ (shares-fit d))
     (λ c. let d : tie.After-share-length = search in rows-fit (back-to-start d))
     (λ c. let d : tie.After-share-length = search in front-length _ _ (rows-fit (back-to-start d))) (λ c. search needs)
     (λ c. let d : tie.After-share-length = search in let t = back-to-start d .pre .0 .t-most in front-length _ _ (omega arith))
