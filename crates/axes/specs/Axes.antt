@@ -23,14 +23,14 @@ use Rattle.exchange.specs.Layout.{bits, leaves, digit}
 use Rattle.exchange.specs.Layout.Laws.{digit-lt}
 use Rattle.exchange.specs.Sequences.{joined}
 use Rattle.exchange.specs.Sequences.Laws.{joined-ext}
-use Rattle.exchange.specs.Reading.{points, bytesAt, pointAt, encode}
+use Rattle.exchange.specs.Reading.{points, bytesAt, pointAt, encode, _⊞_}
 use Rattle.exchange.specs.Reading.Laws.{bytesAt-part, length-encode, encode-ext}
 use Rattle.exchange.specs.Values.{Key, alpha, beta}
 use Rattle.values.specs.Announced.{announcedOf}
 use Rattle.values.specs.Filled.{filled-block}
 use Rattle.sidebyside.specs.Shares.{shareOf}
 use Rattle.values.specs.Shares.{blockOf}
-use Rattle.partyrows.specs.Difference.{encode-xor, shareRow}
+use Rattle.partyrows.specs.Difference.{encode-xor, front-xor, shareRow}
 use Rattle.partyrows.specs.Row.{frontBy, rowBy, hiddenParty, withHidden, sumsBy, axisBy}
 use Rattle.partyrows.specs.Row.Laws.{frontBy-is, rowBy-is}
 use Rattle.axes.specs.Announcing.{partyFrom, rowOf}
@@ -105,10 +105,8 @@ module _ (p : Parameters) (key : Key) (m2 parts : List ℕ) (leaf : ℕ) (hidden
           → cond b (xorList (frontBy p (blockOf p blocks (p .d))) hidden) (frontBy p (blockOf p blocks (p .d)))
           ≡ encode (hatAlpha p key m2 all α⋆ b) (p .t) ++ encode (hatBeta p key m2 all β⋆ b) (p .t)
       go true =
-          ap₂ xorList all-is hidden-is
-          ∙ xorList-append (encode (alpha p key m2 true all) (p .t)) (encode α⋆ (p .t)) (encode (beta p key m2 true all) (p .t)) (encode β⋆ (p .t))
-          (length-encode _ (p .t) ∙ sym (length-encode _ (p .t)))
-          ∙ ap₂ _++_ (encode-xor _ _ (p .t)) (encode-xor _ _ (p .t))
+          ap₂ xorList all-is hidden-is ∙ front-xor _ _ (p .t) _ _
+          ∙ ap (λ (z : List ℕ). encode (λ l. alpha p key m2 true all l ⊞ α⋆ l) (p .t) ++ z) (encode-xor _ _ (p .t))
       go false = all-is ∙ ap₂ _++_ (encode-ext _ _ (p .t) (λ l h. sym (points .base .add-zero _))) (encode-ext _ _ (p .t) (λ l h. sym (points .base .add-zero _)))
 
   -- the row of share i of the D + 1

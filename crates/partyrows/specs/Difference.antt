@@ -1,6 +1,6 @@
 -- The announcements of an axis's two parties, by differences: each is additive in the share, and the constants cancel.
 --
--- encode-xor                   sums of points are sums of their bytes
+-- encode-xor, front-xor        sums of points are sums of their bytes, also in front of others
 -- shareRow p key m2 first s α̂ β̂   α, β and v of the share s at all positions, with the constants where `first`
 -- alpha-difference, beta-difference, partV-difference   the second party: those of all leaves and of the first party, both with the constants
 -- row-difference               the same of the row
@@ -28,6 +28,11 @@ encode-xor f g zero = refl
 encode-xor f g (suc n) =
     xorList-append (encode f n) (encode g n) (bytesOf (f n)) (bytesOf (g n)) (length-encode f n ∙ sym (length-encode g n))
     ∙ ap (λ (z : List ℕ). z ++ bytesOf (f n ⊞ g n)) (encode-xor f g n)
+
+-- the same of the front of two lists
+pub front-xor : (f g : ℕ → Point) (n : ℕ) (x y : List ℕ) → xorList (encode f n ++ x) (encode g n ++ y) ≡ encode (λ l. f l ⊞ g l) n ++ xorList x y
+front-xor f g n x y =
+    xorList-append (encode f n) (encode g n) x y (length-encode f n ∙ sym (length-encode g n)) ∙ ap (λ (z : List ℕ). z ++ xorList x y) (encode-xor f g n)
 
 -- ---- a share's row
 
@@ -62,10 +67,6 @@ module _ (p : Parameters) (key : Key) (m2 all s : List ℕ) where
       → xorList (shareRow p key m2 true all α̂ β̂) (shareRow p key m2 true s α̂ β̂) ≡ shareRow p key m2 false (xorList all s) α̂ β̂
   unfolding shareRow
   row-difference α̂ β̂ =
-      xorList-append (encode (alpha p key m2 true all) (p .t)) (encode (alpha p key m2 true s) (p .t)) _ _
-      (length-encode (alpha p key m2 true all) (p .t) ∙ sym (length-encode (alpha p key m2 true s) (p .t)))
-      ∙ ap₂ _++_ (encode-xor _ _ (p .t) ∙ encode-ext _ _ (p .t) (λ l h. sym (alpha-difference l)))
-      (xorList-append (encode (beta p key m2 true all) (p .t)) (encode (beta p key m2 true s) (p .t)) _ _
-      (length-encode (beta p key m2 true all) (p .t) ∙ sym (length-encode (beta p key m2 true s) (p .t)))
-      ∙ ap₂ _++_ (encode-xor _ _ (p .t) ∙ encode-ext _ _ (p .t) (λ l h. sym (beta-difference l)))
+      front-xor _ _ (p .t) _ _ ∙ ap₂ _++_ (encode-ext _ _ (p .t) (λ l h. sym (alpha-difference l)))
+      (front-xor _ _ (p .t) _ _ ∙ ap₂ _++_ (encode-ext _ _ (p .t) (λ l h. sym (beta-difference l)))
       (encode-xor _ _ (p .t) ∙ encode-ext _ _ (p .t) (λ l h. sym (partV-difference (α̂ l) (β̂ l) l))))

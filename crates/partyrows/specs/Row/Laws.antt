@@ -25,7 +25,7 @@ use Rattle.exchange.specs.Values.{Key, alpha, beta, partV}
 use Rattle.exchange.specs.Parties.{sums}
 use Rattle.values.specs.Announced.{gamma, announcedOf, vOf}
 use Rattle.values.specs.Announced.Laws.{partV-gamma}
-use Rattle.partyrows.specs.Difference.{encode-xor, shareRow}
+use Rattle.partyrows.specs.Difference.{front-xor, encode-xor, shareRow}
 use Rattle.partyrows.specs.Row.{frontBy, vAt, vBy, rowBy, hiddenParty, hideIn}
 
 -- ---- points behind others
@@ -39,10 +39,7 @@ at-end before f t i l e h =
     ap (λ (z : List ℕ). pointAt (before ++ z) (i + 4 * l)) (sym (append-nil (encode f t))) ∙ pointAt-encode before f t [] i l e h
 
 two-lengths : (f g : ℕ → Point) (t : ℕ) → length (encode f t ++ encode g t) ≡ 8 * t
-two-lengths f g t =
-    let a = length-encode f t in
-    let b = length-encode g t in
-    length-append (encode f t) (encode g t) ∙ omega arith
+two-lengths f g t = length-append (encode f t) (encode g t) ∙ omega (arith, length-encode f t, length-encode g t)
 
 -- ---- a share's row
 
@@ -51,8 +48,7 @@ pub v-read : (p : Parameters) (s block sums : List ℕ) (l : ℕ) (γ α̂ β̂ 
     → r ≡ bytesOf (vOf p s true (point γ) (point α̂) (point β̂) l) → r ≡ bytesOf (vAt p s block sums l)
 unfolding vAt
 v-read p s block sums l γ α̂ β̂ r eγ eα eβ er =
-    er
-    ∙ ap (λ (x : Point). bytesOf (vOf p s true x (point α̂) (point β̂) l)) (ap point eγ ∙ point-bytesOf _)
+    er ∙ ap (λ (x : Point). bytesOf (vOf p s true x (point α̂) (point β̂) l)) (ap point eγ ∙ point-bytesOf _)
     ∙ ap₂ (λ (x y : Point). bytesOf (vOf p s true (pointAt block (8 * p .t + 4 * l)) x y l)) (ap point eα ∙ point-bytesOf _) (ap point eβ ∙ point-bytesOf _)
 
 module _ (p : Parameters) (key : Key) (m2 s : List ℕ) where
@@ -67,9 +63,7 @@ module _ (p : Parameters) (key : Key) (m2 s : List ℕ) where
       → vBy p s block sums ≡ encode (λ l. partV p key m2 true s (α̂ l) (β̂ l) l) (p .t)
   unfolding vBy vAt announcedOf
   vBy-is block sums α̂ β̂ eb es =
-      encode-ext _ _ (p .t)
-      (λ l h.
-      ap (λ (x : Point). vOf p s true x (pointAt sums (4 * l)) (pointAt sums (4 * p .t + 4 * l)) l) (third l h)
+      encode-ext _ _ (p .t) (λ l h. ap (λ (x : Point). vOf p s true x (pointAt sums (4 * l)) (pointAt sums (4 * p .t + 4 * l)) l) (third l h)
       ∙ ap₂ (λ (x y : Point). vOf p s true (gamma p m2 s l) x y l)
       (ap (λ (z : List ℕ). pointAt z (4 * l)) es ∙ at-start α̂ (p .t) l (encode β̂ (p .t)) h)
       (ap (λ (z : List ℕ). pointAt z (4 * p .t + 4 * l)) es ∙ at-end (encode α̂ (p .t)) β̂ (p .t) (4 * p .t) l (length-encode α̂ (p .t)) h)
@@ -77,10 +71,8 @@ module _ (p : Parameters) (key : Key) (m2 s : List ℕ) where
     where
       third : (l : ℕ) → l < p .t → pointAt block (8 * p .t + 4 * l) ≡ gamma p m2 s l
       third l h =
-          ap (λ (z : List ℕ). pointAt z (8 * p .t + 4 * l))
-          (eb ∙ sym (append-assoc (encode (alpha p key m2 true s) (p .t)) (encode (beta p key m2 true s) (p .t)) (encode (gamma p m2 s) (p .t))))
-          ∙ at-end (encode (alpha p key m2 true s) (p .t) ++ encode (beta p key m2 true s) (p .t)) (gamma p m2 s) (p .t) (8 * p .t) l
-          (two-lengths _ _ (p .t)) h
+          ap (λ (z : List ℕ). pointAt z (8 * p .t + 4 * l)) (eb ∙ sym (append-assoc (encode (alpha p key m2 true s) (p .t)) (encode (beta p key m2 true s) (p .t)) _))
+          ∙ at-end (encode (alpha p key m2 true s) (p .t) ++ encode (beta p key m2 true s) (p .t)) (gamma p m2 s) (p .t) (8 * p .t) l (two-lengths _ _ (p .t)) h
 
   pub rowBy-is : (block sums : List ℕ) (α̂ β̂ : ℕ → Point) → block ≡ announcedOf p key m2 true s
       → sums ≡ encode α̂ (p .t) ++ encode β̂ (p .t) → rowBy p s block sums ≡ shareRow p key m2 true s α̂ β̂
@@ -101,39 +93,28 @@ module _ (p : Parameters) (leaf j : ℕ) where
   hidden-outside h = ap (λ (b : Bool). cond b (digit p j leaf) (side p)) (le-ltb leaf (leaves p) h)
 
 module _ (p : Parameters) (f g v f′ g′ v′ α⋆ β⋆ : ℕ → Point) (hidden : List ℕ) (eh : hidden ≡ encode α⋆ (p .t) ++ encode β⋆ (p .t)) where
-  summed : xorList (encode f (p .t) ++ (encode g (p .t) ++ encode v (p .t))) hidden
-      ≡ (encode (λ l. f l ⊞ α⋆ l) (p .t) ++ encode (λ l. g l ⊞ β⋆ l) (p .t)) ++ encode v (p .t)
+  abbrev e : (ℕ → Point) → List ℕ
+  e h = encode h (p .t)
+
+  -- α and β of the row, with the hidden leaf's
+  abbrev front : List ℕ
+  front = e (λ l. f l ⊞ α⋆ l) ++ e (λ l. g l ⊞ β⋆ l)
+
+  summed : xorList (e f ++ (e g ++ e v)) hidden ≡ front ++ e v
   summed =
-      ap₂ xorList
-      (sym (append-assoc (encode f (p .t)) (encode g (p .t)) (encode v (p .t))))
-      (eh ∙ sym (append-nil (encode α⋆ (p .t) ++ encode β⋆ (p .t))))
-      ∙ xorList-append (encode f (p .t) ++ encode g (p .t)) (encode α⋆ (p .t) ++ encode β⋆ (p .t)) (encode v (p .t)) []
-      (two-lengths f g (p .t) ∙ sym (two-lengths α⋆ β⋆ (p .t)))
-      ∙ ap₂ _++_
-      (xorList-append (encode f (p .t)) (encode α⋆ (p .t)) (encode g (p .t)) (encode β⋆ (p .t)) (length-encode f (p .t) ∙ sym (length-encode α⋆ (p .t)))
-      ∙ ap₂ _++_ (encode-xor f α⋆ (p .t)) (encode-xor g β⋆ (p .t)))
-      (xorList-nil (encode v (p .t)))
+      ap (xorList (e f ++ (e g ++ e v))) eh ∙ front-xor f α⋆ (p .t) _ _
+      ∙ ap (λ (z : List ℕ). e (λ l. f l ⊞ α⋆ l) ++ z) (ap (xorList (e g ++ e v)) (sym (append-nil (e β⋆))) ∙ front-xor g β⋆ (p .t) (e v) []
+      ∙ ap (λ (z : List ℕ). e (λ l. g l ⊞ β⋆ l) ++ z) (xorList-nil (e v)))
+      ∙ sym (append-assoc (e (λ l. f l ⊞ α⋆ l)) (e (λ l. g l ⊞ β⋆ l)) (e v))
 
-  last : drop (8 * p .t) (encode f′ (p .t) ++ (encode g′ (p .t) ++ encode v′ (p .t))) ≡ encode v′ (p .t)
-  last =
-      ap (drop (8 * p .t)) (sym (append-assoc (encode f′ (p .t)) (encode g′ (p .t)) (encode v′ (p .t))))
-      ∙ drop-at (encode f′ (p .t) ++ encode g′ (p .t)) (encode v′ (p .t)) (8 * p .t) (two-lengths f′ g′ (p .t))
+  last : drop (8 * p .t) (e f′ ++ (e g′ ++ e v′)) ≡ e v′
+  last = ap (drop (8 * p .t)) (sym (append-assoc (e f′) (e g′) (e v′))) ∙ drop-at (e f′ ++ e g′) (e v′) (8 * p .t) (two-lengths f′ g′ (p .t))
 
-  pub hide-made : hideIn p hidden (encode f (p .t) ++ (encode g (p .t) ++ encode v (p .t))) (encode f′ (p .t) ++ (encode g′ (p .t) ++ encode v′ (p .t)))
-      ≡ encode (λ l. f l ⊞ α⋆ l) (p .t) ++ (encode (λ l. g l ⊞ β⋆ l) (p .t) ++ encode v′ (p .t))
+  pub hide-made : hideIn p hidden (e f ++ (e g ++ e v)) (e f′ ++ (e g′ ++ e v′)) ≡ e (λ l. f l ⊞ α⋆ l) ++ (e (λ l. g l ⊞ β⋆ l) ++ e v′)
   unfolding hideIn putAt
   hide-made =
+      let n : length front ≡ 8 * p .t = two-lengths _ _ (p .t) in
+      let short : length (front ++ e v) ≤ 8 * p .t + length (e v′) = omega (arith, length-append front (e v), length-encode v (p .t), length-encode v′ (p .t)) in
       ap₂ (λ (d s : List ℕ). take (8 * p .t) d ++ (s ++ drop (8 * p .t + length s) d)) summed last
-      ∙ ap₂ (λ (a b : List ℕ). a ++ (encode v′ (p .t) ++ b))
-      (take-at (encode (λ l. f l ⊞ α⋆ l) (p .t) ++ encode (λ l. g l ⊞ β⋆ l) (p .t)) (encode v (p .t)) (8 * p .t) (two-lengths _ _ (p .t)))
-      (drop-of-length-le ((encode (λ l. f l ⊞ α⋆ l) (p .t) ++ encode (λ l. g l ⊞ β⋆ l) (p .t)) ++ encode v (p .t)) short)
-      ∙ ap (λ (z : List ℕ). (encode (λ l. f l ⊞ α⋆ l) (p .t) ++ encode (λ l. g l ⊞ β⋆ l) (p .t)) ++ z) (append-nil (encode v′ (p .t)))
-      ∙ append-assoc (encode (λ l. f l ⊞ α⋆ l) (p .t)) (encode (λ l. g l ⊞ β⋆ l) (p .t)) (encode v′ (p .t))
-    where
-      short : length ((encode (λ l. f l ⊞ α⋆ l) (p .t) ++ encode (λ l. g l ⊞ β⋆ l) (p .t)) ++ encode v (p .t)) ≤ 8 * p .t + length (encode v′ (p .t))
-      short =
-          let a = two-lengths (λ l. f l ⊞ α⋆ l) (λ l. g l ⊞ β⋆ l) (p .t) in
-          let b = length-encode v (p .t) in
-          let c = length-encode v′ (p .t) in
-          let e = length-append (encode (λ l. f l ⊞ α⋆ l) (p .t) ++ encode (λ l. g l ⊞ β⋆ l) (p .t)) (encode v (p .t)) in
-          omega arith
+      ∙ ap₂ (λ (a b : List ℕ). a ++ (e v′ ++ b)) (take-at front (e v) (8 * p .t) n) (drop-of-length-le (front ++ e v) short)
+      ∙ ap (λ (z : List ℕ). front ++ z) (append-nil (e v′)) ∙ append-assoc (e (λ l. f l ⊞ α⋆ l)) (e (λ l. g l ⊞ β⋆ l)) (e v′)
