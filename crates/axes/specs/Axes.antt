@@ -16,7 +16,6 @@ use lib.ListN.{length, getD, take, drop, take-append-drop, length-drop}
 use lib.Seq.{take-all}
 use Rattle.lists.specs.Part.{part}
 use Rattle.lists.specs.Sum.{xorList}
-use Rattle.lists.specs.Sum.Laws.{xorList-append}
 use Rattle.tower.specs.Field.{Point, bytesOf, bytesOf-point}
 use Rattle.parameters.specs.declared.Parameters.{Parameters}
 use Rattle.exchange.specs.Layout.{bits, leaves, digit}
@@ -24,7 +23,7 @@ use Rattle.exchange.specs.Layout.Laws.{digit-lt}
 use Rattle.exchange.specs.Sequences.{joined}
 use Rattle.exchange.specs.Sequences.Laws.{joined-ext}
 use Rattle.exchange.specs.Reading.{points, bytesAt, pointAt, encode, _⊞_}
-use Rattle.exchange.specs.Reading.Laws.{bytesAt-part, length-encode, encode-ext}
+use Rattle.exchange.specs.Reading.Laws.{bytesAt-part, encode-ext}
 use Rattle.exchange.specs.Values.{Key, alpha, beta}
 use Rattle.values.specs.Announced.{announcedOf}
 use Rattle.values.specs.Filled.{filled-block}

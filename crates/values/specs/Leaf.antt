@@ -7,21 +7,20 @@
 -- leaf-made                  it is the front of what the share announces
 use mathlib.Core.Path.{_≡_, refl, sym, ap, _∙_}
 use mathlib.Core.Bool.{false}
-use mathlib.Core.List.{List, [], _++_, append-assoc}
+use mathlib.Core.List.{List, [], _++_}
 use Prim.Native.Nat.{ℕ, _+_, _-_, _*_}
 use native.Mathlib.Nat.{le-of-eq, zero-mul}
 use native.Mathlib.Omega.{arith}
-use lib.ListN.{length, take, length-append}
-use lib.Seq.{take-at}
+use lib.ListN.{length, take}
 use Rattle.lists.specs.Part.{part}
 use Rattle.lists.specs.Part.Laws.{part-whole}
 use Rattle.parameters.specs.declared.Parameters.{Parameters}
 use Rattle.parameters.specs.Limits.{Within}
 use Rattle.exchange.specs.Layout.{shareLength, message2Length}
 use Rattle.exchange.specs.Reading.{encode}
-use Rattle.exchange.specs.Reading.Laws.{length-encode}
 use Rattle.exchange.specs.Values.{Key, keyOf, imageOf, xOf, SOf, alpha, beta}
 use Rattle.values.specs.Announced.{announcedOf}
+use Rattle.values.specs.Announced.Laws.{announced-front}
 use Rattle.values.specs.Shares.{Announcements}
 
 unfoldable pub leafValues : Parameters → List ℕ → List ℕ → List ℕ → List ℕ
@@ -46,11 +45,7 @@ leafValues-any p key m2 s = refl
 
 pub leaf-made : (p : Parameters) (key : Key) (m2 s u : List ℕ) → length s ≡ shareLength p → length u ≡ 12 * p .t → Announcements p key m2 false s 1 u
     → take (8 * p .t) u ≡ leafValues p (key .matrix) m2 s
-unfolding announcedOf
 leaf-made p key m2 s u ls lu h =
-    let α : List ℕ = encode (alpha p key m2 false s) (p .t) in
-    let β : List ℕ = encode (beta p key m2 false s) (p .t) in
-    let n : length (α ++ β) ≡ 8 * p .t = length-append α β ∙ omega (arith, length-encode (alpha p key m2 false s) (p .t), length-encode (beta p key m2 false s) (p .t)) in
     let own = ap (λ (i : ℕ). part s i (shareLength p)) (zero-mul (shareLength p)) ∙ part-whole s (shareLength p) (le-of-eq ls) in
     let first = sym (part-whole u (12 * p .t) (le-of-eq lu)) ∙ ap (λ (i : ℕ). part u i (12 * p .t)) (sym (zero-mul (12 * p .t))) in
-    ap (take (8 * p .t)) (first ∙ h 0 (omega arith) ∙ ap (announcedOf p key m2 false) own ∙ sym (append-assoc α β _)) ∙ take-at (α ++ β) _ (8 * p .t) n ∙ sym (leafValues-any p key m2 s)
+    ap (take (8 * p .t)) (first ∙ h 0 (omega arith) ∙ ap (announcedOf p key m2 false) own) ∙ announced-front p key m2 false s ∙ sym (leafValues-any p key m2 s)

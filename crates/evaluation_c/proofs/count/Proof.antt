@@ -1,10 +1,9 @@
 -- The arrays have room for nine shares at all parameters.
-use mathlib.Core.Path.{_≡_, sym, ap, _∙_}
+use mathlib.Core.Path.{sym, ap, _∙_}
 use Prim.Native.Nat.{ℕ, _+_, _*_, _≤_}
 use native.Mathlib.Nat.{mul-le-mul}
 use native.Mathlib.Omega.{arith}
 use borrow.Author.Needs.{needs}
-use Rattle.exchange.specs.Layout.{shareLength}
 use Rattle.encoding.specs.Written.{front-length}
 use Rattle.evaluation_c.proofs.count.Statement.{statement}
 use Rattle.evaluation_c.proofs.count.Tie as tie

@@ -2,7 +2,6 @@
 --
 -- v-read                               v from points that are read at their places
 -- frontBy-is, vBy-is, rowBy-is         the row of a share, from its block
--- two-lengths                          two lists of points take 8t bytes
 -- hidden-inside, hidden-outside        the party that holds the hidden leaf, and where none is hidden
 -- hide-made                            the row of the party that holds the hidden leaf, in points
 use mathlib.Core.Path.{_≡_, refl, sym, ap, ap₂, _∙_}
@@ -15,7 +14,7 @@ use lib.ListN.{length, take, drop, length-append, drop-of-length-le}
 use lib.Seq.{take-at, drop-at}
 use Rattle.lists.specs.Part.{putAt}
 use Rattle.lists.specs.Sum.{xorList}
-use Rattle.lists.specs.Sum.Laws.{xorList-append, xorList-nil}
+use Rattle.lists.specs.Sum.Laws.{xorList-nil}
 use Rattle.tower.specs.Field.{Point, point, bytesOf, point-bytesOf}
 use Rattle.parameters.specs.declared.Parameters.{Parameters}
 use Rattle.exchange.specs.Layout.{side, leaves, digit}
@@ -24,8 +23,8 @@ use Rattle.exchange.specs.Reading.Laws.{length-encode, encode-ext, pointAt-enco
 use Rattle.exchange.specs.Values.{Key, alpha, beta, partV}
 use Rattle.exchange.specs.Parties.{sums}
 use Rattle.values.specs.Announced.{gamma, announcedOf, vOf}
-use Rattle.values.specs.Announced.Laws.{partV-gamma}
-use Rattle.partyrows.specs.Difference.{front-xor, encode-xor, shareRow}
+use Rattle.values.specs.Announced.Laws.{two-lengths, announced-front, partV-gamma}
+use Rattle.partyrows.specs.Difference.{front-xor, shareRow}
 use Rattle.partyrows.specs.Row.{frontBy, vAt, vBy, rowBy, hiddenParty, hideIn}
 
 -- ---- points behind others
@@ -37,9 +36,6 @@ at-start f t l after h =
 at-end : (before : List ℕ) (f : ℕ → Point) (t i l : ℕ) → length before ≡ i → l < t → pointAt (before ++ encode f t) (i + 4 * l) ≡ f l
 at-end before f t i l e h =
     ap (λ (z : List ℕ). pointAt (before ++ z) (i + 4 * l)) (sym (append-nil (encode f t))) ∙ pointAt-encode before f t [] i l e h
-
-two-lengths : (f g : ℕ → Point) (t : ℕ) → length (encode f t ++ encode g t) ≡ 8 * t
-two-lengths f g t = length-append (encode f t) (encode g t) ∙ omega (arith, length-encode f t, length-encode g t)
 
 -- ---- a share's row
 
@@ -54,10 +50,8 @@ v-read p s block sums l γ α̂ β̂ r eγ eα eβ er =
 module _ (p : Parameters) (key : Key) (m2 s : List ℕ) where
   pub frontBy-is : (block : List ℕ) → block ≡ announcedOf p key m2 true s
       → frontBy p block ≡ encode (alpha p key m2 true s) (p .t) ++ encode (beta p key m2 true s) (p .t)
-  unfolding frontBy announcedOf
-  frontBy-is block eb =
-      ap (take (8 * p .t)) (eb ∙ sym (append-assoc (encode (alpha p key m2 true s) (p .t)) (encode (beta p key m2 true s) (p .t)) _))
-      ∙ take-at (encode (alpha p key m2 true s) (p .t) ++ encode (beta p key m2 true s) (p .t)) _ (8 * p .t) (two-lengths _ _ (p .t))
+  unfolding frontBy
+  frontBy-is block eb = ap (take (8 * p .t)) eb ∙ announced-front p key m2 true s
 
   vBy-is : (block sums : List ℕ) (α̂ β̂ : ℕ → Point) → block ≡ announcedOf p key m2 true s → sums ≡ encode α̂ (p .t) ++ encode β̂ (p .t)
       → vBy p s block sums ≡ encode (λ l. partV p key m2 true s (α̂ l) (β̂ l) l) (p .t)

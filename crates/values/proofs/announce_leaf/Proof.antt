@@ -10,8 +10,12 @@ announce-single-requires : tie.Need-announce-single-requires
 announce-single-requires c κs =
     let s : tie.Start = search in
     let (f, el, ep) = s .pre in
-    let w = f .within in
-    (f, record { sized-y = sym (front-length _ _ (omega arith)); sized-rows = sym (front-length _ _ (omega arith)); sized-block = sym (front-length _ _ (omega arith)) }, el, ep)
+    let w = f .within in (
+      f,
+      record { sized-y = sym (front-length _ _ (omega arith)); sized-rows = sym (front-length _ _ (omega arith)); sized-block = sym (front-length _ _ (omega arith)) },
+      el,
+      ep,
+    )
 
 pub announce-leaf-spec : {M : Type 1} → statement M
 announce-leaf-spec =
