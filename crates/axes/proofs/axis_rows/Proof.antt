@@ -2,32 +2,24 @@
 use mathlib.Core.Path.{sym}
 use native.Mathlib.Omega.{arith}
 use borrow.Author.Needs.{needs}
+use lib.Seq.{length-take-le}
 use Rattle.encoding.specs.Written.{front-length}
 use Rattle.axes.specs.Asked.Laws.{blocks-fit}
 use Rattle.axes.proofs.axis_rows.Statement.{statement}
 use Rattle.axes.proofs.axis_rows.Tie as tie
 
-front-fits : tie.Need-slice-aggregate-axis-rows-with-2
-front-fits c = let s : tie.Start = search in front-length _ _ (omega (arith, s .pre .0 .within .t-most))
-
 axis-rows-with-requires : tie.Need-axis-rows-with-requires
 axis-rows-with-requires c κs =
     let s : tie.Start = search in
-    let w = s .pre .0 .within in (
-      s .pre .0,
-      record {
-        sized-blocks = sym (front-length _ _ (blocks-fit _ w));
-        sized-sums = sym (front-length _ _ (omega (arith, w .t-most)));
-        sized-total = sym (front-length _ _ (omega (arith, w .t-most)));
-      },
-      s .pre .1,
-      s .pre .2,
-    )
+    let (f, l, p) = s .pre in
+    let w = f .within in
+    (f, record { sized-blocks = length-take-le _ _ (blocks-fit _ w); sized-sums = length-take-le _ _ (omega arith); sized-total = length-take-le _ _ (omega arith) }, l, p)
 
 pub axis-rows-spec : {M : Type 1} → statement M
 axis-rows-spec =
     tie.close
     (tie.spec (λ c. search needs) (λ c. search needs) (λ c. search needs) (λ c. search needs) (λ c. search needs)
     (λ c. let s : tie.Start = search in blocks-fit _ (s .pre .0 .within)) (λ c. let s : tie.Start = search in front-length _ _ (blocks-fit _ (s .pre .0 .within)))
-    (λ c. search needs) front-fits (λ c. search needs)
+    (λ c. search needs)
+    (λ c. let s : tie.Start = search in front-length _ _ (omega (arith, s .pre .0 .within .t-most))) (λ c. search needs)
     (λ c. let s : tie.Start = search in front-length _ _ (omega (arith, s .pre .0 .within .t-most))) axis-rows-with-requires (λ c. search needs) (λ c. search needs))

@@ -1,5 +1,5 @@
 -- The arrays have room for all parameters.
-use mathlib.Core.Path.{sym}
+use lib.Seq.{length-take-le}
 use native.Mathlib.Omega.{arith}
 use borrow.Author.Needs.{needs}
 use Rattle.encoding.specs.Written.{front-length}
@@ -10,12 +10,8 @@ announce-single-requires : tie.Need-announce-single-requires
 announce-single-requires c κs =
     let s : tie.Start = search in
     let (f, el, ep) = s .pre in
-    let w = f .within in (
-      f,
-      record { sized-y = sym (front-length _ _ (omega arith)); sized-rows = sym (front-length _ _ (omega arith)); sized-block = sym (front-length _ _ (omega arith)) },
-      el,
-      ep,
-    )
+    let w = f .within in
+    (f, record { sized-y = length-take-le _ _ (omega arith); sized-rows = length-take-le _ _ (omega arith); sized-block = length-take-le _ _ (omega arith) }, el, ep)
 
 pub announce-leaf-spec : {M : Type 1} → statement M
 announce-leaf-spec =
