@@ -4,9 +4,15 @@ use Prim.Native.Nat.{ℕ, _+_, _*_, _≤_}
 use native.Mathlib.Nat.{mul-le-mul}
 use native.Mathlib.Omega.{arith}
 use borrow.Author.Needs.{needs}
+use mathlib.Core.List.{List}
+use lib.ListN.{replicate}
+use lib.Seq.{length-take-le}
 use Rattle.encoding.specs.Written.{front-length}
 use Rattle.evaluation_c.proofs.count.Statement.{statement}
 use Rattle.evaluation_c.proofs.count.Tie as tie
+
+abbrev zeros : ℕ → List ℕ
+zeros n = replicate n 0
 
 abbrev back-to-start : tie.After-share-length → tie.Start
 back-to-start c = search
@@ -28,18 +34,12 @@ announce-each-requires c κs =
     let p : tie.After-power-table = search in
     let l : tie.After-log-table = search in
     let s = back-to-start d in
-    let (w, few) = s .pre in (
-      record {
-        within = w;
-        few = omega arith;
-        sized-shares = sym (front-length _ _ (shares-fit d)) ∙ ap (λ (k : ℕ). s .args .n * k) (d .share-length .ensures);
-        sized-rows = sym (front-length _ _ (rows-fit s));
-        sized-m2 = sym (front-length _ _ (omega arith));
-        sized-out = sym (front-length _ _ (out-fits s));
-      },
-      l .log-table .ensures,
-      p .power-table .ensures,
-    )
+    let (w, few) = s .pre in
+    let shares = length-take-le (s .args .n * d .share-length .result) (zeros 7740) (shares-fit d) ∙ ap (λ (k : ℕ). s .args .n * k) (d .share-length .ensures) in
+    let rows = length-take-le ((s .args .n + 1) * s .args .p .m) (zeros 2550) (rows-fit s) in
+    let m2 = length-take-le (8 * s .args .p .t) (zeros 64) (omega arith) in
+    let out = length-take-le (s .args .n * (12 * s .args .p .t)) (zeros 864) (out-fits s) in
+    (omega arith, l .log-table .ensures, p .power-table .ensures)
 
 pub count-spec : {M : Type 1} → statement M
 count-spec =
