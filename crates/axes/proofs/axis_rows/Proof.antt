@@ -16,10 +16,9 @@ axis-rows-with-requires c κs =
     (f, record { sized-blocks = length-take-le _ _ (blocks-fit _ w); sized-sums = length-take-le _ _ (omega arith); sized-total = length-take-le _ _ (omega arith) }, l, p)
 
 pub axis-rows-spec : {M : Type 1} → statement M
-axis-rows-spec =
-    tie.close
-    (tie.spec (λ c. search needs) (λ c. search needs) (λ c. search needs) (λ c. search needs) (λ c. search needs)
-    (λ c. let s : tie.Start = search in blocks-fit _ (s .pre .0 .within)) (λ c. let s : tie.Start = search in front-length _ _ (blocks-fit _ (s .pre .0 .within)))
-    (λ c. search needs)
+axis-rows-spec = tie.close (tie.spec (λ c. search needs) (λ c. search needs) (λ c. search needs) (λ c. search needs) (λ c. search needs)
+    (λ c. let s : tie.Start = search in blocks-fit _ (s .pre .0 .within))
+    (λ c. let s : tie.Start = search in front-length _ _ (blocks-fit _ (s .pre .0 .within))) (λ c. search needs)
     (λ c. let s : tie.Start = search in front-length _ _ (omega (arith, s .pre .0 .within .t-most))) (λ c. search needs)
-    (λ c. let s : tie.Start = search in front-length _ _ (omega (arith, s .pre .0 .within .t-most))) axis-rows-with-requires (λ c. search needs) (λ c. search needs))
+    (λ c. let s : tie.Start = search in front-length _ _ (omega (arith, s .pre .0 .within .t-most))) axis-rows-with-requires (λ c. search needs)
+    (λ c. search needs))

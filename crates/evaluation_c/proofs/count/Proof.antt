@@ -42,9 +42,7 @@ announce-each-requires c κs =
     (omega arith, l .log-table .ensures, p .power-table .ensures)
 
 pub count-spec : {M : Type 1} → statement M
-count-spec =
-    tie.close
-    (tie.spec (λ c κs. search needs) (λ c κs. search needs) (λ c κs. search needs)
+count-spec = tie.close (tie.spec (λ c κs. search needs) (λ c κs. search needs) (λ c κs. search needs)
     (λ c. let d : tie.After-share-length = search in let h = shares-fit d in omega arith) (λ c. search needs)
     (λ c. let d : tie.After-share-length = search in let h = rows-fit (back-to-start d) in omega arith) (λ c. search needs) (λ c. search needs)
     (λ c. let d : tie.After-share-length = search in let h = out-fits (back-to-start d) in omega arith)

@@ -28,7 +28,5 @@ returns-3 c =
     rw (le-leb (s .args .n) 9 (omega arith), sym (w .within-limits .ensures) ∙ c .if2 .left)
 
 pub evaluation-c-products-spec : {M : Type 1} → statement M
-evaluation-c-products-spec =
-    tie.close
-    (tie.spec returns (λ c κs. search needs)
+evaluation-c-products-spec = tie.close (tie.spec returns (λ c κs. search needs)
     (λ c κs. let w : tie.After-within-limits = search in (test-within _ (sym (w .within-limits .ensures) ∙ c .if2 .taken), omega arith)) returns-2 returns-3)

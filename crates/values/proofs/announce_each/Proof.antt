@@ -65,10 +65,7 @@ returns c =
     )
 
 pub announce-each-spec : {M : Type 1} → statement M
-announce-each-spec =
-    tie.close
-    (tie.spec Inv-loop μ-loop loop-holds announce-at-requires
+announce-each-spec = tie.close (tie.spec Inv-loop μ-loop loop-holds announce-at-requires
     (λ c. let t : tie.Then1 Inv-loop μ-loop = search in let q : tie.At-loop Inv-loop μ-loop = search in omega (arith, t .if1 .taken, back-to-start q .pre .0 .within .t-most))
-    (λ c. let t : tie.Then1 Inv-loop μ-loop = search in omega (arith, t .if1 .taken))
-    loop-again
+    (λ c. let t : tie.Then1 Inv-loop μ-loop = search in omega (arith, t .if1 .taken)) loop-again
     (λ c. let q : tie.At-loop Inv-loop μ-loop = search in q .loop .inv .2) returns)

@@ -14,10 +14,8 @@ announce-single-requires c κs =
     (f, record { sized-y = length-take-le _ _ (omega arith); sized-rows = length-take-le _ _ (omega arith); sized-block = length-take-le _ _ (omega arith) }, el, ep)
 
 pub announce-leaf-spec : {M : Type 1} → statement M
-announce-leaf-spec =
-    tie.close
-    (tie.spec (λ c. search needs) (λ c. search needs) (λ c. search needs) (λ c. search needs)
+announce-leaf-spec = tie.close (tie.spec (λ c. search needs) (λ c. search needs) (λ c. search needs) (λ c. search needs)
     (λ c. let s : tie.Start = search in let w = s .pre .0 .within in front-length _ _ (omega (arith, w .m-most, w .k-least))) (λ c. search needs)
     (λ c. let s : tie.Start = search in let w = s .pre .0 .within in front-length _ _ (omega (arith, w .m-most))) (λ c. search needs)
-    (λ c. let s : tie.Start = search in let w = s .pre .0 .within in front-length _ _ (omega (arith, w .t-most))) announce-single-requires
-    (λ c. search needs) (λ c. search needs))
+    (λ c. let s : tie.Start = search in let w = s .pre .0 .within in front-length _ _ (omega (arith, w .t-most))) announce-single-requires (λ c. search needs)
+    (λ c. search needs))

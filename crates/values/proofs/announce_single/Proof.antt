@@ -36,10 +36,8 @@ returns c =
     )
 
 pub announce-single-spec : {M : Type 1} → statement M
-announce-single-spec =
-    tie.close
-    (tie.spec (λ c. search needs) (λ c κs. let s : tie.Start = search in let (f, g, el, ep) = s .pre in (omega arith, el, ep))
+announce-single-spec = tie.close (tie.spec (λ c. search needs) (λ c κs. let s : tie.Start = search in let (f, g, el, ep) = s .pre in (omega arith, el, ep))
     (λ c κs. let d : tie.After-interpolate-each = search in let (f, g, el, ep) = back-to-start d .pre in (omega (arith, d .interpolate-each), el, ep))
     (λ c. let d : tie.After-announce-each = search in let e = sized d in omega arith) (λ c. let d : tie.After-announce-each = search in front d)
-    (λ c κs. let d : tie.After-announce-each = search in sym (front d) ∙ sym (start d .pre .0 .sized-out))
-    (λ c. search needs) (λ c. search needs) (λ c. search needs) returns)
+    (λ c κs. let d : tie.After-announce-each = search in sym (front d) ∙ sym (start d .pre .0 .sized-out)) (λ c. search needs) (λ c. search needs)
+    (λ c. search needs) returns)

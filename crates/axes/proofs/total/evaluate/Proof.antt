@@ -16,8 +16,7 @@ rows-fit s =
     mul-le-mul a (w .m-most)
 
 pub evaluate-spec : {M : Type 1} → statement M
-evaluate-spec =
-    tie.close
-    (tie.spec (λ c. search needs) (λ c. let s : tie.Start = search in omega (arith, rows-fit s)) (λ c. let s : tie.Start = search in rows-fit s)
-    (λ c. let s : tie.Start = search in front-length _ _ (rows-fit s))
-    (λ c κs. let s : tie.Start = search in (s .pre .0, sym (front-length _ _ (rows-fit s)) ∙ ap (λ (k : ℕ). k * s .args .p .m) (omega arith), s .pre .1, s .pre .2)) (λ c. search needs) (λ c. search needs))
+evaluate-spec = tie.close (tie.spec (λ c. search needs) (λ c. let s : tie.Start = search in omega (arith, rows-fit s))
+    (λ c. let s : tie.Start = search in rows-fit s) (λ c. let s : tie.Start = search in front-length _ _ (rows-fit s))
+    (λ c κs. let s : tie.Start = search in (s .pre .0, sym (front-length _ _ (rows-fit s)) ∙ ap (λ (k : ℕ). k * s .args .p .m) (omega arith), s .pre .1, s .pre .2))
+    (λ c. search needs) (λ c. search needs))

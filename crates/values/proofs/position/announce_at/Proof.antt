@@ -19,8 +19,6 @@ announce-with-requires c κs =
     (omega (arith, lent s (s .args .n) (omega arith), lent s (s .args .n + 1) (omega arith)), f .sized-out, made, el, ep)
 
 pub announce-at-spec : {M : Type 1} → statement M
-announce-at-spec =
-    tie.close
-    (tie.spec (λ c. search needs) (λ c. search needs) (λ c. let s : tie.Start = search in lent s _ (omega arith)) (λ c. search needs)
+announce-at-spec = tie.close (tie.spec (λ c. search needs) (λ c. search needs) (λ c. let s : tie.Start = search in lent s _ (omega arith)) (λ c. search needs)
     (λ c. let s : tie.Start = search in lent s _ (omega arith)) (λ c. search needs) (λ c. let s : tie.Start = search in lent s _ (omega arith))
     announce-with-requires (λ c. search needs) (λ c. search needs))

@@ -94,11 +94,10 @@ returns c =
     (λ key m2 first v w j l. q .loop .inv .3 key m2 first v w j (omega arith), omega arith)
 
 pub announce-shares-spec : {M : Type 1} → statement M
-announce-shares-spec =
-    tie.close
-    (tie.spec Inv-loop μ-loop (λ c. search needs) (λ c. search needs) (λ c. search needs) (λ c. search needs) (λ c. search needs) (λ c. search needs)
-    (λ c. search needs) loop-holds (λ c. omega (arith, inside c .0)) (λ c. let q : tie.In-loop Inv-loop μ-loop = search in let s = back-to-start (q .before) in omega (arith, inside q .1, q .before .loop .inv .5, s .fits))
-    (λ c. search needs) (λ c. search needs) (λ c. let q : tie.In-loop Inv-loop μ-loop = search in omega (arith, inside q .0))
-    (λ c. search needs) (λ c. search needs) (λ c. search needs) (λ c. search needs) (λ c. search needs) (λ c. search needs)
-    (λ c. search needs) (λ c. search needs) (λ c. let q : tie.In-loop Inv-loop μ-loop = search in omega (arith, inside q .1))
-    announce-share-requires (λ c. search needs) (λ c. search needs) loop-again (λ c. search needs) returns)
+announce-shares-spec = tie.close (tie.spec Inv-loop μ-loop (λ c. search needs) (λ c. search needs) (λ c. search needs) (λ c. search needs) (λ c. search needs)
+    (λ c. search needs) (λ c. search needs) loop-holds (λ c. omega (arith, inside c .0))
+    (λ c. let q : tie.In-loop Inv-loop μ-loop = search in let s = back-to-start (q .before) in omega (arith, inside q .1, q .before .loop .inv .5, s .fits))
+    (λ c. search needs) (λ c. search needs) (λ c. let q : tie.In-loop Inv-loop μ-loop = search in omega (arith, inside q .0)) (λ c. search needs)
+    (λ c. search needs) (λ c. search needs) (λ c. search needs) (λ c. search needs) (λ c. search needs) (λ c. search needs) (λ c. search needs)
+    (λ c. let q : tie.In-loop Inv-loop μ-loop = search in omega (arith, inside q .1)) announce-share-requires (λ c. search needs) (λ c. search needs)
+    loop-again (λ c. search needs) returns)

@@ -66,10 +66,9 @@ returns c =
     )
 
 pub announce-with-spec : {M : Type 1} → statement M
-announce-with-spec =
-    tie.close
-    (tie.spec (λ c. search needs) (λ c. search needs) (λ c. search needs) (λ c κs. search needs) (λ c. search needs) (λ c κs. search needs) (λ c κs. search needs)
-    (λ c. search needs) (λ c κs. let e : tie.After-evaluate = search in let m : tie.After-multiples-of = search in (omega (arith, m .multiples-of), omega (arith, few e)))
+announce-with-spec = tie.close (tie.spec (λ c. search needs) (λ c. search needs) (λ c. search needs) (λ c κs. search needs) (λ c. search needs)
+    (λ c κs. search needs) (λ c κs. search needs) (λ c. search needs)
+    (λ c κs. let e : tie.After-evaluate = search in let m : tie.After-multiples-of = search in (omega (arith, m .multiples-of), omega (arith, few e)))
     (λ c. search needs) (λ c κs. let e : tie.After-evaluate = search in let s = back-to-start (back-to-point e) in (search needs, s .pre .3, s .pre .4))
-    (λ c. let e : tie.After-evaluate = search back-to-evaluate in let m : tie.After-multiples-of = search in search needs) (λ c. search needs) announce-shares-requires
-    (λ c. search needs) (λ c. search needs) (λ c. search needs) (λ c. search needs) returns)
+    (λ c. let e : tie.After-evaluate = search back-to-evaluate in let m : tie.After-multiples-of = search in search needs) (λ c. search needs)
+    announce-shares-requires (λ c. search needs) (λ c. search needs) (λ c. search needs) (λ c. search needs) returns)

@@ -43,11 +43,9 @@ returns c =
     )
 
 pub announce-share-spec : {M : Type 1} → statement M
-announce-share-spec =
-    tie.close
-    (tie.spec (λ c. search needs) (λ c. search needs) (λ c. search needs) (λ c. search needs) (λ c. search needs) (λ c κs. search needs)
-    (λ c κs. search needs) (λ c κs. search needs) (λ c κs. search needs)
+announce-share-spec = tie.close (tie.spec (λ c. search needs) (λ c. search needs) (λ c. search needs) (λ c. search needs) (λ c. search needs)
+    (λ c κs. search needs) (λ c κs. search needs) (λ c κs. search needs) (λ c κs. search needs)
     (λ c. let s : tie.Start = search back-to-start in omega (arith, s .pre .0 .within, s .pre .0 .position))
     (λ c. let s : tie.Start = search back-to-start in omega (arith, s .pre .0 .within))
-    (λ c. let s : tie.Start = search back-to-start in omega (arith, s .pre .0 .within, s .pre .0 .position))
-    point-at-requires-3 put-term-requires-2 (λ c. search needs) returns)
+    (λ c. let s : tie.Start = search back-to-start in omega (arith, s .pre .0 .within, s .pre .0 .position)) point-at-requires-3 put-term-requires-2
+    (λ c. search needs) returns)

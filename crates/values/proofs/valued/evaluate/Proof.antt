@@ -73,11 +73,9 @@ returns c =
     )
 
 pub evaluate-spec : {M : Type 1} → statement M
-evaluate-spec =
-    tie.close
-    (tie.spec (λ c. search needs) (λ c. search needs) (λ c. search needs) (λ c. search needs) (λ c. search needs) (λ c. search needs)
+evaluate-spec = tie.close (tie.spec (λ c. search needs) (λ c. search needs) (λ c. search needs) (λ c. search needs) (λ c. search needs) (λ c. search needs)
     (λ c. search needs) (λ c. search needs) (λ c. search needs) (λ c κs. search needs) (λ c. search needs)
-    (λ c κs. let s : tie.Start = search back-to-start in let (g, few, l, p) = s .pre in (evaluation-asked _ _ _ _ _ _ _ (omega arith), l, p)) values-at-requires-2
-    (λ c. let s : tie.Start = search (back-to-start, back-to-point) in let (g, few, l, p) = s .pre in omega arith) values-at-requires-3
-    (λ c. let b : tie.After-values-at2 = search back-to-low in let s : tie.Start = search (back-to-start, back-to-point) in omega (arith, s .pre .0 .few)) inside (λ c κs. search needs) (λ c κs. search needs) (λ c κs. search needs)
-    (λ c. search needs) (λ c. search needs) (λ c. search needs) returns)
+    (λ c κs. let s : tie.Start = search back-to-start in let (g, few, l, p) = s .pre in (evaluation-asked _ _ _ _ _ _ _ (omega arith), l, p))
+    values-at-requires-2 (λ c. let s : tie.Start = search (back-to-start, back-to-point) in let (g, few, l, p) = s .pre in omega arith) values-at-requires-3
+    (λ c. let b : tie.After-values-at2 = search back-to-low in let s : tie.Start = search (back-to-start, back-to-point) in omega (arith, s .pre .0 .few))
+    inside (λ c κs. search needs) (λ c κs. search needs) (λ c κs. search needs) (λ c. search needs) (λ c. search needs) (λ c. search needs) returns)
