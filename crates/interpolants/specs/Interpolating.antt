@@ -40,26 +40,15 @@ pub mod Transform
 module _ (m : ℕ) (x t : List ℕ) (short : m < 256) (long : length x ≡ m) (sums : PowerSums (timesEach x (weightsOf m)) t) where
   pub transform-elsewhere : (z : ℕ) → m < z → z < 256 → eval byteOps t z ≡ 0
   transform-elsewhere z h k =
-      transform-value (timesEach x (weightsOf m)) t z sums (omega arith) k
-      ∙ ap (λ (c : ℕ). c ⊗ inverse z)
-      (getD-timesEach x (weightsOf m) (z - 1) ∙ ap (λ (a : ℕ). a ⊗ getD (weightsOf m) (z - 1) 0) (List·getD-eq-default x 0 (omega arith)))
-      ∙ simp bytefield
+      let past : getD x (z - 1) 0 ≡ 0 = List·getD-eq-default x 0 (omega arith) in
+      rw (transform-value (timesEach x (weightsOf m)) t z sums (omega arith) k, getD-timesEach x (weightsOf m) (z - 1), past) (simp bytefield)
 
   pub transform-here : (i : ℕ) → i < m → eval byteOps t (1 + i) ≡ eval byteOps (complementOf m) (1 + i) ⊗ getD x i 0
   transform-here i h =
-      transform-value (timesEach x (weightsOf m)) t (1 + i) sums (omega arith) (omega arith)
-      ∙ ap (λ (c : ℕ). c ⊗ inverse (1 + i))
-      (ap (λ (j : ℕ). getD (timesEach x (weightsOf m)) j 0) place ∙ getD-timesEach x (weightsOf m) i ∙ ap (_⊗_ (getD x i 0)) (weight-at m i h))
-      ∙ weighed (getD x i 0) (1 + i) (eval byteOps (complementOf m) (1 + i)) (inverse (1 + i)) (⊗-inverse (1 + i) (omega arith) (omega arith))
-    where
-      place : 1 + i - 1 ≡ i
-      place = omega arith
-
-      weighed : (a z g v : ℕ) → z ⊗ v ≡ 1 → a ⊗ (z ⊗ g) ⊗ v ≡ g ⊗ a
-      weighed a z g v e = regroup ∙ ap (λ (o : ℕ). o ⊗ (g ⊗ a)) e ∙ one-⊗ (g ⊗ a) (⊗-lt g a)
-        where
-          regroup : a ⊗ (z ⊗ g) ⊗ v ≡ z ⊗ v ⊗ (g ⊗ a)
-          regroup = simp bytefield
+      let place : 1 + i - 1 ≡ i = omega arith in
+      let once : (g a : ℕ) → a ⊗ ((1 + i) ⊗ g) ⊗ inverse (1 + i) ≡ (1 + i) ⊗ inverse (1 + i) ⊗ (g ⊗ a) = λ g a. simp bytefield in
+      rw (transform-value (timesEach x (weightsOf m)) t (1 + i) sums (omega arith) (omega arith), place, getD-timesEach x (weightsOf m) i, weight-at m i h,
+      once (eval byteOps (complementOf m) (1 + i)) (getD x i 0), ⊗-inverse (1 + i) (omega arith) (omega arith)) (one-⊗ _ (⊗-lt _ _))
 
 -- ---- the division by G
 
@@ -102,9 +91,7 @@ module _ (m : ℕ) (x t r s : List ℕ) (short : m < 256) (long : length x ≡ m
       ⊗-cancel (eval byteOps (complementOf m) (1 + i)) (eval byteOps s (1 + i)) (getD x i 0)
       (complement-some m (1 + i) (omega arith) short) (byte-eval (complementOf m) (1 + i) (bytes-complement m short))
       (byte-eval s (1 + i) bytes-s) (byte-at i x bytes-x)
-      (sym (ap (λ (v : ℕ). v ⊕ eval byteOps (complementOf m) (1 + i) ⊗ eval byteOps s (1 + i))
-      (ap (λ (l : List ℕ). eval byteOps l (1 + i)) remainder-none ∙ zeros-value (255 - m) (1 + i)) ∙ zero-⊕ _)
-      ∙ divided (1 + i) ∙ here i h)
+      (rw (remainder-none, zeros-value (255 - m) (1 + i), zero-⊕ _) at (divided (1 + i)) ∙ here i h)
 
   quotient-values : values byteOps s (interpolationPoints (length x)) ≡ x
   quotient-values =

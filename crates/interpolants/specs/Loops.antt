@@ -2,8 +2,8 @@
 --
 --   horner-start, horner-turn, horner-end        the value of a polynomial, from its highest coefficient down
 --   weights-start, weights-turn, weights-end     the weights, written one after the other
-use mathlib.Core.Path.{_≡_, sym, ap, ap₂, _∙_}
-use mathlib.Core.List.{List, _∷_, _++_, append-nil}
+use mathlib.Core.Path.{_≡_, refl, sym, ap, ap₂, _∙_}
+use mathlib.Core.List.{List, [], _∷_, _++_, append-nil}
 use Prim.Native.Nat.{ℕ, suc, _+_, _-_, _≤_, _<_}
 use native.Mathlib.Numerals.{add-one}
 use native.Mathlib.Omega.{arith}
@@ -23,8 +23,7 @@ pub horner-turn : (g : List ℕ) (f v i : ℕ) → 0 < i → i ≤ length g → 
 unfolding eval
 horner-turn g f v i z h e =
     let n : i ≡ suc (i - 1) = omega arith in
-    ap (λ (w : ℕ). getD g (i - 1) 0 ⊕ f ⊗ w) (e ∙ ap (λ (j : ℕ). eval byteOps (drop j g) f) n)
-    ∙ sym (ap (λ (l : List ℕ). eval byteOps l f) (drop-cons g (i - 1) 0 (omega arith)))
+    rw (drop-cons g (i - 1) 0 (omega arith)) (ap (λ (w : ℕ). getD g (i - 1) 0 ⊕ f ⊗ w) (e ∙ ap (λ (j : ℕ). eval byteOps (drop j g) f) n))
 
 pub horner-end : (g : List ℕ) (f v i : ℕ) → i ≡ 0 → v ≡ eval byteOps (drop i g) f → v ≡ eval byteOps g f
 horner-end g f v i z e = e ∙ ap (λ (j : ℕ). eval byteOps (drop j g) f) z
@@ -44,15 +43,11 @@ module _ (g : List ℕ) (n : ℕ) where
   weights-turn i f h w out l en eh ew e =
       let more : n - i ≡ suc (n - (i + 1)) = omega arith in
       let next : h + 1 ≡ suc (f + 1) = omega arith in
-      ap₂ (λ (x : List ℕ) (a : ℕ). x ++ weightsFrom g a (n - (i + 1)))
-      (ap (λ (j : ℕ). take j (set out i w)) (add-one i) ∙ take-suc-set out i w (omega arith)) next
-      ∙ append-snoc (take i out) w (weightsFrom g (suc (f + 1)) (n - (i + 1)))
-      ∙ ap (λ (x : ℕ). take i out ++ x ∷ weightsFrom g (suc (f + 1)) (n - (i + 1))) (ew ∙ ap (λ (x : ℕ). x ⊗ eval byteOps g x) eh)
-      ∙ sym (ap (λ (m : ℕ). take i out ++ weightsFrom g (f + 1) m) more) ∙ e
+      let front : take (i + 1) (set out i w) ≡ take i out ++ (w ∷ []) = rw (add-one i) (take-suc-set out i w (omega arith)) in
+      rw (front, next, append-snoc (take i out) w (weightsFrom g (suc (f + 1)) (n - (i + 1))), ew, eh) (rw more at e)
 
   pub weights-end : (i f : ℕ) (out : List ℕ) → n ≤ i → n ≡ length out → g ≡ complementOf n → Weighted i f out → out ≡ weightsOf n
   unfolding weightsFrom weightsOf
   weights-end i f out l en eg e =
       let o : n - i ≡ 0 = omega arith in
-      sym (append-nil out) ∙ ap₂ (λ (x : List ℕ) (m : ℕ). x ++ weightsFrom g (f + 1) m) (sym (take-all i out (omega arith))) (sym o) ∙ e
-      ∙ ap (λ (p : List ℕ). weightsFrom p 1 n) eg
+      rw (← eg) (rw (o, take-all i out (omega arith), append-nil out) at e)

@@ -6,7 +6,7 @@
 --   divided-start               nothing is divided yet
 --   divided-turn                one place: the multiple of g by the word at place k − 1 is added to the d places before it
 --   divided-end                 all places from d on are the quotient
-use mathlib.Core.Path.{_≡_, sym, ap, ap₂, _∙_}
+use mathlib.Core.Path.{_≡_, refl, sym, ap, ap₂, _∙_}
 use mathlib.Core.List.{List, [], _∷_, _++_, map, append-assoc}
 use Prim.Native.Nat.{ℕ, suc, _+_, _-_, _^_, _≤_, _<_}
 use native.Mathlib.Omega.{arith}
@@ -28,14 +28,10 @@ use Rattle.interpolants.specs.Division.{monicAt, withQuotient, Reduced, 
 
 -- ---- values
 
-append-step : (a z e w v : ℕ) → a ⊕ z ⊗ (e ⊕ w ⊗ v) ≡ a ⊕ z ⊗ e ⊕ w ⊗ z ⊗ v
-append-step a z e w v = simp bytefield
-
 pub eval-append : (p q : List ℕ) (z : ℕ) → Bytes q → eval byteOps (p ++ q) z ≡ eval byteOps p z ⊕ pow byteOps z (length p) ⊗ eval byteOps q z
 unfolding eval pow
 eval-append [] q z h = sym (zero-⊕ _ ∙ one-⊗ (eval byteOps q z) (byte-eval q z h))
-eval-append (a ∷ p) q z h =
-    ap (λ (v : ℕ). a ⊕ z ⊗ v) (eval-append p q z h) ∙ append-step a z (eval byteOps p z) (pow byteOps z (length p)) (eval byteOps q z)
+eval-append (a ∷ p) q z h = rw (eval-append p q z h) (simp bytefield)
 
 scale-step : (c a z v : ℕ) → c ⊗ a ⊕ z ⊗ (c ⊗ v) ≡ c ⊗ (a ⊕ z ⊗ v)
 scale-step c a z v = simp bytefield
@@ -56,16 +52,10 @@ module _ (g p q r : List ℕ) (a z : ℕ) (sized : length q ≡ length g) (bytes
   unfolding eval pow
   value-turn =
       let one : Bytes (a ∷ []) = (byte, tt) in
-      let last : eval byteOps (q ++ (a ∷ [])) z ≡ eval byteOps q z ⊕ pow byteOps z (length g) ⊗ (a ⊕ z ⊗ 0)
-      = eval-append q (a ∷ []) z one ∙ ap (λ (n : ℕ). eval byteOps q z ⊕ pow byteOps z n ⊗ (a ⊕ z ⊗ 0)) sized in
-      let more : eval byteOps (plus byteOps q (scale byteOps a g)) z ≡ eval byteOps q z ⊕ a ⊗ eval byteOps g z
-      = eval-sum byteOps byte-linear q (scale byteOps a g) z (sized ∙ sym (length-scale byteOps a g)) ∙ ap (_⊕_ (eval byteOps q z)) (eval-scale a g z) in
-      ap (λ (x : ℕ). x ⊕ pow byteOps z (length p) ⊗ monicAt g z ⊗ (a ⊕ z ⊗ eval byteOps r z))
-      (eval-append p (plus byteOps q (scale byteOps a g)) z (bytes-plus q (scale byteOps a g) bytes (bytes-scale a g))
-      ∙ ap (λ (x : ℕ). eval byteOps p z ⊕ pow byteOps z (length p) ⊗ x) more)
-      ∙ turn-step (eval byteOps p z) (eval byteOps q z) (eval byteOps r z) (eval byteOps g z) (pow byteOps z (length p)) (pow byteOps z (length g)) a z
-      ∙ sym (ap (λ (x : ℕ). x ⊕ pow byteOps z (length p) ⊗ z ⊗ monicAt g z ⊗ eval byteOps r z)
-      (eval-append p (q ++ (a ∷ [])) z (bytes-append q (a ∷ []) bytes one) ∙ ap (λ (x : ℕ). eval byteOps p z ⊕ pow byteOps z (length p) ⊗ x) last))
+      let pq = bytes-plus q (scale byteOps a g) bytes (bytes-scale a g) in
+      rw (eval-append p (plus byteOps q (scale byteOps a g)) z pq, eval-append p (q ++ (a ∷ [])) z (bytes-append q (a ∷ []) bytes one),
+      eval-sum byteOps byte-linear q (scale byteOps a g) z (sized ∙ sym (length-scale byteOps a g)), eval-scale a g z, eval-append q (a ∷ []) z one, sized)
+      (turn-step _ _ _ _ _ _ a z)
 
 -- ---- shares
 
@@ -77,10 +67,7 @@ apart : (g : List ℕ) (k n : ℕ) (s f b : List ℕ) (i z : ℕ) → s ≡ f ++
     → withQuotient g (k - length g) (take k (share i s)) (drop k (share i s)) z ≡ withQuotient g n (share i f) (share i b) z
 apart g k n s f b i z es ef en =
     let l : length (share i f) ≡ k = length-share i f ∙ ef in
-    let e : share i s ≡ share i f ++ share i b = ap (share i) es ∙ share-append i f b in
-    ap₂ (λ (x y : List ℕ). withQuotient g (k - length g) x y z)
-    (ap (take k) e ∙ take-at (share i f) (share i b) k l) (ap (drop k) e ∙ drop-at (share i f) (share i b) k l)
-    ∙ ap (λ (m : ℕ). withQuotient g m (share i f) (share i b) z) en
+    rw (es, share-append i f b, take-at (share i f) (share i b) k l, drop-at (share i f) (share i b) k l, en) refl
 
 module _ (g p q r : List ℕ) (v : ℕ) (sized : length q ≡ length g) where
   share-turn : (i z : ℕ) → i < 8
@@ -88,12 +75,9 @@ module _ (g p q r : List ℕ) (v : ℕ) (sized : length q ≡ length g) where
       ≡ withQuotient g (suc (length p)) (share i (p ++ (q ++ (v ∷ [])))) (share i r) z
   unfolding share
   share-turn i z few =
-      let n : length (share i p) ≡ length p = length-share i p in
-      ap₂ (λ (x : List ℕ) (m : ℕ). withQuotient g m x (share i (v ∷ r)) z)
-      (share-append i p (xorList q (map (scaled v) g)) ∙ ap (_++_ (share i p)) (share-added i v q g few)) (sym n)
-      ∙ value-turn g (share i p) (share i q) (share i r) (byteAt i v) z (length-share i q ∙ sized) (bytes-share i q) (byteAt-lt i v)
-      ∙ ap₂ (λ (x : List ℕ) (m : ℕ). withQuotient g (suc m) x (share i r) z)
-      (sym (share-append i p (q ++ (v ∷ [])) ∙ ap (_++_ (share i p)) (share-append i q (v ∷ [])))) n
+      rw (share-append i p (xorList q (map (scaled v) g)), share-added i v q g few, share-append i p (q ++ (v ∷ [])), share-append i q (v ∷ []))
+      (rw (length-share i p) at
+      (value-turn g (share i p) (share i q) (share i r) (byteAt i v) z (length-share i q ∙ sized) (bytes-share i q) (byteAt-lt i v)))
 
   parts-turn : (k : ℕ) (t t₀ t′ : List ℕ) → k ≡ length p + length g + 1 → t ≡ (p ++ (q ++ (v ∷ []))) ++ r → t′ ≡ (p ++ xorList q (map (scaled v) g)) ++ (v ∷ r)
       → Reduced g k t t₀ → Reduced g (k - 1) t′ t₀
@@ -141,6 +125,4 @@ closed g f b z =
 pub divided-end : (g t t₀ : List ℕ) (k : ℕ) → k ≡ length g → Reduced g k t t₀ → Divided g t₀ t
 divided-end g t t₀ k e h i few z =
     let o : k - length g ≡ 0 = omega arith in
-    sym (ap₂ (λ (j m : ℕ). withQuotient g m (take j (share i t)) (drop j (share i t)) z) e o
-    ∙ closed g (take (length g) (share i t)) (drop (length g) (share i t)) z)
-    ∙ h i few z
+    rw (o, e, closed g (take (length g) (share i t)) (drop (length g) (share i t)) z) at (h i few z)

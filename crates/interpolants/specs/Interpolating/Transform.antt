@@ -38,16 +38,10 @@ sums c n (suc k) = powerSum c k n ∷ sums c n k
 -- ---- powers
 
 pub power-more : (e k : ℕ) → power (e * suc k) ≡ power e ⊗ power (e * k)
-power-more e k = ap power more ∙ power-add e (e * k)
-  where
-    more : e * suc k ≡ e + e * k
-    more = omega arith
+power-more e k = let more : e * suc k ≡ e + e * k = omega arith in ap power more ∙ power-add e (e * k)
 
 pub power-around : (e : ℕ) → power (e * 255) ≡ 1
-power-around e = ap power turn ∙ power-cycle e
-  where
-    turn : e * 255 ≡ 255 * e
-    turn = omega arith
+power-around e = let turn : e * 255 ≡ 255 * e = omega arith in ap power turn ∙ power-cycle e
 
 bytes-descending : (e k : ℕ) → Bytes (descending e k)
 unfolding descending
@@ -60,14 +54,12 @@ factored : (b e k : ℕ) → (power b ⊕ power e) ⊗ eval byteOps (descending 
 unfolding descending eval
 factored b e zero = ⊗-zero (power b ⊕ power e) ∙ sym (⊕-self (power 0)) ∙ ap₂ (λ (i j : ℕ). power i ⊕ power j) (omega arith) (omega arith)
 factored b e (suc k) =
-    step (power b) (power e) (power (e * k)) (power (b * k)) (eval byteOps (descending e k) (power b)) (factored b e k)
-    ∙ sym (ap₂ _⊕_ (power-more b k) (power-more e k))
+    rw (power-more b k, power-more e k) (step (power b) (power e) (power (e * k)) (power (b * k)) _ (factored b e k))
   where
     step : (z f fk zk v : ℕ) → (z ⊕ f) ⊗ v ≡ zk ⊕ fk → (z ⊕ f) ⊗ (fk ⊕ z ⊗ v) ≡ z ⊗ zk ⊕ f ⊗ fk
-    step z f fk zk v h = open-up ∙ ap (λ (x : ℕ). (z ⊕ f) ⊗ fk ⊕ z ⊗ x) h ∙ simp bytefield
-      where
-        open-up : (z ⊕ f) ⊗ (fk ⊕ z ⊗ v) ≡ (z ⊕ f) ⊗ fk ⊕ z ⊗ ((z ⊕ f) ⊗ v)
-        open-up = simp bytefield
+    step z f fk zk v h =
+        let open-up : (z ⊕ f) ⊗ (fk ⊕ z ⊗ v) ≡ (z ⊕ f) ⊗ fk ⊕ z ⊗ ((z ⊕ f) ⊗ v) = simp bytefield in
+        open-up ∙ ap (λ (x : ℕ). (z ⊕ f) ⊗ fk ⊕ z ⊗ x) h ∙ simp bytefield
 
 descending-apart : (b e : ℕ) → (power b ≡ power e → ⊥) → eval byteOps (descending e 255) (power b) ≡ 0
 descending-apart b e n =
@@ -81,11 +73,8 @@ twice (suc h) = suc (suc (twice h))
 
 odd : (e h : ℕ) → eval byteOps (descending e (suc (twice h))) (power e) ≡ power (e * twice h)
 unfolding descending eval twice
-odd e zero = ap (_⊕_ (power (e * 0))) (⊗-zero (power e)) ∙ ⊕-zero (power (e * 0))
-odd e (suc h) = step (power e) _ _ _ _ (power-more e (twice h)) (odd e h)
-  where
-    step : (z p q r v : ℕ) → q ≡ z ⊗ r → v ≡ r → p ⊕ z ⊗ (q ⊕ z ⊗ v) ≡ p
-    step z p q r v h k = rw (h, k) (simp bytefield)
+odd e zero = simp bytefield
+odd e (suc h) = rw (power-more e (twice h), odd e h) (simp bytefield)
 
 descending-own : (e : ℕ) → eval byteOps (descending e 255) (power e) ≡ power (e * 254)
 unfolding twice
@@ -96,35 +85,26 @@ descending-own e = odd e 127
 sums-more : (c : List ℕ) (n k z : ℕ)
     → eval byteOps (sums c (suc n) k) z ≡ eval byteOps (sums c n k) z ⊕ entryOf c (power n) ⊗ eval byteOps (descending n k) z
 unfolding sums descending eval powerSum
-sums-more c n zero z = sym (zero-⊕ (entryOf c (power n) ⊗ 0) ∙ ⊗-zero (entryOf c (power n)))
+sums-more c n zero z = simp bytefield
 sums-more c n (suc k) z =
-    ap (λ (x : ℕ). powerSum c k n ⊕ entryOf c (power n) ⊗ power (n * k) ⊕ z ⊗ x) (sums-more c n k z)
-    ∙ step (powerSum c k n) (entryOf c (power n)) (power (n * k)) z (eval byteOps (sums c n k) z) (eval byteOps (descending n k) z)
-  where
-    step : (p a w z u v : ℕ) → p ⊕ a ⊗ w ⊕ z ⊗ (u ⊕ a ⊗ v) ≡ p ⊕ z ⊗ u ⊕ a ⊗ (w ⊕ z ⊗ v)
-    step p a w z u v = simp bytefield
+    let step : (p a w u v : ℕ) → p ⊕ a ⊗ w ⊕ z ⊗ (u ⊕ a ⊗ v) ≡ p ⊕ z ⊗ u ⊕ a ⊗ (w ⊕ z ⊗ v) = λ p a w u v. simp bytefield in
+    rw (sums-more c n k z) (step _ _ (power (n * k)) _ _)
 
 sums-none : (c : List ℕ) (k z : ℕ) → eval byteOps (sums c 0 k) z ≡ 0
 unfolding sums eval powerSum
 sums-none c zero z = refl
-sums-none c (suc k) z = ap (λ (x : ℕ). 0 ⊕ z ⊗ x) (sums-none c k z) ∙ simp bytefield
+sums-none c (suc k) z = rw (sums-none c k z) (simp bytefield)
 
 sums-apart : (c : List ℕ) (b n : ℕ) → b < 255 → n < 255 → (b ≡ n → ⊥)
     → eval byteOps (sums c (suc n) 255) (power b) ≡ eval byteOps (sums c n 255) (power b)
-sums-apart c b n h k d =
-    sums-more c n 255 (power b)
-    ∙ ap (λ (x : ℕ). eval byteOps (sums c n 255) (power b) ⊕ entryOf c (power n) ⊗ x) (descending-apart b n (λ e. d (power-once b n h k e)))
-    ∙ simp bytefield
+sums-apart c b n h k d = rw (sums-more c n 255 (power b), descending-apart b n (λ e. d (power-once b n h k e))) (simp bytefield)
 
 sums-before : (c : List ℕ) (b n : ℕ) → b < 255 → n ≤ b → eval byteOps (sums c n 255) (power b) ≡ 0
 sums-before c b zero h k = sums-none c 255 (power b)
 sums-before c b (suc n) h k = sums-apart c b n h (omega arith) (λ e. omega arith) ∙ sums-before c b n h (omega arith)
 
 sums-own : (c : List ℕ) (b : ℕ) → b < 255 → eval byteOps (sums c (suc b) 255) (power b) ≡ entryOf c (power b) ⊗ power (b * 254)
-sums-own c b h =
-    sums-more c b 255 (power b)
-    ∙ ap₂ (λ (x y : ℕ). x ⊕ entryOf c (power b) ⊗ y) (sums-before c b b h (omega arith)) (descending-own b)
-    ∙ zero-⊕ (entryOf c (power b) ⊗ power (b * 254))
+sums-own c b h = rw (sums-more c b 255 (power b), sums-before c b b h (omega arith), descending-own b) (zero-⊕ _)
 
 sums-value : (c : List ℕ) (b n : ℕ) → b < n → n ≤ 255 → eval byteOps (sums c n 255) (power b) ≡ entryOf c (power b) ⊗ power (b * 254)
 sums-value c b zero h k = absurd (not-suc-le-zero h)
@@ -157,8 +137,5 @@ pub transform-value : (c t : List ℕ) (z : ℕ) → PowerSums c t → 0 < z →
 transform-value c t z p s h =
     let b : ℕ = getD logs z 0 in
     let e : power b ≡ z = logs-at z s h in
-    let w : power (b * 254) ≡ inverse z = inverse-unique z (power (b * 254)) s h (power-lt (b * 254)) (whole b e) in
+    let w : power (b * 254) ≡ inverse z = inverse-unique z _ s h (power-lt (b * 254)) (rw e at (sym (power-more b 254) ∙ power-around b)) in
     rw (sums-all c t p) (rw e at (sums-value c b 255 (logs-small z s h) (omega arith))) ∙ ap (_⊗_ (entryOf c z)) w
-  where
-    whole : (b : ℕ) → power b ≡ z → z ⊗ power (b * 254) ≡ 1
-    whole b e = ap (λ (x : ℕ). x ⊗ power (b * 254)) (sym e) ∙ sym (power-more b 254) ∙ power-around b
