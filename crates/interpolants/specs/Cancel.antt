@@ -18,10 +18,7 @@ use Rattle.bytefield.specs.Tables.{powers, logs}
 use Rattle.bytefield.specs.Powers.{power, powers-at}
 
 undo : (a b : ℕ) → 0 < a → a < 256 → b < 256 → inverse a ⊗ (a ⊗ b) ≡ b
-undo a b z h k =
-    sym (⊗-assoc (inverse a) a b)
-    ∙ ap (λ (x : ℕ). x ⊗ b) (⊗-comm (inverse a) a ∙ ⊗-inverse a z h)
-    ∙ one-⊗ b k
+undo a b z h k = sym (⊗-assoc (inverse a) a b) ∙ ap (λ (x : ℕ). x ⊗ b) (⊗-comm (inverse a) a ∙ ⊗-inverse a z h) ∙ one-⊗ b k
 
 pub ⊗-cancel : (a b c : ℕ) → 0 < a → a < 256 → b < 256 → c < 256 → a ⊗ b ≡ a ⊗ c → b ≡ c
 ⊗-cancel a b c z ha hb hc e = sym (undo a b z ha hb) ∙ ap (_⊗_ (inverse a)) e ∙ undo a c z ha hc

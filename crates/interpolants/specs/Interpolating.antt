@@ -31,7 +31,7 @@ use Rattle.polynomial.specs.Interpolant.{interpolationPoints, interpolantOf}
 use Rattle.polynomial.specs.Interpolant.Laws.{length-ascending, ascending-at, ascending-distinct, interpolant-unique}
 use Rattle.interpolants.specs.Cancel.{⊗-cancel}
 use Rattle.interpolants.specs.Complement.{complementOf, weightsOf}
-use Rattle.interpolants.specs.Complement.Laws.{missing, missing-at, length-missing, bytes-complement, complement-zero, complement-some, weight-at}
+use Rattle.interpolants.specs.Complement.Laws.{missing, bytes-complement, complement-zero, complement-some, weight-at}
 use Rattle.interpolants.specs.Interpolating.Transform.{transform-value}
 pub mod Transform
 
@@ -47,8 +47,8 @@ module _ (m : ℕ) (x t : List ℕ) (short : m < 256) (long : length x ≡ m) (s
   transform-here i h =
       let place : 1 + i - 1 ≡ i = omega arith in
       let once : (g a : ℕ) → a ⊗ ((1 + i) ⊗ g) ⊗ inverse (1 + i) ≡ (1 + i) ⊗ inverse (1 + i) ⊗ (g ⊗ a) = λ g a. simp bytefield in
-      rw (transform-value (timesEach x (weightsOf m)) t (1 + i) sums (omega arith) (omega arith), place, getD-timesEach x (weightsOf m) i, weight-at m i h,
-      once (eval byteOps (complementOf m) (1 + i)) (getD x i 0), ⊗-inverse (1 + i) (omega arith) (omega arith)) (one-⊗ _ (⊗-lt _ _))
+      rw (transform-value (timesEach x (weightsOf m)) t (1 + i) sums (omega arith) (omega arith), place, getD-timesEach x (weightsOf m) i, weight-at m i h)
+      (rw (once (eval byteOps (complementOf m) (1 + i)) (getD x i 0), ⊗-inverse (1 + i) (omega arith) (omega arith)) (one-⊗ _ (⊗-lt _ _)))
 
 -- ---- the division by G
 
@@ -68,21 +68,20 @@ module _ (m : ℕ) (x t r s : List ℕ) (short : m < 256) (long : length x ≡ m
     (divided : (z : ℕ) → eval byteOps r z ⊕ eval byteOps (complementOf m) z ⊗ eval byteOps s z ≡ eval byteOps t z) where
   remainder-root : (z : ℕ) → m < z → z < 256 → eval byteOps r z ≡ 0
   remainder-root z h k =
-      sym (ap (λ (g : ℕ). eval byteOps r z ⊕ g ⊗ eval byteOps s z) (complement-zero m z h k) ∙ simp bytefield)
-      ∙ divided z ∙ elsewhere z h k
+      sym (ap (λ (g : ℕ). eval byteOps r z ⊕ g ⊗ eval byteOps s z) (complement-zero m z h k) ∙ simp bytefield) ∙ divided z ∙ elsewhere z h k
 
   remainder-none : r ≡ replicate (255 - m) 0
   remainder-none =
       zeros-only r bytes-r (root-bound byteField (inField (missing m)) (inField r)
-      (omega (arith, length-map r byte, length-map (missing m) byte, length-missing m)) (ascending-distinct (1 + m) (255 - m) (omega arith))
+      (omega (arith, length-map r byte, length-map (missing m) byte, length-ascending (1 + m) (255 - m))) (ascending-distinct (1 + m) (255 - m) (omega arith))
       (each-to-map (λ f. eval (ops byteRing) (inField r) f ≡ byteRing .zero) byte (missing m)
       (each-from (λ f. eval (ops byteRing) (inField r) (byte f) ≡ byteRing .zero) 0 (missing m) root)))
       ∙ ap (λ (n : ℕ). replicate n 0) few
     where
       root : (i : ℕ) → i < length (missing m) → eval (ops byteRing) (inField r) (byte (getD (missing m) i 0)) ≡ byteRing .zero
       root i h =
-          let n = length-missing m in
-          let a = missing-at m i (omega arith) in
+          let n = length-ascending (1 + m) (255 - m) in
+          let a = ascending-at (1 + m) (255 - m) i (omega arith) in
           sym (map-eval byteOps (ops byteRing) byte byte-homomorphism r (getD (missing m) i 0))
           ∙ ap byte (remainder-root (getD (missing m) i 0) (omega arith) (omega arith)) ∙ byte-zero
 

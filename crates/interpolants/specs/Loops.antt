@@ -1,22 +1,18 @@
 -- What the loops over the complement have come to, turn by turn.
 --
---   horner-start, horner-turn, horner-end        the value of a polynomial, from its highest coefficient down
+--   horner-turn                                  the value of a polynomial, from its highest coefficient down
 --   weights-start, weights-turn, weights-end     the weights, written one after the other
-use mathlib.Core.Path.{_≡_, refl, sym, ap, ap₂, _∙_}
+use mathlib.Core.Path.{_≡_, ap, _∙_}
 use mathlib.Core.List.{List, [], _∷_, _++_, append-nil}
 use Prim.Native.Nat.{ℕ, suc, _+_, _-_, _≤_, _<_}
 use native.Mathlib.Numerals.{add-one}
 use native.Mathlib.Omega.{arith}
 use lib.ListN.{length, take, drop, getD, set}
-use lib.Seq.{drop-length, drop-cons, take-suc-set, take-all, append-snoc}
+use lib.Seq.{drop-cons, take-suc-set, take-all, append-snoc}
 use Rattle.lists.specs.Xor.{_⊕_}
 use Rattle.algebra.specs.Polynomial.{eval}
 use Rattle.bytefield.specs.Product.{_⊗_, byteOps}
 use Rattle.interpolants.specs.Complement.{complementOf, weightsFrom, weightsOf}
-
-pub horner-start : (g : List ℕ) (f : ℕ) → 0 ≡ eval byteOps (drop (length g) g) f
-unfolding eval
-horner-start g f = ap (λ (l : List ℕ). eval byteOps l f) (sym (drop-length g))
 
 pub horner-turn : (g : List ℕ) (f v i : ℕ) → 0 < i → i ≤ length g → v ≡ eval byteOps (drop i g) f
     → getD g (i - 1) 0 ⊕ f ⊗ v ≡ eval byteOps (drop (i - 1) g) f
@@ -24,9 +20,6 @@ unfolding eval
 horner-turn g f v i z h e =
     let n : i ≡ suc (i - 1) = omega arith in
     rw (drop-cons g (i - 1) 0 (omega arith)) (ap (λ (w : ℕ). getD g (i - 1) 0 ⊕ f ⊗ w) (e ∙ ap (λ (j : ℕ). eval byteOps (drop j g) f) n))
-
-pub horner-end : (g : List ℕ) (f v i : ℕ) → i ≡ 0 → v ≡ eval byteOps (drop i g) f → v ≡ eval byteOps g f
-horner-end g f v i z e = e ∙ ap (λ (j : ℕ). eval byteOps (drop j g) f) z
 
 -- ---- n weights by g: i of them are written, and f is i
 

@@ -45,14 +45,11 @@ unfolding pow
 pow-byte z zero = lit< tt
 pow-byte z (suc n) = ⊗-lt (pow byteOps z n) z
 
-one-value : (z w : ℕ) → w < 256 → w ⊗ (1 ⊕ z ⊗ 0) ≡ w
-one-value z w h = simp bytefield (one-⊗ w h)
-
 pub monic-value : (p g : List ℕ) (n z : ℕ) → p ≡ g ++ (1 ∷ []) → length g ≡ n → eval byteOps p z ≡ eval byteOps g z ⊕ pow byteOps z n
 unfolding eval
 monic-value p g n z e l =
-    ap (λ (q : List ℕ). eval byteOps q z) e ∙ eval-append g (1 ∷ []) z (lit< tt, tt)
-    ∙ ap (_⊕_ (eval byteOps g z)) (one-value z (pow byteOps z (length g)) (pow-byte z (length g)) ∙ ap (pow byteOps z) l)
+    let one : pow byteOps z n ⊗ (1 ⊕ z ⊗ 0) ≡ pow byteOps z n = simp bytefield (one-⊗ _ (pow-byte z n)) in
+    rw (e, eval-append g (1 ∷ []) z (lit< tt, tt), l) (ap (_⊕_ (eval byteOps g z)) one)
 
 module _ (m : ℕ) (few : m < 256) where
   pub length-low : (g : List ℕ) → g ≡ complementOf m → length (take (255 - m) g) ≡ 255 - m

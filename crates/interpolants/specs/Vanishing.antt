@@ -84,8 +84,7 @@ module _ (m : ℕ) (some : 0 < m) (few : m < 256) where
   low-value i h =
       cancel _ _ (pow byteOps (1 + i) m)
       (sym (monic-value (vanishingOf m) _ m (1 + i) (vanishing-monic m) (length-take-le m (vanishingOf m) (omega (arith, length-vanishing m))))
-      ∙ rw (ascending-at 1 m i h) at (product-zero (interpolationPoints m) i (omega (arith, length-ascending 1 m)))
-      ∙ sym (⊕-self (pow byteOps (1 + i) m)))
+      ∙ rw (ascending-at 1 m i h) at (product-zero (interpolationPoints m) i (omega (arith, length-ascending 1 m))) ∙ sym (⊕-self _))
 
   -- ---- the quotient
 
@@ -99,8 +98,7 @@ module _ (m : ℕ) (some : 0 < m) (few : m < 256) where
       let g = take (255 - m) (complementOf m) in
       let b = bytes-take (255 - m) (complementOf m) (bytes-complement m few) in
       ap (share 0) (tail-back (one 254) ys m (omega arith) ∙ ap (λ (l : List ℕ). l ++ ys) (ap (take m) one-parted ∙ take-at p z m sized))
-      ∙ share-append 0 p ys
-      ∙ ap₂ _++_ (ap (_∷_ 1) (zeros-share 0 (m - 1)))
+      ∙ share-append 0 p ys ∙ ap₂ _++_ (ap (_∷_ 1) (zeros-share 0 (m - 1)))
       (ap (share 0) (e ∙ ap (λ (l : List ℕ). xorList l (map (placed 0) g)) (tail-part (one 254) m ∙ ap (drop m) one-parted ∙ drop-at p z m sized))
       ∙ share-own 0 z g (λ k. byte-at k g b) ∙ ap (λ (l : List ℕ). xorList l g) (zeros-share 0 (255 - m))
       ∙ xorList-comm z g ∙ xorList-zeros g (255 - m) (omega (arith, length-low m few (complementOf m) refl)))
@@ -108,8 +106,7 @@ module _ (m : ℕ) (some : 0 < m) (few : m < 256) where
   pub vanishing-made : (g ys a out : List ℕ) → g ≡ complementOf m → length a ≡ 255
       → ys ≡ xorList (take (255 - m) (drop m (one 254))) (map (placed 0) (take (255 - m) g))
       → Divided (take (255 - m) g) (take m (one 254) ++ (ys ++ drop (255 - m) (drop m (one 254)))) a
-      → out ≡ share 0 (take (255 - (255 - m)) (drop (255 - m) a))
-      → out ≡ take m (vanishingOf m)
+      → out ≡ share 0 (take (255 - (255 - m)) (drop (255 - m) a)) → out ≡ take m (vanishingOf m)
   vanishing-made g ys a out eg la ey divided eo =
       let f = take m (vanishingOf m) in
       let x = values byteOps f (interpolationPoints m) in

@@ -1,7 +1,6 @@
 -- The laws of the complement G and of the weights.
 --
 --   missing m             the bytes above m, the roots of G
---   missing-at, length-missing     where they stand, and how many there are
 --   length-complement     G has 256 − m coefficients
 --   bytes-complement      they are bytes
 --   complement-monic      the highest is 1
@@ -35,19 +34,13 @@ use Rattle.interpolants.specs.Complement.{complementOf, weightsFrom, wei
 abbrev pub missing : ℕ → List ℕ
 missing m = ascending (1 + m) (255 - m)
 
-pub missing-at : (m i : ℕ) → i < 255 - m → getD (missing m) i 0 ≡ 1 + m + i
-missing-at m i h = ascending-at (1 + m) (255 - m) i h
-
-pub length-missing : (m : ℕ) → length (missing m) ≡ 255 - m
-length-missing m = length-ascending (1 + m) (255 - m)
-
 -- ---- the complement
 
 pub length-complement : (m : ℕ) → m < 256 → length (complementOf m) ≡ 256 - m
 unfolding complementOf
 length-complement m h =
     let a = length-product byteOps (1 ∷ []) (missing m) in
-    let b = length-missing m in
+    let b = length-ascending (1 + m) (255 - m) in
     omega arith
 
 pub bytes-complement : (m : ℕ) → m < 256 → Bytes (complementOf m)
@@ -56,13 +49,13 @@ bytes-complement m h = bytes-product (1 ∷ []) (missing m) (lit< tt, tt)
 
 pub complement-monic : (m : ℕ) → complementOf m ≡ take (255 - m) (complementOf m) ++ (1 ∷ [])
 unfolding complementOf
-complement-monic m = product-monic (255 - m) (missing m) (length-missing m)
+complement-monic m = product-monic (255 - m) (missing m) (length-ascending (1 + m) (255 - m))
 
 pub complement-zero : (m z : ℕ) → m < z → z < 256 → eval byteOps (complementOf m) z ≡ 0
 unfolding complementOf
 complement-zero m z h k =
-    let p : getD (missing m) (z - (1 + m)) 0 ≡ z = missing-at m (z - (1 + m)) (omega arith) ∙ omega arith in
-    rw p at (product-zero (missing m) (z - (1 + m)) (omega (arith, length-missing m)))
+    let p : getD (missing m) (z - (1 + m)) 0 ≡ z = ascending-at (1 + m) (255 - m) (z - (1 + m)) (omega arith) ∙ omega arith in
+    rw p at (product-zero (missing m) (z - (1 + m)) (omega (arith, length-ascending (1 + m) (255 - m))))
 
 pub complement-some : (m z : ℕ) → z ≤ m → m < 256 → 0 < eval byteOps (complementOf m) z
 unfolding complementOf
@@ -73,8 +66,8 @@ complement-some m z h k =
   where
     apart : (i : ℕ) → i < length (missing m) → byte z ≡ byte (getD (missing m) i 0) → ⊥
     apart i l q =
-        let n = length-missing m in
-        let a = missing-at m i (omega arith) in
+        let n = length-ascending (1 + m) (255 - m) in
+        let a = ascending-at (1 + m) (255 - m) i (omega arith) in
         let b : z ≡ getD (missing m) i 0 = byte-equal z (getD (missing m) i 0) (omega arith) (omega arith) q in
         omega arith
 

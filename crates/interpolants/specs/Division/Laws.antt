@@ -43,8 +43,7 @@ eval-scale c (a ∷ p) z = ap (λ (v : ℕ). c ⊗ a ⊕ z ⊗ v) (eval-scale c 
 
 -- ---- one place of the quotient
 
-turn-step : (p q r g w v a z : ℕ)
-    → p ⊕ w ⊗ (q ⊕ a ⊗ g) ⊕ w ⊗ (g ⊕ v) ⊗ (a ⊕ z ⊗ r) ≡ p ⊕ w ⊗ (q ⊕ v ⊗ (a ⊕ z ⊗ 0)) ⊕ w ⊗ z ⊗ (g ⊕ v) ⊗ r
+turn-step : (p q r g w v a z : ℕ) → p ⊕ w ⊗ (q ⊕ a ⊗ g) ⊕ w ⊗ (g ⊕ v) ⊗ (a ⊕ z ⊗ r) ≡ p ⊕ w ⊗ (q ⊕ v ⊗ (a ⊕ z ⊗ 0)) ⊕ w ⊗ z ⊗ (g ⊕ v) ⊗ r
 turn-step p q r g w v a z = simp bytefield
 
 module _ (g p q r : List ℕ) (a z : ℕ) (sized : length q ≡ length g) (bytes : Bytes q) (byte : a < 256) where
@@ -53,9 +52,9 @@ module _ (g p q r : List ℕ) (a z : ℕ) (sized : length q ≡ length g) (bytes
   value-turn =
       let one : Bytes (a ∷ []) = (byte, tt) in
       let pq = bytes-plus q (scale byteOps a g) bytes (bytes-scale a g) in
-      rw (eval-append p (plus byteOps q (scale byteOps a g)) z pq, eval-append p (q ++ (a ∷ [])) z (bytes-append q (a ∷ []) bytes one),
-      eval-sum byteOps byte-linear q (scale byteOps a g) z (sized ∙ sym (length-scale byteOps a g)), eval-scale a g z, eval-append q (a ∷ []) z one, sized)
-      (turn-step _ _ _ _ _ _ a z)
+      rw (eval-append p (plus byteOps q (scale byteOps a g)) z pq, eval-append p (q ++ (a ∷ [])) z (bytes-append q (a ∷ []) bytes one))
+      (rw (eval-sum byteOps byte-linear q (scale byteOps a g) z (sized ∙ sym (length-scale byteOps a g)), eval-scale a g z)
+      (rw (eval-append q (a ∷ []) z one, sized) (turn-step _ _ _ _ _ _ a z)))
 
 -- ---- shares
 
@@ -70,8 +69,7 @@ apart g k n s f b i z es ef en =
     rw (es, share-append i f b, take-at (share i f) (share i b) k l, drop-at (share i f) (share i b) k l, en) refl
 
 module _ (g p q r : List ℕ) (v : ℕ) (sized : length q ≡ length g) where
-  share-turn : (i z : ℕ) → i < 8
-      → withQuotient g (length p) (share i (p ++ xorList q (map (scaled v) g))) (share i (v ∷ r)) z
+  share-turn : (i z : ℕ) → i < 8 → withQuotient g (length p) (share i (p ++ xorList q (map (scaled v) g))) (share i (v ∷ r)) z
       ≡ withQuotient g (suc (length p)) (share i (p ++ (q ++ (v ∷ [])))) (share i r) z
   unfolding share
   share-turn i z few =
@@ -86,8 +84,7 @@ module _ (g p q r : List ℕ) (v : ℕ) (sized : length q ≡ length g) where
       let x : length (xorList q (map (scaled v) g)) ≡ length q = length-xorList q (map (scaled v) g) (omega arith) in
       let l : length (p ++ xorList q (map (scaled v) g)) ≡ k - 1 = simp length-append (omega arith) in
       let n : length (p ++ (q ++ (v ∷ []))) ≡ k = simp length-append (omega arith) in
-      apart g (k - 1) (length p) t′ (p ++ xorList q (map (scaled v) g)) (v ∷ r) i z et′ l (omega arith)
-      ∙ share-turn i z few
+      apart g (k - 1) (length p) t′ (p ++ xorList q (map (scaled v) g)) (v ∷ r) i z et′ l (omega arith) ∙ share-turn i z few
       ∙ sym (apart g k (suc (length p)) t (p ++ (q ++ (v ∷ []))) r i z et n (omega arith)) ∙ h i few z
 
 -- ---- the loop
@@ -97,8 +94,7 @@ unfolding eval
 divided-start g t k e i few z =
     let l = length-share i t in
     ap₂ (λ (x y : List ℕ). withQuotient g (k - length g) x y z)
-    (take-all k (share i t) (omega arith)) (drop-of-length-le (share i t) {i = k} (omega arith))
-    ∙ simp bytefield
+    (take-all k (share i t) (omega arith)) (drop-of-length-le (share i t) {i = k} (omega arith)) ∙ simp bytefield
 
 pub divided-turn : (g t t₀ ys : List ℕ) (low k : ℕ) → 0 < k → low + length g ≡ k - 1 → k ≤ length t
     → ys ≡ xorList (take (k - 1 - low) (drop low t)) (map (scaled (getD t (k - 1) 0)) g)
@@ -119,8 +115,7 @@ divided-turn g t t₀ ys low k pos el h ey e =
 
 closed : (g f b : List ℕ) (z : ℕ) → withQuotient g 0 f b z ≡ eval byteOps f z ⊕ monicAt g z ⊗ eval byteOps b z
 unfolding pow
-closed g f b z =
-    ap (_⊕_ (eval byteOps f z)) (⊗-assoc 1 (monicAt g z) (eval byteOps b z) ∙ one-⊗ _ (⊗-lt (monicAt g z) (eval byteOps b z)))
+closed g f b z = ap (_⊕_ (eval byteOps f z)) (⊗-assoc 1 (monicAt g z) (eval byteOps b z) ∙ one-⊗ _ (⊗-lt (monicAt g z) (eval byteOps b z)))
 
 pub divided-end : (g t t₀ : List ℕ) (k : ℕ) → k ≡ length g → Reduced g k t t₀ → Divided g t₀ t
 divided-end g t t₀ k e h i few z =

@@ -15,7 +15,7 @@ use native.Mathlib.Omega.{arith}
 use lib.Dec.{lit<}
 use lib.ListN.{length, getD}
 use lib.Seq.{ext-getD}
-use Rattle.lists.specs.Xor.{_⊕_, ⊕-self, ⊕-zero, zero-⊕, ⊕-apart, ⊕-lt}
+use Rattle.lists.specs.Xor.{_⊕_, ⊕-self, zero-⊕, ⊕-apart, ⊕-lt}
 use Rattle.algebra.specs.Polynomial.{eval}
 use Rattle.bytefield.specs.Product.{_⊗_, byteOps}
 use Rattle.bytefield.specs.Product.Laws.{⊗-zero, bytefield}
@@ -53,13 +53,12 @@ bytes-descending e (suc k) = (power-lt (e * k), bytes-descending e k)
 factored : (b e k : ℕ) → (power b ⊕ power e) ⊗ eval byteOps (descending e k) (power b) ≡ power (b * k) ⊕ power (e * k)
 unfolding descending eval
 factored b e zero = ⊗-zero (power b ⊕ power e) ∙ sym (⊕-self (power 0)) ∙ ap₂ (λ (i j : ℕ). power i ⊕ power j) (omega arith) (omega arith)
-factored b e (suc k) =
-    rw (power-more b k, power-more e k) (step (power b) (power e) (power (e * k)) (power (b * k)) _ (factored b e k))
+factored b e (suc k) = rw (power-more b k, power-more e k) (step (power b) (power e) (power (e * k)) (power (b * k)) _ (factored b e k))
   where
     step : (z f fk zk v : ℕ) → (z ⊕ f) ⊗ v ≡ zk ⊕ fk → (z ⊕ f) ⊗ (fk ⊕ z ⊗ v) ≡ z ⊗ zk ⊕ f ⊗ fk
     step z f fk zk v h =
         let open-up : (z ⊕ f) ⊗ (fk ⊕ z ⊗ v) ≡ (z ⊕ f) ⊗ fk ⊕ z ⊗ ((z ⊕ f) ⊗ v) = simp bytefield in
-        open-up ∙ ap (λ (x : ℕ). (z ⊕ f) ⊗ fk ⊕ z ⊗ x) h ∙ simp bytefield
+        rw (open-up, h) (simp bytefield)
 
 descending-apart : (b e : ℕ) → (power b ≡ power e → ⊥) → eval byteOps (descending e 255) (power b) ≡ 0
 descending-apart b e n =
@@ -103,16 +102,13 @@ sums-before : (c : List ℕ) (b n : ℕ) → b < 255 → n ≤ b → eval byteOp
 sums-before c b zero h k = sums-none c 255 (power b)
 sums-before c b (suc n) h k = sums-apart c b n h (omega arith) (λ e. omega arith) ∙ sums-before c b n h (omega arith)
 
-sums-own : (c : List ℕ) (b : ℕ) → b < 255 → eval byteOps (sums c (suc b) 255) (power b) ≡ entryOf c (power b) ⊗ power (b * 254)
-sums-own c b h = rw (sums-more c b 255 (power b), sums-before c b b h (omega arith), descending-own b) (zero-⊕ _)
-
 sums-value : (c : List ℕ) (b n : ℕ) → b < n → n ≤ 255 → eval byteOps (sums c n 255) (power b) ≡ entryOf c (power b) ⊗ power (b * 254)
 sums-value c b zero h k = absurd (not-suc-le-zero h)
 sums-value c b (suc n) h k = go (ℕ-discrete b n) (sums-value c b n)
   where
     go : Dec (b ≡ n) → (b < n → n ≤ 255 → eval byteOps (sums c n 255) (power b) ≡ entryOf c (power b) ⊗ power (b * 254))
         → eval byteOps (sums c (suc n) 255) (power b) ≡ entryOf c (power b) ⊗ power (b * 254)
-    go (yes e) ih = rw (← e) (sums-own c b (omega arith))
+    go (yes e) ih = rw (← e) (rw (sums-more c b 255 (power b), sums-before c b b (omega arith) (omega arith), descending-own b) (zero-⊕ _))
     go (no d) ih = sums-apart c b n (omega arith) (omega arith) d ∙ ih (omega (arith, d)) (omega arith)
 
 -- ---- lists of power sums
