@@ -12,7 +12,8 @@
 use mathlib.Core.Path.{_≡_, refl, sym, ap, ap₂, _∙_}
 use mathlib.Core.List.{List, _++_}
 use Prim.Native.Nat.{ℕ, _+_, _-_, _≤_, _<_}
-use native.Mathlib.Decide.{decLt}
+use mathlib.Core.Logic.{⊎-elim}
+use native.Mathlib.Nat.{eq-zero-or-pos}
 use native.Mathlib.Numerals.{add-one}
 use native.Mathlib.Omega.{arith}
 use lib.ListN.{length, take, drop, getD, set, length-set}
@@ -88,25 +89,16 @@ added-part {j} {end} {g} {h} {c} {d} {ys} p a b q e =
     let m : length (part d j (end - j)) ≡ end - j = length-part d j (end - j) (omega arith) in
     let l : length ys ≡ end - j = q .same-length ∙ m in
     let fits : j + length ys ≤ length d = omega arith in
+    let within : (i : ℕ) → i < end - j → getD (putAt d j ys) (j + i) 0 ≡ getD c (j + i) 0 ⊕ g (j + i)
+    = λ i b. put-within d j ys fits i (omega arith) ∙ q .added i (omega arith)
+    ∙ ap₂ _⊕_ (getD-part d j (end - j) i b ∙ p .same (j + i) (omega arith)) (e i b) in
     rw (lent-back d ys j end a l)
     record {
       same-length = length-putAt d j ys fits ∙ s;
-      added = λ k b. early fits l m k b (decLt k j);
+      added = λ k b. ⊎-elim (λ n. let k′ : j + (k - j) ≡ k = omega arith in rw k′ at (within (k - j) (omega arith)))
+          (λ n. put-before d j ys fits k (omega arith) ∙ p .added k (omega arith)) (eq-zero-or-pos (j - k));
       same = λ k b. put-behind d j ys fits k (omega arith) ∙ p .same k (omega arith);
     }
-  where
-    within : j + length ys ≤ length d → length ys ≡ end - j → length (part d j (end - j)) ≡ end - j
-        → (i : ℕ) → i < end - j → getD (putAt d j ys) (j + i) 0 ≡ getD c (j + i) 0 ⊕ g (j + i)
-    within fits l m i b =
-        put-within d j ys fits i (omega arith) ∙ q .added i (omega arith)
-        ∙ ap₂ _⊕_ (getD-part d j (end - j) i b ∙ p .same (j + i) (omega arith)) (e i b)
-
-    early : j + length ys ≤ length d → length ys ≡ end - j → length (part d j (end - j)) ≡ end - j
-        → (k : ℕ) → k < end → Dec (k < j) → getD (putAt d j ys) k 0 ≡ getD c k 0 ⊕ g k
-    early fits l m k b (yes a) = put-before d j ys fits k a ∙ p .added k a
-    early fits l m k b (no a) =
-        let k′ : j + (k - j) ≡ k = omega arith in
-        rw k′ at (within fits l m (k - j) (omega arith))
 
 -- ---- a sum, term by term
 

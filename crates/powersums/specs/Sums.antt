@@ -32,9 +32,7 @@ total-of f h g (suc n) = h (total g n) (g n) ∙ ap (λ (x : ℕ). x ⊕ f (g n)
 pub total-append : (f : ℕ → ℕ) (a b : ℕ) → total f (a + b) ≡ total f a ⊕ total (λ k. f (k + a)) b
 unfolding sum
 total-append f a zero = ap (total f) (add-zero a) ∙ sym (⊕-zero (total f a))
-total-append f a (suc b) =
-    ap (total f) (add-suc a b) ∙ ap₂ (λ (x y : ℕ). x ⊕ f y) (total-append f a b) (add-comm a b)
-    ∙ ⊕-assoc (total f a) (total (λ k. f (k + a)) b) (f (b + a))
+total-append f a (suc b) = rw (add-suc a b, total-append f a b, add-comm b a) (⊕-assoc (total f a) (total (λ k. f (k + a)) b) (f (a + b)))
 
 pub total-blocks : (f : ℕ → ℕ) (k n : ℕ) → total (λ q. total (λ r. f (r + k * q)) k) n ≡ total f (k * n)
 unfolding sum

@@ -20,7 +20,7 @@ use Rattle.cube.specs.Sum.Laws.{sum-ext, sum-swap}
 use Rattle.lists.specs.Xor.{positive}
 use Rattle.lists.specs.Additive.{additive-zero}
 use Rattle.bytefield.specs.Product.{_⊗_}
-use Rattle.bytefield.specs.Product.Laws.{⊗-assoc, ⊗-zero, zero-⊗, ⊗-additive-l, one-⊗}
+use Rattle.bytefield.specs.Product.Laws.{⊗-assoc, ⊗-zero, zero-⊗, ⊗-additive-l, one-⊗, ⊗-lt}
 use Rattle.bytefield.specs.Powers.{power, power-lt, power-add, power-cycle}
 use Rattle.packed.specs.Word.{scaled}
 use Rattle.packed.specs.Word.Laws.{scaled-sum, scaled-scaled}
@@ -36,12 +36,9 @@ use Rattle.powersums.specs.Classes.{weighed, progression, classSum, clas
 
 -- 03 to the e and to the 254·e give 1 together
 pub power-pos : (e : ℕ) → 0 < power e
-power-pos e = positive (power e) (λ h. let z : _≡_ {A = ℕ} 0 1 =
-    sym (zero-⊗ (power (254 * e))) ∙ ap (λ (x : ℕ). x ⊗ power (254 * e)) (sym h) ∙ sym (power-add e (254 * e)) ∙ ap power cycle ∙ power-cycle e
-    in omega arith)
-  where
-    cycle : e + 254 * e ≡ 255 * e
-    cycle = omega arith
+power-pos e =
+    let cycle : e + 254 * e ≡ 255 * e = omega arith in
+    positive (power e) (λ h. let z : _≡_ {A = ℕ} 1 0 = rw (cycle, power-cycle e, h, zero-⊗ (power (254 * e))) at (power-add e (254 * e)) in omega arith)
 
 pub power-next : (k k′ s e j : ℕ) → power k ≡ power (s + e * j) → power k′ ≡ power (k + e) → power k′ ≡ power (s + e * (j + 1))
 power-next k k′ s e j p q =
@@ -65,18 +62,15 @@ pub weighed-at : (a w : List ℕ) (m e f x s : ℕ) → m ≤ length a → lengt
     → (f - 1 < length w → power s ≡ entryOf w f) → (o : ℕ) → progression x s e o ≡ progression (weighed (take m a) w e) 0 e o
 unfolding weighed
 weighed-at a w m e f x s l n ef ex es o =
-    ap (scaled x) (power-add s (e * o)) ∙ sym (scaled-scaled x (power s) (power (e * o)))
-    ∙ ap₂ (λ (y k : ℕ). scaled y (power k))
-    (ap (λ (y : ℕ). scaled y (power s)) ex ∙ weight (decLt (f - 1) m) ∙ ap (λ (b : ℕ). scaled (entryOf (take m a) b) (entryOf w b)) ef)
-    (sym (zero-add (e * o)))
+    rw (power-add s (e * o), ← scaled-scaled x (power s) (power (e * o)), ex, zero-add (e * o), ← ef)
+    (ap (λ (y : ℕ). scaled y (power (e * o))) (weight (decLt (f - 1) m)))
   where
     weight : Dec (f - 1 < m) → scaled (entryOf (take m a) f) (power s) ≡ scaled (entryOf (take m a) f) (entryOf w f)
     weight (yes h) = ap (scaled (entryOf (take m a) f)) (es (omega arith))
     weight (no h) =
         let t : length (take m a) ≡ m = length-take-le m a l in
         let z : entryOf (take m a) f ≡ 0 = List·getD-eq-default (take m a) 0 (omega arith) in
-        ap (λ (y : ℕ). scaled y (power s)) z ∙ scaled-zero (power s)
-        ∙ sym (ap (λ (y : ℕ). scaled y (entryOf w f)) z ∙ scaled-zero (entryOf w f))
+        rw z (scaled-zero (power s) ∙ sym (scaled-zero (entryOf w f)))
 
 -- ---- a class
 
@@ -91,17 +85,11 @@ class-of x κ z c b d fz ac ad =
 
 exponents : (κ q o : ℕ) → power ((κ + 15 * q) * (o % 17)) ⊗ power (17 * κ * (o / 17)) ≡ power ((κ + 15 * q) * o)
 exponents κ q o =
-    sym (power-add ((κ + 15 * q) * (o % 17)) (17 * κ * (o / 17)))
-    ∙ sym (one-⊗ (power ((κ + 15 * q) * (o % 17) + 17 * κ * (o / 17))) (power-lt ((κ + 15 * q) * (o % 17) + 17 * κ * (o / 17))))
-    ∙ ap (λ (x : ℕ). x ⊗ power ((κ + 15 * q) * (o % 17) + 17 * κ * (o / 17))) (sym (power-cycle (q * (o / 17))))
-    ∙ sym (power-add (255 * (q * (o / 17))) ((κ + 15 * q) * (o % 17) + 17 * κ * (o / 17)))
-    ∙ ap power (apart (o / 17) (o % 17) ∙ ap (_*_ (κ + 15 * q)) whole)
-  where
-    whole : 17 * (o / 17) + o % 17 ≡ o
-    whole = omega arith
-
-    apart : (d r : ℕ) → 255 * (q * d) + ((κ + 15 * q) * r + 17 * κ * d) ≡ (κ + 15 * q) * (17 * d + r)
-    apart d r = omega arith
+    let whole : o ≡ 17 * (o / 17) + o % 17 = omega arith in
+    let apart : (d r : ℕ) → (κ + 15 * q) * (17 * d + r) ≡ 255 * (q * d) + ((κ + 15 * q) * r + 17 * κ * d) = λ d r. omega arith in
+    let around = power-add (255 * (q * (o / 17))) ((κ + 15 * q) * (o % 17) + 17 * κ * (o / 17)) in
+    rw (ap (_*_ (κ + 15 * q)) whole ∙ apart (o / 17) (o % 17), around, power-cycle (q * (o / 17)), power-add ((κ + 15 * q) * (o % 17)) (17 * κ * (o / 17)))
+    (sym (one-⊗ _ (⊗-lt _ _)))
 
 -- ---- the sums
 
@@ -109,9 +97,7 @@ module _ (i : ℕ) (small : i < 8) (v w : List ℕ) where
   lane-weighed : (e : ℕ) → byteAt i (weighed v w e) ≡ entryOf (timesEach (share i v) w) (power e)
   unfolding weighed
   lane-weighed e =
-      byteAt-scaled i (entryOf v (power e)) (entryOf w (power e)) small
-      ∙ ap (λ (x : ℕ). x ⊗ entryOf w (power e)) (sym (getD-share i v (power e - 1)))
-      ∙ sym (getD-timesEach (share i v) w (power e - 1))
+      rw (byteAt-scaled i (entryOf v (power e)) (entryOf w (power e)) small, getD-timesEach (share i v) w (power e - 1), getD-share i v (power e - 1)) refl
 
   entry : ℕ → ℕ
   entry e = entryOf (timesEach (share i v) w) (power e)
@@ -120,11 +106,8 @@ module _ (i : ℕ) (small : i < 8) (v w : List ℕ) where
       ≡ entry (κ + 15 * q) ⊗ power ((κ + 15 * q) * o)
   unfolding entry
   lane-term κ q o =
-      ap (λ (x : ℕ). x ⊗ power (17 * κ * (o / 17)))
-      (byteAt-scaled i (weighed v w (κ + 15 * q)) (power (0 + (κ + 15 * q) * (o % 17))) small
-      ∙ ap₂ (λ (x k : ℕ). x ⊗ power k) (lane-weighed (κ + 15 * q)) (zero-add ((κ + 15 * q) * (o % 17))))
-      ∙ ⊗-assoc (entry (κ + 15 * q)) (power ((κ + 15 * q) * (o % 17))) (power (17 * κ * (o / 17)))
-      ∙ ap (_⊗_ (entry (κ + 15 * q))) (exponents κ q o)
+      rw (zero-add ((κ + 15 * q) * (o % 17)), byteAt-scaled i (weighed v w (κ + 15 * q)) (power ((κ + 15 * q) * (o % 17))) small, lane-weighed (κ + 15 * q))
+      (⊗-assoc (entry (κ + 15 * q)) _ _ ∙ ap (_⊗_ (entry (κ + 15 * q))) (exponents κ q o))
 
   lane-class : (κ o : ℕ) → o < 255 → byteAt i (classTerm (weighed v w) κ (place o)) ≡ total (λ q. entry (κ + 15 * q) ⊗ power ((κ + 15 * q) * o)) 17
   unfolding classTerm classSum
