@@ -114,24 +114,18 @@ module _ (i : ℕ) (small : i < 8) (v w : List ℕ) where
   lane-class κ o h =
       let d : place o / 15 ≡ o % 17 = omega arith in
       let r : place o % 15 ≡ o / 17 = omega arith in
-      ap₂ (λ (a b : ℕ). byteAt i (progression (classSum (weighed v w) κ a) 0 (17 * κ) b)) d r
-      ∙ byteAt-scaled i (classSum (weighed v w) κ (o % 17)) (power (0 + 17 * κ * (o / 17))) small
-      ∙ ap₂ (λ (x k : ℕ). x ⊗ power k)
-      (total-of (byteAt i) (byteAt-sum i) (λ q. progression (weighed v w (κ + 15 * q)) 0 (κ + 15 * q) (o % 17)) 17) (zero-add (17 * κ * (o / 17)))
-      ∙ total-of (λ x. x ⊗ power (17 * κ * (o / 17))) (⊗-additive-l (power (17 * κ * (o / 17))))
-      (λ q. byteAt i (progression (weighed v w (κ + 15 * q)) 0 (κ + 15 * q) (o % 17))) 17
-      ∙ sum-ext xorGroup (λ q. byteAt i (progression (weighed v w (κ + 15 * q)) 0 (κ + 15 * q) (o % 17)) ⊗ power (17 * κ * (o / 17)))
-      (λ q. entry (κ + 15 * q) ⊗ power ((κ + 15 * q) * o)) 17 (λ q l. lane-term κ q o)
+      let term : ℕ → ℕ = λ q. progression (weighed v w (κ + 15 * q)) 0 (κ + 15 * q) (o % 17) in
+      rw (d, r, zero-add (17 * κ * (o / 17)), byteAt-scaled i (total term 17) (power (17 * κ * (o / 17))) small, total-of (byteAt i) (byteAt-sum i) term 17)
+      (total-of (λ x. x ⊗ power (17 * κ * (o / 17))) (⊗-additive-l (power (17 * κ * (o / 17)))) (λ q. byteAt i (term q)) 17
+      ∙ sum-ext xorGroup _ _ 17 (λ q l. lane-term κ q o))
 
   pub power-sums-at : (o : ℕ) → o < 255 → byteAt i (classSums (weighed v w) 15 (place o)) ≡ powerSum (timesEach (share i v) w) o 255
   unfolding entry
   power-sums-at o h =
       total-of (byteAt i) (byteAt-sum i) (λ κ. classTerm (weighed v w) κ (place o)) 15
-      ∙ sum-ext xorGroup (λ κ. byteAt i (classTerm (weighed v w) κ (place o))) (λ κ. total (λ q. entry (κ + 15 * q) ⊗ power ((κ + 15 * q) * o)) 17) 15
-      (λ κ l. lane-class κ o h)
+      ∙ sum-ext xorGroup _ _ 15 (λ κ l. lane-class κ o h)
       ∙ sum-swap xorGroup (λ κ q. entry (κ + 15 * q) ⊗ power ((κ + 15 * q) * o)) 15 17
-      ∙ total-blocks (λ e. entry e ⊗ power (e * o)) 15 17
-      ∙ sym (powerSum-total (timesEach (share i v) w) o 255)
+      ∙ total-blocks (λ e. entry e ⊗ power (e * o)) 15 17 ∙ sym (powerSum-total (timesEach (share i v) w) o 255)
 
 -- z is the work area as it begins, b as it ends, t what is in it in the order of the exponents
 pub power-sums-of : (v w z b t : List ℕ) → length t ≡ 255 → Filled 255 (λ k. 0) z → Added 255 (classSums (weighed v w) 15) z b
