@@ -11,7 +11,7 @@
 use mathlib.Core.Path.{_≡_, refl, sym, ap, ap₂, _∙_}
 use mathlib.Core.Logic.{⊎-elim}
 use mathlib.Core.List.{List, [], _∷_, _++_, map, append-assoc}
-use Prim.Native.Nat.{ℕ, zero, _+_, _*_, _/_, _%_, _<_}
+use Prim.Native.Nat.{ℕ, zero, _+_, _*_, _/_, _%_, _≤_, _<_}
 use native.Mathlib.Omega.{arith}
 use lib.Dec.{lit<}
 use lib.ListN.{length, getD, take, drop, length-append}
@@ -55,21 +55,11 @@ unfolding word
 word-shifts a b c d =
     let e : c * 256 * 256 ≡ c * 65536 = omega arith in
     let f : d * 256 * 256 * 256 ≡ d * 16777216 = omega arith in
-    ap (λ (x : ℕ). a ⊕ x)
-    (⊕-shl 8 b ((c ⊕ (d ⊕ 0) * 256) * 256)
-    ∙ ap (λ (x : ℕ). b * 256 ⊕ x)
-    (ap (λ (x : ℕ). x * 256) (⊕-shl 8 c ((d ⊕ 0) * 256)) ∙ ⊕-shl 8 (c * 256) ((d ⊕ 0) * 256 * 256)
-    ∙ ap₂ _⊕_ e (ap (λ (x : ℕ). x * 256 * 256 * 256) (⊕-zero d) ∙ f)))
+    rw (⊕-zero d, ⊕-shl 8 c (d * 256), ⊕-shl 8 b (c * 256 ⊕ d * 256 * 256), ⊕-shl 8 (c * 256) (d * 256 * 256), e, f) refl
 
 word-sum : (a b c d e f g h : ℕ) → word ((a ⊕ e) ∷ (b ⊕ f) ∷ (c ⊕ g) ∷ (d ⊕ h) ∷ []) ≡ word (a ∷ b ∷ c ∷ d ∷ []) ⊕ word (e ∷ f ∷ g ∷ h ∷ [])
 word-sum a b c d e f g h =
-    word-shifts (a ⊕ e) (b ⊕ f) (c ⊕ g) (d ⊕ h)
-    ∙ ap₂ (λ (x y : ℕ). (a ⊕ e) ⊕ (x ⊕ y)) (⊕-shl 8 b f) (ap₂ _⊕_ (⊕-shl 16 c g) (⊕-shl 24 d h))
-    ∙ regroup a (b * 256) (c * 65536) (d * 16777216) e (f * 256) (g * 65536) (h * 16777216)
-    ∙ ap₂ _⊕_ (sym (word-shifts a b c d)) (sym (word-shifts e f g h))
-  where
-    regroup : (a b c d e f g h : ℕ) → (a ⊕ e) ⊕ ((b ⊕ f) ⊕ ((c ⊕ g) ⊕ (d ⊕ h))) ≡ (a ⊕ (b ⊕ (c ⊕ d))) ⊕ (e ⊕ (f ⊕ (g ⊕ h)))
-    regroup a b c d e f g h = simp xors
+    rw (word-shifts (a ⊕ e) (b ⊕ f) (c ⊕ g) (d ⊕ h), word-shifts a b c d, word-shifts e f g h, ⊕-shl 8 b f, ⊕-shl 16 c g, ⊕-shl 24 d h) (simp xors)
 
 pub wordOf-sum : (x y : Point) → wordOf (x ⊞ y) ≡ wordOf x ⊕ wordOf y
 unfolding wordOf bytesOf points byteRing
@@ -207,16 +197,11 @@ pub whole-product : (a : List ℕ) (b : Point) (t : List ℕ) (w₀ w₁ w₂ w�
     → t ≡ multiplesOf b → w₀ ⊕ w₁ ⊕ w₂ ⊕ w₃ ≡ wordOf (point a ⊠ b)
 unfolding multiplesOf multiples nibbles
 whole-product a b t w₀ w₁ w₂ w₃ r₀ r₁ r₂ r₃ e =
-    ap₂ _⊕_
-    (ap₂ _⊕_
-    (ap₂ _⊕_ (r₀ b (ap (λ (l : List ℕ). take 32 (drop 0 l)) e)) (r₁ (b ⊠ byX) (ap (λ (l : List ℕ). take 32 (drop 32 l)) e)))
-    (r₂ (b ⊠ byZ) (ap (λ (l : List ℕ). take 32 (drop 64 l)) e)))
-    (r₃ (b ⊠ (byX ⊠ byZ)) (ap (λ (l : List ℕ). take 32 (drop 96 l)) e))
-    ∙ sym
-    (ap (λ (x : Point). wordOf (x ⊠ b)) (split-point a)
+    let at : (k : ℕ) → take 32 (drop k t) ≡ take 32 (drop k (multiplesOf b)) = λ k. ap (λ (l : List ℕ). take 32 (drop k l)) e in
+    ap₂ _⊕_ (ap₂ _⊕_ (ap₂ _⊕_ (r₀ b (at 0)) (r₁ (b ⊠ byX) (at 32))) (r₂ (b ⊠ byZ) (at 64))) (r₃ (b ⊠ (byX ⊠ byZ)) (at 96))
+    ∙ sym (ap (λ (x : Point). wordOf (x ⊠ b)) (split-point a)
     ∙ ap wordOf (spread (points .base) (scalar (getD a 0 0)) (scalar (getD a 1 0)) (scalar (getD a 2 0)) (scalar (getD a 3 0)) byX byZ (byX ⊠ byZ) b)
-    ∙ wordOf-sum _ _ ∙ ap (λ (w : ℕ). w ⊕ wordOf (scalar (getD a 3 0) ⊠ (b ⊠ (byX ⊠ byZ))))
-    (wordOf-sum _ _ ∙ ap (λ (w : ℕ). w ⊕ wordOf (scalar (getD a 2 0) ⊠ (b ⊠ byZ))) (wordOf-sum _ _)))
+    ∙ simp wordOf-sum)
 
 lower-point : (a : List ℕ) → Lower a → scalar (getD a 0 0) ≡ point a
 unfolding point
@@ -236,11 +221,10 @@ tables-joined d p q r s ld lp lq lr ls =
     let a : length (p ++ q) ≡ 64 = length-append p q ∙ omega arith in
     let b : length ((p ++ q) ++ r) ≡ 96 = length-append (p ++ q) r ∙ omega arith in
     let c : length (((p ++ q) ++ r) ++ s) ≡ 128 = length-append ((p ++ q) ++ r) s ∙ omega arith in
-    ap (λ (l : List ℕ). putAt (putAt l 64 r) 96 s) (ap (λ (k : ℕ). putAt (putAt d 0 p) k q) (sym lp) ∙ putAt-putAt d p q (omega arith))
-    ∙ ap (λ (l : List ℕ). putAt l 96 s) (ap (λ (k : ℕ). putAt (putAt d 0 (p ++ q)) k r) (sym a) ∙ putAt-putAt d (p ++ q) r (omega arith))
-    ∙ ap (λ (k : ℕ). putAt (putAt d 0 ((p ++ q) ++ r)) k s) (sym b) ∙ putAt-putAt d ((p ++ q) ++ r) s (omega arith)
-    ∙ putAt-whole d (((p ++ q) ++ r) ++ s) (omega arith)
-    ∙ append-assoc (p ++ q) r s ∙ append-assoc p q (r ++ s)
+    let next : (x y : List ℕ) (k : ℕ) → length x ≡ k → k + length y ≤ 128 → putAt (putAt d 0 x) k y ≡ putAt d 0 (x ++ y)
+    = λ x y k l h. rw (← l) (putAt-putAt d x y (omega arith)) in
+    rw (next p q 32 lp (omega arith), next (p ++ q) r 64 a (omega arith), next ((p ++ q) ++ r) s 96 b (omega arith))
+    (putAt-whole d (((p ++ q) ++ r) ++ s) (omega arith) ∙ append-assoc (p ++ q) r s ∙ append-assoc p q (r ++ s))
 
 pub length-multiples : (v : ℕ) → length (multiples v) ≡ 32
 unfolding multiples nibbles
@@ -262,11 +246,5 @@ unfolding multiplesOf
 tables-made d b x z xz q₁ q₂ q₃ q₄ ld ex ez exz e₁ e₂ e₃ e₄ =
     let px : point x ≡ point b ⊠ byX = ap point ex ∙ point-bytesOf _ in
     let pz : point z ≡ point b ⊠ byZ = ap point ez ∙ point-bytesOf _ in
-    let pxz : point xz ≡ point b ⊠ (byX ⊠ byZ)
-    = ap point exz ∙ point-bytesOf _ ∙ ap (λ (y : Point). y ⊠ byZ) px ∙ points .base .mul-assoc (point b) byX byZ in
-    e₄ ∙ ap (λ (l : List ℕ). putAt l 96 (multiples (wordOf (point xz)))) (e₃ ∙ ap (λ (l : List ℕ). putAt l 64 (multiples (wordOf (point z))))
-    (e₂ ∙ ap (λ (l : List ℕ). putAt l 32 (multiples (wordOf (point x)))) e₁))
-    ∙ tables-joined d _ _ _ _ ld (length-multiples _) (length-multiples _) (length-multiples _) (length-multiples _)
-    ∙ ap (_++_ (multiples (wordOf (point b))))
-    (ap₂ _++_ (ap (λ (y : Point). multiples (wordOf y)) px)
-    (ap₂ _++_ (ap (λ (y : Point). multiples (wordOf y)) pz) (ap (λ (y : Point). multiples (wordOf y)) pxz)))
+    let pxz : point xz ≡ point b ⊠ (byX ⊠ byZ) = ap point exz ∙ point-bytesOf _ ∙ rw px (points .base .mul-assoc (point b) byX byZ) in
+    rw (e₄, e₃, e₂, e₁, px, pz, pxz) (tables-joined d _ _ _ _ ld (length-multiples _) (length-multiples _) (length-multiples _) (length-multiples _))
