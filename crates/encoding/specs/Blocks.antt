@@ -55,10 +55,7 @@ module _ (f : ℕ → List ℕ) (size n : ℕ) (d : List ℕ) (room : length d �
       record {
         sized = ap length (joined-split f i c) ∙ length-append (joined f i) _ ∙ ap₂ _+_ e (ap length (sym eu) ∙ lu ∙ ez) ∙ sym a;
         written = lent-back q u b (b + z) (omega arith) (lu ∙ y)
-            ∙ ap₂ (λ (x : List ℕ) (j : ℕ). putAt x j u) (g .written) (eb ∙ sym e)
-            ∙ putAt-putAt d (joined f i) u (omega arith)
-            ∙ ap (λ (x : List ℕ). putAt d 0 (joined f i ++ x)) eu
-            ∙ ap (putAt d 0) (sym (joined-split f i c));
+            ∙ rw (g .written, eb, ← e, joined-split f i c, ← eu) (putAt-putAt d (joined f i) u (omega arith));
       }
 
   pub blocks-turn : (q u : List ℕ) (i b : ℕ) → i < n → b ≡ i * size → length u ≡ size → u ≡ f i → Blocks f size d q i

@@ -14,7 +14,7 @@ use Prim.Native.Nat.{ℕ, suc, _+_, _-_, _*_, _≤_, _<_}
 use native.Mathlib.Numerals.{add-one}
 use native.Mathlib.Omega.{arith}
 use lib.Dec.{lit<}
-use lib.ListN.{length, getD, set, take, drop, length-append, length-drop}
+use lib.ListN.{length-take, length, getD, set, take, drop, length-append, length-drop}
 use lib.Seq.{length-take-le, take-at, drop-at, paste}
 use Rattle.lists.specs.Part.{part, putAt}
 use Rattle.lists.specs.Part.Laws.{putAt-none, putAt-more, putAt-all, putAt-whole, putAt-putAt, tail-part, tail-back}
@@ -66,16 +66,11 @@ bytes-read s i h =
 pub bytes-put : (d : List ℕ) (at : ℕ) (x : List ℕ) → length x ≡ 4 → at + 4 ≤ length d
     → set (set (set (set d at (getD x 0 0)) (at + 1) (getD x 1 0)) (at + 2) (getD x 2 0)) (at + 3) (getD x 3 0) ≡ putAt d at x
 bytes-put d at x e h =
-    ap (λ (q : List ℕ). set (set (set q (at + 1) (getD x 1 0)) (at + 2) (getD x 2 0)) (at + 3) (getD x 3 0)) first
-    ∙ ap (λ (q : List ℕ). set (set q (at + 2) (getD x 2 0)) (at + 3) (getD x 3 0)) (putAt-more d at x 1 (omega arith) (omega arith))
-    ∙ ap (λ (q : List ℕ). set q (at + 3) (getD x 3 0)) (putAt-more d at x 2 (omega arith) (omega arith))
-    ∙ putAt-more d at x 3 (omega arith) (omega arith)
-    ∙ ap (paste d at x) (sym e) ∙ putAt-all d at x
-  where
-    first : set d at (getD x 0 0) ≡ paste d at x 1
-    first =
-        let z : at ≡ at + 0 = omega arith in
-        ap₂ (λ (q : List ℕ) (i : ℕ). set q i (getD x 0 0)) (putAt-none d at x) z ∙ putAt-more d at x 0 (omega arith) (omega arith)
+    let z : at ≡ at + 0 = omega arith in
+    let first : set d at (getD x 0 0) ≡ paste d at x 1
+    = ap₂ (λ (q : List ℕ) (i : ℕ). set q i (getD x 0 0)) (putAt-none d at x) z ∙ putAt-more d at x 0 (omega arith) (omega arith) in
+    rw (first, putAt-more d at x 1 (omega arith) (omega arith), putAt-more d at x 2 (omega arith) (omega arith))
+    (putAt-more d at x 3 (omega arith) (omega arith) ∙ ap (paste d at x) (sym e) ∙ putAt-all d at x)
 
 -- ---- tables
 
@@ -89,10 +84,7 @@ unfolding encode joined
 write-turn f d p x i h ep ex =
     let n = length-encode f i in
     let b = length-bytesOf (f i) in
-    ap₂ (λ (q y : List ℕ). putAt q (4 * i) y) ep ex
-    ∙ ap (λ (k : ℕ). putAt (putAt d 0 (encode f i)) k (bytesOf (f i))) (sym n)
-    ∙ putAt-putAt d (encode f i) (bytesOf (f i)) (omega arith)
-    ∙ ap (λ (k : ℕ). putAt d 0 (encode f k)) (sym (add-one i))
+    rw (ep, ex, add-one i, ← n) (putAt-putAt d (encode f i) (bytesOf (f i)) (omega arith))
 
 pub write-end : (f : ℕ → Point) (d p : List ℕ) (i n : ℕ) → i ≡ n → 4 * n ≡ length d → p ≡ putAt d 0 (encode f i) → p ≡ encode f n
 write-end f d p i n e h ep = ep ∙ ap (λ (k : ℕ). putAt d 0 (encode f k)) e ∙ putAt-whole d (encode f n) (length-encode f n ∙ h)
@@ -103,14 +95,10 @@ pub front-length : (n : ℕ) (l : List ℕ) → n ≤ length l → n ≡ length 
 front-length n l h = sym (length-take-le n l h)
 
 pub front-kept : (a : ℕ) (z l : List ℕ) → length z ≡ a → a ≤ length l → length (z ++ drop a l) ≡ length l
-front-kept a z l e h = length-append z (drop a l) ∙ (let d = length-drop a l in omega arith)
+front-kept a z l e h = simp (length-append, length-drop) (omega arith)
 
 pub middle-kept : (a n : ℕ) (u l : List ℕ) → length u ≡ n → a + n ≤ length l → length (take a l ++ (u ++ drop n (drop a l))) ≡ length l
-middle-kept a n u l e h =
-    let d = length-drop n (drop a l) in
-    let b = length-drop a l in
-    let t = length-take-le a l (omega arith) in
-    length-append (take a l) (u ++ drop n (drop a l)) ∙ (let q = length-append u (drop n (drop a l)) in omega arith)
+middle-kept a n u l e h = simp (length-append, length-take, length-drop) (omega arith)
 
 -- ---- a front, and then the rest
 
