@@ -89,11 +89,7 @@ rows-more : (n i : ℕ) (h x : List ℕ) → i < length x
 unfolding rows plus scale column
 rows-more zero i h x l = refl
 rows-more (suc n) i h x l =
-    ap₂ _∷_ (dot-more h x i l)
-    (ap (λ (k : ℕ). rows n (drop k h) (front (suc i) x)) (length-front (suc i) x)
-    ∙ rows-more n i (drop (length x) h) x l
-    ∙ ap (λ (k : ℕ). plus byteOps (rows n (drop k h) (front i x)) (scale byteOps (getD x i 0) (column n (length x) i (drop (length x) h))))
-    (sym (length-front i x)))
+    ap₂ _∷_ (dot-more h x i l) (rw (length-front (suc i) x, length-front i x) (rows-more n i (drop (length x) h) x l))
 
 -- ---- each share
 
@@ -101,7 +97,4 @@ pub turn : (s n i : ℕ) (h x out : List ℕ) → s < 8 → i < length x → sha
     → share s (xorList out (map (scaled (getD x i 0)) (column n (length x) i h))) ≡ rows n h (front (i + 1) (share s x))
 turn s n i h x out hs hi e =
     let l = length-share s x in
-    share-added s (getD x i 0) out (column n (length x) i h) hs
-    ∙ ap₂ (plus byteOps) e
-    (ap₂ (scale byteOps) (sym (getD-share s x i)) (ap (λ (k : ℕ). column n k i h) (sym l)))
-    ∙ sym (ap (λ (j : ℕ). rows n h (front j (share s x))) (add-one i) ∙ rows-more n i h (share s x) (omega arith))
+    rw (share-added s (getD x i 0) out (column n (length x) i h) hs, e, add-one i, rows-more n i h (share s x) (omega arith), getD-share s x i, l) refl

@@ -33,8 +33,8 @@ module _ (w₀ matrix : List ℕ) (k : ℕ) where
   pub imaged-all : (i : ℕ) (w : List ℕ) → k ≤ length w₀ → i ≡ k → Imaged w₀ matrix k i w
       → (s : ℕ) → s < 8 → share s (drop k w) ≡ rows (length w₀ - k) matrix (share s (take k w₀))
   imaged-all i w room e g s h =
-      g .done s h ∙ ap (rows (length w₀ - k) matrix)
-      (ap (λ (n : ℕ). front n (share s (take k w₀))) (e ∙ sym (length-share s (take k w₀) ∙ length-take-le k w₀ room)) ∙ front-all (share s (take k w₀)))
+      let l : i ≡ length (share s (take k w₀)) = e ∙ sym (length-share s (take k w₀) ∙ length-take-le k w₀ room) in
+      rw (l, front-all (share s (take k w₀))) at (g .done s h)
 
   pub imaged-fits : (i : ℕ) (w : List ℕ) → Imaged w₀ matrix k i w → (length w₀ - k) * k ≤ length matrix
       → length (take (length w - k) (drop k w)) * k ≤ length matrix
@@ -52,11 +52,8 @@ module _ (w₀ matrix : List ℕ) (k : ℕ) where
     entry : getD w i 0 ≡ getD (take k w₀) i 0
     entry = sym (getD-take k w i 0 hi) ∙ ap (λ (l : List ℕ). getD l i 0) (g .kept)
 
-    added : u ≡ xorList (drop k w) (map (scaled (getD (take k w₀) i 0)) (column (length w₀ - k) (length (take k w₀)) i matrix))
-    added =
-        eu ∙ ap (λ (l : List ℕ). xorList l (map (scaled (getD w i 0)) (column (length l) k i matrix))) (tail-part w k)
-        ∙ ap₂ (λ (v n : ℕ). xorList (drop k w) (map (scaled v) (column n k i matrix))) entry high
-        ∙ ap (λ (n : ℕ). xorList (drop k w) (map (scaled (getD (take k w₀) i 0)) (column (length w₀ - k) n i matrix))) (sym wide)
+    added : u ≡ xorList (drop k w) (map (scaled (getD (take k w₀) i 0)) (column (length w₀ - k) k i matrix))
+    added = rw (tail-part w k, entry, high) at eu
 
     whole : take k w ++ (u ++ drop (length w - k) (drop k w)) ≡ take k w₀ ++ u
     whole = let s = g .sized in tail-back w u k (omega arith) ∙ ap (λ (l : List ℕ). l ++ u) (g .kept)
@@ -68,7 +65,6 @@ module _ (w₀ matrix : List ℕ) (k : ℕ) where
         let s = g .sized in record {
           sized = ap length whole ∙ length-append (take k w₀) u ∙ omega arith;
           kept = ap (take k) whole ∙ take-at (take k w₀) u k wide;
-          done = λ s h.
-              ap (λ (l : List ℕ). share s (drop k l)) whole ∙ ap (share s) (drop-at (take k w₀) u k wide ∙ added)
-              ∙ turn s (length w₀ - k) i matrix (take k w₀) (drop k w) h (omega arith) (g .done s h);
+          done = λ s h. rw (whole, drop-at (take k w₀) u k wide, added)
+              (rw wide at (turn s (length w₀ - k) i matrix (take k w₀) (drop k w) h (omega arith) (g .done s h)));
         }

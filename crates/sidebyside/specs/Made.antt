@@ -56,11 +56,8 @@ module _ (p : Parameters) (matrix y : List ℕ) (first : Bool) (s : List ℕ) (i
       → share i (g ++ xorList h (cond first (map spread y) [])) ≡ xOf p (keyOf matrix y) first s
   unfolding xOf xAOf imageOf
   joined g h eg eh =
-      share-append i g (xorList h (cond first (map spread y) []))
-      ∙ ap₂ _++_ eg
-      (share-sum i h (cond first (map spread y) [])
-      ∙ ap₂ xorList (eh ∙ ap (rows (p .m - p .k) matrix) eg)
-      (share-constant i first y hi bytes ∙ ap (λ (z : List ℕ). cond first z []) (sym (bytesAt-all y (p .m - p .k) ly))))
+      rw (share-append i g (xorList h (cond first (map spread y) [])), share-sum i h (cond first (map spread y) []), eh, eg)
+      (rw (share-constant i first y hi bytes, bytesAt-all y (p .m - p .k) ly) refl)
 
   pub vector-made : (g w v u : List ℕ) → p .k ≤ p .m → length g ≡ p .k → w ≡ g ++ replicate (p .m - p .k) 0 → length v ≡ length w
       → take (p .k) v ≡ take (p .k) w
@@ -70,7 +67,4 @@ module _ (p : Parameters) (matrix y : List ℕ) (first : Bool) (s : List ℕ) (i
   vector-made g w v u h lg ew lv ev ei eu eg =
       let l = prepared-length (p .k) (p .m) g w h lg ew in
       let f = prepared-front (p .k) (p .m) g w h lg ew in
-      ap (share i)
-      (tail-back v u (p .k) (omega arith)
-      ∙ ap₂ _++_ (ev ∙ f) (eu ∙ ap (λ (q : List ℕ). xorList q (cond first (map spread y) [])) (tail-part v (p .k))))
-      ∙ joined g (drop (p .k) v) eg (ei ∙ ap₂ (λ (n : ℕ) (q : List ℕ). rows (n - p .k) matrix (share i q)) l f)
+      rw (tail-back v u (p .k) (omega arith), ev, f, eu, tail-part v (p .k)) (joined g (drop (p .k) v) eg (rw (l, f) at ei))

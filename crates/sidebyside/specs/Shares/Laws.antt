@@ -45,8 +45,7 @@ module _ (size : ℕ) (shares : List ℕ) (from count : ℕ) where
     own : share i (xorList words (map (placed i) x)) ≡ bytesAt (part shares (i * size) size) from count
     own =
         let f = fits in
-        share-own i words x bytes ∙ ap (λ (l : List ℕ). xorList l x) (g .rest i (le-of-eq refl)) ∙ xorList-comm (replicate count 0) x
-        ∙ xorList-zeros x count (omega arith) ∙ e
+        rw (share-own i words x bytes, g .rest i (le-of-eq refl), xorList-comm (replicate count 0) x) (xorList-zeros x count (omega arith) ∙ e)
 
     other : (j : ℕ) → (j ≡ i → ⊥) → share j (xorList words (map (placed i) x)) ≡ share j words
     other j n = let f = fits in let s = g .sized in share-rest j i n words x (omega arith) bytes
@@ -62,8 +61,7 @@ module _ (size : ℕ) (shares : List ℕ) (from count : ℕ) where
         }
       where
         at : (j : ℕ) → j < i + 1 → Dec (j ≡ i) → share j (xorList words (map (placed i) x)) ≡ bytesAt (part shares (j * size) size) from count
-        at j h (yes q) =
-            ap (λ (k : ℕ). share k (xorList words (map (placed i) x))) q ∙ own ∙ ap (λ (k : ℕ). bytesAt (part shares (k * size) size) from count) (sym q)
+        at j h (yes q) = rw q own
         at j h (no q) = other j q ∙ g .done j (omega arith)
 
   module _ (i n : ℕ) (h : i < n) (sized : length shares ≡ n * size) (room : from + count ≤ size) where
@@ -77,8 +75,7 @@ module _ (size : ℕ) (shares : List ℕ) (from count : ℕ) where
         let f = part-fits i n size h in
         let l : length (part shares (i * size) size) ≡ size = length-part shares (i * size) size (omega arith) in
         let e : i * size + from + count - (i * size + from) ≡ count = omega arith in
-        ap (λ (k : ℕ). take k (drop (i * size + from) shares)) e
-        ∙ sym (bytesAt-part (part shares (i * size) size) from count (omega arith) ∙ part-part shares (i * size) size from count room)
+        rw e (sym (bytesAt-part (part shares (i * size) size) from count (omega arith) ∙ part-part shares (i * size) size from count room))
 
     pub gathered-more : (words out : List ℕ) → Gathered size shares from count i words → ((k : ℕ) → getD shares k 0 < 256)
         → out ≡ xorList words (map (placed i) (take (i * size + from + count - (i * size + from)) (drop (i * size + from) shares)))
