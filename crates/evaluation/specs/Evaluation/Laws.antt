@@ -93,23 +93,19 @@ module _ (s : List ℕ) (n stride at : ℕ) (x : Point) (d : List ℕ) (sized : 
 pub value-snoc : (p : List ℕ) (c : ℕ) (r : Point) → value (p ++ (c ∷ [])) r ≡ value p r ⊞ scalar c ⊠ pointPower r (length p)
 unfolding value
 value-snoc p c r =
-    ap (λ (l : List Point). eval (ops (points .base)) l r) (map-append scalar p (c ∷ []))
-    ∙ eval-snoc (points .base) (map scalar p) (scalar c) r
-    ∙ ap (λ (x : Point). value p r ⊞ x)
-    (points .base .mul-comm _ _ ∙ ap (λ (k : ℕ). scalar c ⊠ pointPower r k) (length-map p scalar))
+    rw (map-append scalar p (c ∷ []), eval-snoc (points .base) (map scalar p) (scalar c) r, length-map p scalar)
+    (ap (_⊞_ (value p r)) (points .base .mul-comm _ _))
 
 bytesAt-snoc : (s : List ℕ) (i j : ℕ) → bytesAt s i (suc j) ≡ bytesAt s i j ++ (getD s (i + j) 0 ∷ [])
 unfolding bytesAt
 bytesAt-snoc s i zero = let e : i ≡ i + 0 = omega arith in ap (λ (k : ℕ). getD s k 0 ∷ []) e
 bytesAt-snoc s i (suc j) =
     let e : suc i + j ≡ i + suc j = omega arith in
-    ap (_∷_ (getD s i 0)) (bytesAt-snoc s (suc i) j ∙ ap (λ (k : ℕ). bytesAt s (suc i) j ++ (getD s k 0 ∷ [])) e)
+    ap (_∷_ (getD s i 0)) (rw e at (bytesAt-snoc s (suc i) j))
 
 value-turn : (s : List ℕ) (i j : ℕ) (r : Point) → value (bytesAt s i (j + 1)) r ≡ value (bytesAt s i j) r ⊞ scalar (getD s (i + j) 0) ⊠ pointPower r j
 value-turn s i j r =
-    ap (λ (k : ℕ). value (bytesAt s i k) r) (add-one j) ∙ ap (λ (l : List ℕ). value l r) (bytesAt-snoc s i j)
-    ∙ value-snoc (bytesAt s i j) (getD s (i + j) 0) r
-    ∙ ap (λ (k : ℕ). value (bytesAt s i j) r ⊞ scalar (getD s (i + j) 0) ⊠ pointPower r k) (length-bytesAt s i j)
+    rw (add-one j, bytesAt-snoc s i j, value-snoc (bytesAt s i j) (getD s (i + j) 0) r, length-bytesAt s i j) refl
 
 pub wordOf-zero : 0 ≡ wordOf 𝟎
 unfolding wordOf bytesOf points byteRing word _⊕_
@@ -127,16 +123,13 @@ values-none s n stride from r d e =
 pub values-turn : (s : List ℕ) (n stride from j k at : ℕ) (r x : Point) (d e : List ℕ) → k ≡ j + 1 → at ≡ from + j → x ≡ pointPower r j
     → d ≡ valuesOf s n stride from j r → e ≡ termsOf s n stride at x d → e ≡ valuesOf s n stride from k r
 values-turn s n stride from j k at r x d e ek ea ex ed ee =
-    ee ∙ listed-ext _ _ n (λ i l. turn i l) ∙ ap (λ (m : ℕ). valuesOf s n stride from m r) (sym ek)
+    rw ek (ee ∙ listed-ext _ _ n turn)
   where
-    place : (i : ℕ) → at + i * stride ≡ from + i * stride + j
-    place i = omega arith
-
     turn : (i : ℕ) → i < n → getD d i 0 ⊕ wordOf (scalar (getD s (at + i * stride) 0) ⊠ x) ≡ wordOf (value (bytesAt s (from + i * stride) (j + 1)) r)
     turn i l =
-        ap₂ _⊕_ (ap (λ (q : List ℕ). getD q i 0) ed ∙ getD-listed (λ i. wordOf (value (bytesAt s (from + i * stride) j) r)) n i 0 l)
-        (ap₂ (λ (k : ℕ) (y : Point). wordOf (scalar (getD s k 0) ⊠ y)) (place i) ex)
-        ∙ sym (ap wordOf (value-turn s (from + i * stride) j r) ∙ wordOf-sum _ _)
+        let place : at + i * stride ≡ from + i * stride + j = omega arith in
+        rw (place, ex, ed, getD-listed (λ i. wordOf (value (bytesAt s (from + i * stride) j) r)) n i 0 l, value-turn s (from + i * stride) j r)
+        (sym (wordOf-sum _ _))
 
 -- ---- powers
 
@@ -151,4 +144,4 @@ pub power-turn : (r : Point) (power q : List ℕ) (j k : ℕ) → k ≡ j + 1 �
     → q ≡ bytesOf (pointPower r k)
 unfolding pow
 power-turn r power q j k ek ep eq =
-    eq ∙ ap (λ (x : Point). bytesOf (x ⊠ r)) (power-point r power j ep) ∙ ap (λ (m : ℕ). bytesOf (pointPower r m)) (sym (ek ∙ add-one j))
+    rw (eq, power-point r power j ep, ek, add-one j) refl
