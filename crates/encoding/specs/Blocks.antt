@@ -66,8 +66,7 @@ module _ (f : ℕ → List ℕ) (size n : ℕ) (d : List ℕ) (room : length d �
       blocks-more q u i 1 b size (omega arith) eb (sym (one-mul size)) lu (eu ∙ ap f z) g
 
   pub blocks-end : (q : List ℕ) (i : ℕ) → i ≡ n → Blocks f size d q i → q ≡ joined f n
-  blocks-end q i e g =
-      g .written ∙ putAt-whole d (joined f i) (g .sized ∙ ap (λ (j : ℕ). j * size) e ∙ sym room) ∙ ap (joined f) e
+  blocks-end q i e g = g .written ∙ putAt-whole d (joined f i) (g .sized ∙ ap (λ (j : ℕ). j * size) e ∙ sym room) ∙ ap (joined f) e
 
 pub blocks-at : (f : ℕ → List ℕ) (size n : ℕ) (q : List ℕ) (i : ℕ) → ((j : ℕ) → j < n → length (f j) ≡ size) → i < n → q ≡ joined f n → part q (i * size) size ≡ f i
 unfolding part

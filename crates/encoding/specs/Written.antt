@@ -104,8 +104,7 @@ middle-kept a n u l e h = simp (length-append, length-take, length-drop) (omega 
 
 module _ (d ys : List ℕ) (a : ℕ) (e : length ys ≡ a) where
   pub halves-room : (b : ℕ) → length d ≡ a + b → length (take (length (ys ++ drop a d) - a) (drop a (ys ++ drop a d))) ≡ b
-  halves-room b n =
-      ap length (tail-part (ys ++ drop a d) a ∙ drop-at ys (drop a d) a e) ∙ length-drop a d ∙ omega arith
+  halves-room b n = ap length (tail-part (ys ++ drop a d) a ∙ drop-at ys (drop a d) a e) ∙ length-drop a d ∙ omega arith
 
   pub halves-made : (u : List ℕ) → a ≤ length d
       → take a (ys ++ drop a d) ++ (u ++ drop (length (ys ++ drop a d) - a) (drop a (ys ++ drop a d))) ≡ ys ++ u

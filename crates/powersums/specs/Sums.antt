@@ -6,7 +6,7 @@
 --   total-append      a sum in two parts
 --   total-blocks      a sum in n blocks of k terms each
 --   powerSum-total    a power sum as a sum of this kind
-use mathlib.Core.Path.{_≡_, refl, sym, ap, ap₂, _∙_}
+use mathlib.Core.Path.{_≡_, refl, sym, ap, _∙_}
 use mathlib.Core.List.{List}
 use Prim.Native.Nat.{ℕ, zero, suc, _+_, _*_}
 use native.Mathlib.Nat.{add-zero, add-suc, add-comm, mul-zero, mul-suc}

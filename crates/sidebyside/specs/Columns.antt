@@ -88,8 +88,7 @@ rows-more : (n i : ℕ) (h x : List ℕ) → i < length x
     → rows n h (front (suc i) x) ≡ plus byteOps (rows n h (front i x)) (scale byteOps (getD x i 0) (column n (length x) i h))
 unfolding rows plus scale column
 rows-more zero i h x l = refl
-rows-more (suc n) i h x l =
-    ap₂ _∷_ (dot-more h x i l) (rw (length-front (suc i) x, length-front i x) (rows-more n i (drop (length x) h) x l))
+rows-more (suc n) i h x l = ap₂ _∷_ (dot-more h x i l) (rw (length-front (suc i) x, length-front i x) (rows-more n i (drop (length x) h) x l))
 
 -- ---- each share
 

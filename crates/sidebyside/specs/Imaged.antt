@@ -3,7 +3,7 @@
 --   Imaged w₀ matrix k i w                  in w the first k words are those of w₀, and behind them each share has H' times its first i entries
 --   imaged-fits                             the columns stand within the matrix
 --   imaged-none, imaged-more, imaged-all    no column is added where w₀ is zero behind its first k words; one column more; all
-use mathlib.Core.Path.{_≡_, refl, sym, ap, ap₂, _∙_}
+use mathlib.Core.Path.{_≡_, refl, sym, ap, _∙_}
 use mathlib.Core.List.{List, _++_, map}
 use Prim.Native.Nat.{ℕ, _+_, _-_, _*_, _≤_, _<_}
 use native.Mathlib.Omega.{arith}

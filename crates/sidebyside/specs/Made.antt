@@ -2,7 +2,7 @@
 --
 --   prepared-made, prepared-image    a front is lent and comes back as g, the rest as zeros; what `image` requires then holds
 --   vector-made                      x of share i: x_A in front, and behind it H'x_A, with y added where `first`
-use mathlib.Core.Path.{_≡_, refl, sym, ap, ap₂, _∙_}
+use mathlib.Core.Path.{_≡_, refl, sym, ap, _∙_}
 use mathlib.Core.Bool.{Bool, true, false, cond}
 use mathlib.Core.List.{List, [], _++_, map}
 use Prim.Native.Nat.{ℕ, _+_, _-_, _*_, _≤_, _<_}
@@ -60,8 +60,7 @@ module _ (p : Parameters) (matrix y : List ℕ) (first : Bool) (s : List ℕ) (i
       (rw (share-constant i first y hi bytes, bytesAt-all y (p .m - p .k) ly) refl)
 
   pub vector-made : (g w v u : List ℕ) → p .k ≤ p .m → length g ≡ p .k → w ≡ g ++ replicate (p .m - p .k) 0 → length v ≡ length w
-      → take (p .k) v ≡ take (p .k) w
-      → share i (drop (p .k) v) ≡ rows (length w - p .k) matrix (share i (take (p .k) w))
+      → take (p .k) v ≡ take (p .k) w → share i (drop (p .k) v) ≡ rows (length w - p .k) matrix (share i (take (p .k) w))
       → u ≡ xorList (take (length v - p .k) (drop (p .k) v)) (cond first (map spread y) []) → share i g ≡ bytesAt s (atX p) (p .k)
       → share i (take (p .k) v ++ (u ++ drop (length v - p .k) (drop (p .k) v))) ≡ xOf p (keyOf matrix y) first s
   vector-made g w v u h lg ew lv ev ei eu eg =

@@ -2,7 +2,6 @@
 use native.Mathlib.Omega.{arith}
 use borrow.Author.Needs.{needs}
 use Rattle.tower.specs.Field.{point}
-use Rattle.exchange.specs.Reading.{_⊠_}
 use Rattle.points.specs.Multiples.Laws.{own-table}
 use Rattle.evaluation.proofs.next_term.Statement.{statement}
 use Rattle.evaluation.proofs.next_term.Tie as tie

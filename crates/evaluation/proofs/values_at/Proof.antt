@@ -10,7 +10,6 @@ use borrow.Author.Needs.{needs}
 use lib.ListN.{length, replicate}
 use Rattle.tower.specs.Field.{Point, point, bytesOf}
 use Rattle.points.specs.Multiples.{multiplesOf}
-use Rattle.points.specs.Multiples.Laws.{length-multiplesOf}
 use Rattle.evaluation.specs.Evaluation.{pointPower, valuesOf}
 use Rattle.evaluation.specs.Evaluation.Laws.{count-turn, count-small, count-twice, terms-ready, values-none, values-turn, power-none, power-point, power-turn}
 use Rattle.evaluation.proofs.values_at.Statement.{statement}

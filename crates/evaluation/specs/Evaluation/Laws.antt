@@ -17,7 +17,6 @@ use native.Mathlib.Omega.{arith}
 use lib.Dec.{lit<}
 use lib.ListN.{length, getD, set, replicate, length-replicate, getD-replicate, length-map}
 use lib.Seq.{ext-getD}
-use Rattle.algebra.specs.Ring.{ops}
 use Rattle.algebra.specs.Polynomial.{eval, pow}
 use Rattle.algebra.specs.Polynomial.Evaluation.{eval-snoc}
 use Rattle.lists.specs.Xor.{_⊕_}
@@ -104,8 +103,7 @@ bytesAt-snoc s i (suc j) =
     ap (_∷_ (getD s i 0)) (rw e at (bytesAt-snoc s (suc i) j))
 
 value-turn : (s : List ℕ) (i j : ℕ) (r : Point) → value (bytesAt s i (j + 1)) r ≡ value (bytesAt s i j) r ⊞ scalar (getD s (i + j) 0) ⊠ pointPower r j
-value-turn s i j r =
-    rw (add-one j, bytesAt-snoc s i j, value-snoc (bytesAt s i j) (getD s (i + j) 0) r, length-bytesAt s i j) refl
+value-turn s i j r = rw (add-one j, bytesAt-snoc s i j, value-snoc (bytesAt s i j) (getD s (i + j) 0) r, length-bytesAt s i j) refl
 
 pub wordOf-zero : 0 ≡ wordOf 𝟎
 unfolding wordOf bytesOf points byteRing word _⊕_
@@ -122,8 +120,7 @@ values-none s n stride from r d e =
 
 pub values-turn : (s : List ℕ) (n stride from j k at : ℕ) (r x : Point) (d e : List ℕ) → k ≡ j + 1 → at ≡ from + j → x ≡ pointPower r j
     → d ≡ valuesOf s n stride from j r → e ≡ termsOf s n stride at x d → e ≡ valuesOf s n stride from k r
-values-turn s n stride from j k at r x d e ek ea ex ed ee =
-    rw ek (ee ∙ listed-ext _ _ n turn)
+values-turn s n stride from j k at r x d e ek ea ex ed ee = rw ek (ee ∙ listed-ext _ _ n turn)
   where
     turn : (i : ℕ) → i < n → getD d i 0 ⊕ wordOf (scalar (getD s (at + i * stride) 0) ⊠ x) ≡ wordOf (value (bytesAt s (from + i * stride) (j + 1)) r)
     turn i l =
@@ -143,5 +140,4 @@ power-point r power j e = ap point e ∙ point-bytesOf (pointPower r j)
 pub power-turn : (r : Point) (power q : List ℕ) (j k : ℕ) → k ≡ j + 1 → power ≡ bytesOf (pointPower r j) → q ≡ bytesOf (point power ⊠ r)
     → q ≡ bytesOf (pointPower r k)
 unfolding pow
-power-turn r power q j k ek ep eq =
-    rw (eq, power-point r power j ep, ek, add-one j) refl
+power-turn r power q j k ek ep eq = rw (eq, power-point r power j ep, ek, add-one j) refl

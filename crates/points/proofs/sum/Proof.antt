@@ -12,8 +12,7 @@ returns : tie.Need-returns
 unfolding fourSum
 returns c =
     let s : tie.Start = search in
-    sum-bytes _ _ _ _ _
-    (four-bytes (s .args .t1) (λ i. elem-fits w8 w8 (s .args .t1) (s .good .0 .0) i (s .good .0 .1 .1) tt .fits))
+    sum-bytes _ _ _ _ _ (four-bytes (s .args .t1) (λ i. elem-fits w8 w8 (s .args .t1) (s .good .0 .0) i (s .good .0 .1 .1) tt .fits))
     (four-bytes (s .args .t2) (λ i. elem-fits w8 w8 (s .args .t2) (s .good .1 .0 .0) i (s .good .1 .0 .1 .1) tt .fits))
     (four-path (c .before .before .before .sum .ensures) (c .before .before .sum2 .ensures) (c .before .sum3 .ensures) (c .sum4 .ensures))
 

@@ -43,8 +43,7 @@ use Rattle.points.specs.Multiples.{wordOf, byX, byZ, multiplesOf, Lower,
 bytes-word : (l : List ℕ) → Bytes l → bytes (length l) (word l) ≡ l
 unfolding bytes word
 bytes-word [] h = refl
-bytes-word (b ∷ l) h =
-    ap₂ _∷_ (first-byte (word l) b (h .0)) (ap (bytes (length l)) (other-bytes (word l) b (h .0)) ∙ bytes-word l (h .1))
+bytes-word (b ∷ l) h = ap₂ _∷_ (first-byte (word l) b (h .0)) (ap (bytes (length l)) (other-bytes (word l) b (h .0)) ∙ bytes-word l (h .1))
 
 pub bytes-wordOf : (x : Point) → bytes 4 (wordOf x) ≡ bytesOf x
 unfolding wordOf bytesOf
@@ -81,8 +80,7 @@ x-quad : (x : Quad) → ((1 ⊗ (x .0 .1 ⊗ 0x20), 1 ⊗ x .0 .0 ⊕ 1 ⊗ x .0
     ≡ times₄ x ((0, 1), (0, 0))
 x-quad x = pair (pair (simp bytefield) (simp bytefield)) (pair (simp bytefield) (simp bytefield))
 
-z-quad : (x : Quad)
-    → ((1 ⊗ (x .1 .1 ⊗ (0x20 ⊗ 0x20)), 1 ⊗ ((x .1 .0 ⊕ x .1 .1) ⊗ 0x20)), (1 ⊗ x .0 .0 ⊕ 1 ⊗ x .1 .0, 1 ⊗ x .0 .1 ⊕ 1 ⊗ x .1 .1))
+z-quad : (x : Quad) → ((1 ⊗ (x .1 .1 ⊗ (0x20 ⊗ 0x20)), 1 ⊗ ((x .1 .0 ⊕ x .1 .1) ⊗ 0x20)), (1 ⊗ x .0 .0 ⊕ 1 ⊗ x .1 .0, 1 ⊗ x .0 .1 ⊕ 1 ⊗ x .1 .1))
     ≡ times₄ x ((0, 0), (1, 0))
 z-quad x = pair (pair (simp bytefield) (simp bytefield)) (pair (simp bytefield) (simp bytefield))
 
@@ -110,8 +108,7 @@ module _ (b : List ℕ) (h : (i : ℕ) → getD b i 0 < 256) where
   unfolding fourTimes byZ
   z-step w s x y z ew es ex ey ez =
       four-path (scaled-once _ _ w (ew ∙ ap (_⊗_ (getD b 3 0)) square)) (scaled-once _ _ x (ex ∙ ap (λ (v : ℕ). v ⊗ 0x20) es)) (sum-once 0 2 y ey)
-      (sum-once 1 3 z ez)
-      ∙ ap four (z-quad (quad b)) ∙ times-point b (0 ∷ 0 ∷ 1 ∷ 0 ∷ [])
+      (sum-once 1 3 z ez) ∙ ap four (z-quad (quad b)) ∙ times-point b (0 ∷ 0 ∷ 1 ∷ 0 ∷ [])
 
 -- ---- a byte and a point
 
@@ -122,11 +119,9 @@ word-zeros a b c d = refl
 scaled-bytes : (a b c d k : ℕ) → Bytes (a ∷ b ∷ c ∷ d ∷ []) → scaled (word (a ∷ b ∷ c ∷ d ∷ [])) k ≡ word ((a ⊗ k) ∷ (b ⊗ k) ∷ (c ⊗ k) ∷ (d ⊗ k) ∷ [])
 unfolding scaled
 scaled-bytes a b c d k h =
-    ap (λ (w : ℕ). word (map (λ x. x ⊗ k) (bytes 8 w))) (sym (word-zeros a b c d))
-    ∙ ap (λ (l : List ℕ). word (map (λ x. x ⊗ k) l))
+    ap (λ (w : ℕ). word (map (λ x. x ⊗ k) (bytes 8 w))) (sym (word-zeros a b c d)) ∙ ap (λ (l : List ℕ). word (map (λ x. x ⊗ k) l))
     (bytes-word (a ∷ b ∷ c ∷ d ∷ 0 ∷ 0 ∷ 0 ∷ 0 ∷ []) (h .0, (h .1 .0, (h .1 .1 .0, (h .1 .1 .1 .0, (lit< tt, (lit< tt, (lit< tt, (lit< tt, tt)))))))))
-    ∙ ap (λ (z : ℕ). word ((a ⊗ k) ∷ (b ⊗ k) ∷ (c ⊗ k) ∷ (d ⊗ k) ∷ z ∷ z ∷ z ∷ z ∷ [])) (zero-⊗ k)
-    ∙ word-zeros (a ⊗ k) (b ⊗ k) (c ⊗ k) (d ⊗ k)
+    ∙ ap (λ (z : ℕ). word ((a ⊗ k) ∷ (b ⊗ k) ∷ (c ⊗ k) ∷ (d ⊗ k) ∷ z ∷ z ∷ z ∷ z ∷ [])) (zero-⊗ k) ∙ word-zeros (a ⊗ k) (b ⊗ k) (c ⊗ k) (d ⊗ k)
 
 scaled-wordOf : (x : Point) (c : ℕ) → scaled (wordOf x) c ≡ wordOf (scalar c ⊠ x)
 unfolding wordOf bytesOf
@@ -167,9 +162,7 @@ split-point : (a : List ℕ)
     → point a ≡ scalar (getD a 0 0) ⊞ scalar (getD a 1 0) ⊠ byX ⊞ scalar (getD a 2 0) ⊠ byZ ⊞ scalar (getD a 3 0) ⊠ (byX ⊠ byZ)
 unfolding byX byZ points
 split-point a =
-    sym (split-bytes a)
-    ∙ point-sum _ _
-    ∙ ap₂ _⊞_
+    sym (split-bytes a) ∙ point-sum _ _ ∙ ap₂ _⊞_
     (point-sum _ _
     ∙ ap₂ _⊞_ (point-sum _ _ ∙ ap (_⊞_ (scalar (getD a 0 0))) (point-times (lone (getD a 1 0)) (0 ∷ 1 ∷ 0 ∷ 0 ∷ [])))
     (point-times (lone (getD a 2 0)) (0 ∷ 0 ∷ 1 ∷ 0 ∷ [])))
@@ -210,8 +203,7 @@ lower-point a h = ap pointOf (pair (pair refl (sym (h .0))) (pair (sym (h .1)) (
 -- where a is a byte, the first table serves, also of four
 pub short-product : (a : List ℕ) (b : Point) (t : List ℕ) (w : ℕ) → Read t 0 (getD a 0 0) w → Lower a → Multiplies t a b → w ≡ wordOf (point a ⊠ b)
 unfolding multiplesOf multiples nibbles
-short-product a b t w r l m =
-    r b (⊎-elim (λ q. q .1) (λ e. ap (take 32) e) m) ∙ ap (λ (x : Point). wordOf (x ⊠ b)) (lower-point a l)
+short-product a b t w r l m = r b (⊎-elim (λ q. q .1) (λ e. ap (take 32) e) m) ∙ ap (λ (x : Point). wordOf (x ⊠ b)) (lower-point a l)
 
 -- ---- four tables
 

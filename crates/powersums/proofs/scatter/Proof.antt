@@ -10,8 +10,7 @@ use Rattle.powersums.proofs.scatter.Statement.{statement}
 use Rattle.powersums.proofs.scatter.Tie as tie
 
 abbrev Inv-loop : tie.InvT-loop
-Inv-loop b₀ c e pow o₀ b o =
-    (o ≤ 17) × (length b ≡ length b₀) × Added (15 * o) (λ p. progression (getD c (p / 15) 0) 0 e (p % 15)) b₀ b
+Inv-loop b₀ c e pow o₀ b o = (o ≤ 17) × (length b ≡ length b₀) × Added (15 * o) (λ p. progression (getD c (p / 15) 0) 0 e (p % 15)) b₀ b
 
 abbrev μ-loop : tie.MeasureT-loop
 μ-loop b₀ c e pow o₀ b o = 17 - o

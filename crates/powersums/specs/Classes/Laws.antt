@@ -7,7 +7,7 @@
 --   class-of             both stages of a class
 --   power-sums-at        byte i of entry `place o` of what all classes add is the power sum of exponent o of share i
 --   power-sums-of        so the entries in the order of the exponents are the power sums
-use mathlib.Core.Path.{_≡_, refl, sym, ap, ap₂, _∙_}
+use mathlib.Core.Path.{_≡_, refl, sym, ap, _∙_}
 use mathlib.Core.List.{List, [], _∷_}
 use Prim.Native.Nat.{ℕ, zero, suc, _+_, _-_, _*_, _/_, _%_, _≤_, _<_}
 use native.Mathlib.Nat.{zero-add, mul-add}
@@ -21,7 +21,7 @@ use Rattle.lists.specs.Xor.{positive}
 use Rattle.lists.specs.Additive.{additive-zero}
 use Rattle.bytefield.specs.Product.{_⊗_}
 use Rattle.bytefield.specs.Product.Laws.{⊗-assoc, ⊗-zero, zero-⊗, ⊗-additive-l, one-⊗, ⊗-lt}
-use Rattle.bytefield.specs.Powers.{power, power-lt, power-add, power-cycle}
+use Rattle.bytefield.specs.Powers.{power, power-add, power-cycle}
 use Rattle.packed.specs.Word.{scaled}
 use Rattle.packed.specs.Word.Laws.{scaled-sum, scaled-scaled}
 use Rattle.packed.specs.Share.{byteAt, share}
@@ -122,8 +122,7 @@ module _ (i : ℕ) (small : i < 8) (v w : List ℕ) where
   pub power-sums-at : (o : ℕ) → o < 255 → byteAt i (classSums (weighed v w) 15 (place o)) ≡ powerSum (timesEach (share i v) w) o 255
   unfolding entry
   power-sums-at o h =
-      total-of (byteAt i) (byteAt-sum i) (λ κ. classTerm (weighed v w) κ (place o)) 15
-      ∙ sum-ext xorGroup _ _ 15 (λ κ l. lane-class κ o h)
+      total-of (byteAt i) (byteAt-sum i) (λ κ. classTerm (weighed v w) κ (place o)) 15 ∙ sum-ext xorGroup _ _ 15 (λ κ l. lane-class κ o h)
       ∙ sum-swap xorGroup (λ κ q. entry (κ + 15 * q) ⊗ power ((κ + 15 * q) * o)) 15 17
       ∙ total-blocks (λ e. entry e ⊗ power (e * o)) 15 17 ∙ sym (powerSum-total (timesEach (share i v) w) o 255)
 
