@@ -46,8 +46,7 @@ loop-again c =
     let p : tie.At-loop Inv-loop μ-loop = search in
     let s : tie.Start Inv-loop μ-loop = search in (
       omega arith,
-      λ x e. terms-turn (s .args .s .now) (s .args .n) (s .args .stride) (s .args .at) x (s .args .values .now) (s .pre .0 .sized) (p .loop .values) (p .loop .i) _
-          (omega arith) (p .loop .inv .1 x e)
+      λ x e. terms-turn (s .args .s .now) _ (s .args .stride) (s .args .at) x (s .args .values .now) (s .pre .0 .sized) _ (p .loop .i) _ (omega arith) (p .loop .inv .1 x e)
           (o .word-of .ensures ∙ ap wordOf (ap point (t .counted-product .ensures .0 x (inl ((refl, refl, refl), e))) ∙ point-bytesOf _)),
       simp length-set (p .loop .inv .2),
       omega (arith, t .counted-product .ensures .1),
@@ -56,11 +55,9 @@ loop-again c =
 returns : tie.Need-returns Inv-loop μ-loop
 returns c =
     let p : tie.At-loop Inv-loop μ-loop = search in
-    let s : tie.Start Inv-loop μ-loop = search in (
-      λ x e. terms-end (s .args .s .now) (s .args .n) (s .args .stride) (s .args .at) x (s .args .values .now) (s .pre .0 .sized) (p .loop .values) (p .loop .i)
-          (omega arith) (p .loop .inv .1 x e),
-      omega arith,
-    )
+    let s : tie.Start Inv-loop μ-loop = search in
+    let n : p .loop .i ≡ s .args .n = omega arith in
+    (λ x e. terms-end (s .args .s .now) _ (s .args .stride) (s .args .at) x (s .args .values .now) (s .pre .0 .sized) _ _ n (p .loop .inv .1 x e), omega arith)
 
 pub add-terms-spec : {M : Type 1} → statement M
 add-terms-spec =

@@ -63,7 +63,7 @@ loop-again c =
       omega arith,
       (
         λ x e. (
-          values-turn (s .args .s .now) (s .args .n) (s .args .stride) (s .args .from) j _ _ x _ _ _ k (i .2) (power-point x (p .loop .power) j (i .0 x e .1)) (i .0 x e .0) (t .next-term .ensures .0),
+          values-turn (s .args .s .now) _ _ _ j _ _ x _ _ _ k (i .2) (power-point x (p .loop .power) j (i .0 x e .1)) (i .0 x e .0) (t .next-term .ensures .0),
           power-turn x (p .loop .power) _ j _ k (i .0 x e .1) (t .next-term .ensures .1 x e),
         ),
         omega (arith, t .next-term),
@@ -81,9 +81,9 @@ returns c =
     let i = p .loop .inv .1 in
     let b = i .0 x (m .multiples-of .ensures) in
     let e : s .args .len - p .loop .left ≡ s .args .len = omega arith in
-    let n : p .loop .count ≡ s .args .len * (s .args .n + 1) = i .3 ∙ ap (λ (k : ℕ). k * (s .args .n + 1)) e in (
-      b .0 ∙ ap (λ (k : ℕ). valuesOf (s .args .s .now) (s .args .n) (s .args .stride) (s .args .from) k x) e,
-      b .1 ∙ ap (λ (k : ℕ). bytesOf (pointPower x k)) e,
+    let n : p .loop .count ≡ s .args .len * (s .args .n + 1) = rw e at (i .3) in (
+      rw e at (b .0),
+      rw e at (b .1),
       omega arith,
       λ h. let b = count-twice (s .args .n) (s .args .len) h in omega arith,
     )

@@ -23,19 +23,17 @@ loop-again c =
     let p : tie.At-loop Inv-loop μ-loop = search in
     let s : tie.Start Inv-loop μ-loop = search in
     let d = s .args .words .now in
-    let l : length {A = ℕ} (replicate (length d) 0) ≡ length d = length-replicate {A = ℕ} (length d) 0 in (
+    let zero = getD-replicate {A = ℕ} (length d) (p .loop .i) 0 0 (omega arith) in (
       omega arith,
-      blend-up (p .loop .i) 0 (replicate (length d) 0) d (p .loop .words) l (omega arith) (p .loop .inv .1)
-          (sym (getD-replicate {A = ℕ} (length d) (p .loop .i) 0 0 (omega arith))),
+      blend-up _ 0 _ d _ (length-replicate {A = ℕ} (length d) 0) (omega arith) (p .loop .inv .1) (sym zero),
       simp length-set (p .loop .inv .2),
     )
 
 returns : tie.Need-returns Inv-loop μ-loop
 returns c =
     let p : tie.At-loop Inv-loop μ-loop = search in
-    let s : tie.Start Inv-loop μ-loop = search in
-    let d = s .args .words .now in
-    p .loop .inv .1 ∙ blend-all (p .loop .i) (replicate (length d) 0) d (length-replicate {A = ℕ} (length d) 0) (omega arith)
+    p .loop .inv .1 ∙ blend-all _ _ _ (length-replicate {A = ℕ} _ 0) (omega arith)
 
 pub clear-spec : {M : Type 1} → statement M
-clear-spec = tie.close (tie.spec Inv-loop μ-loop loop-holds (λ c. search needs) (λ c. search needs) (λ c. search needs) (λ c. search needs) loop-again (λ c. search needs) returns)
+clear-spec = tie.close (tie.spec Inv-loop μ-loop loop-holds (λ c. search needs) (λ c. search needs) (λ c. search needs)
+    (λ c. search needs) loop-again (λ c. search needs) returns)

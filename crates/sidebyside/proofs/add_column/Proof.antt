@@ -59,9 +59,8 @@ returns c =
     let p : tie.At-loop Inv-loop μ-loop = search in
     let s : tie.Start Inv-loop μ-loop = search in
     let a = s .args in
-    let n = length (a .out .now) in
-    let m = length-column n (a .k) (a .i) (a .matrix .now) in
-    λ v e. p .loop .inv .1 v e ∙ added-all (scaled v) (a .out .now) (column n (a .k) (a .i) (a .matrix .now)) (p .loop .j) (omega arith)
+    let m = length-column (length (a .out .now)) (a .k) (a .i) (a .matrix .now) in
+    λ v e. p .loop .inv .1 v e ∙ added-all (scaled v) _ (column (length (a .out .now)) (a .k) (a .i) (a .matrix .now)) (p .loop .j) (omega arith)
 
 pub add-column-spec : {M : Type 1} → statement M
 add-column-spec = tie.close (tie.spec Inv-loop μ-loop loop-holds (λ c. search needs) (λ c. search needs) (λ c. omega (arith, inside (c .before)))

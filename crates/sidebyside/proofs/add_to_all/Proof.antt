@@ -27,12 +27,9 @@ unfolding _⊕_
 loop-again c =
     let p : tie.At-loop Inv-loop μ-loop = search in
     let s : tie.Start Inv-loop μ-loop = search in
-    let a = s .args in (
-      omega arith,
-      added-more spread (a .words .now) (a .y .now) (p .loop .words) (p .loop .j) (c .spread .result) (omega arith) (omega arith) (p .loop .inv .1)
-          (c .spread .ensures),
-      simp length-set (p .loop .inv .2),
-    )
+    let a = s .args in
+    let more = added-more spread (a .words .now) (a .y .now) _ _ _ (omega arith) (omega arith) (p .loop .inv .1) (c .spread .ensures) in
+    (omega arith, more, simp length-set (p .loop .inv .2))
 
 returns : tie.Need-returns Inv-loop μ-loop
 returns c =

@@ -37,16 +37,14 @@ prepared : (z : tie.After-clear) →
 prepared z =
     let d = z .before .before .before .before in
     let s = back-to-start d in
-    prepared-made (s .args .p .k) (s .args .p .m) (s .args .words .now) (d .gather .last .1 .1 .1 .1 .0) _ (s .pre .sized-words) (gathered d) (below s)
-    (z .clear .ensures)
+    prepared-made _ _ (s .args .words .now) (d .gather .last .1 .1 .1 .1 .0) _ (s .pre .sized-words) (gathered d) (below s) (z .clear .ensures)
 
 image-requires : tie.Need-image-requires
 image-requires c κs =
     let z : tie.After-clear = search in
     let d : tie.After-gather = search in
     let s = back-to-start d in
-    let p = s .args .p in
-    prepared-image (p .k) (p .m) (d .gather .last .1 .1 .1 .1 .0) _ (below s) (gathered d) (prepared z) (s .args .matrix .now) (s .pre .sized-matrix)
+    prepared-image _ _ (d .gather .last .1 .1 .1 .1 .0) _ (below s) (gathered d) (prepared z) (s .args .matrix .now) (s .pre .sized-matrix)
 
 returns : tie.Need-returns
 returns c =

@@ -43,22 +43,17 @@ module _ (size : ℕ) (shares : List ℕ) (from count : ℕ) where
     fits = ap length e ∙ length-bytesAt (part shares (i * size) size) from count
 
     own : share i (xorList words (map (placed i) x)) ≡ bytesAt (part shares (i * size) size) from count
-    own =
-        let f = fits in
-        rw (share-own i words x bytes, g .rest i (le-of-eq refl), xorList-comm (replicate count 0) x) (xorList-zeros x count (omega arith) ∙ e)
+    own = rw (share-own i words x bytes, g .rest i (le-of-eq refl), xorList-comm (replicate count 0) x) (xorList-zeros x count (omega (arith, fits)) ∙ e)
 
     other : (j : ℕ) → (j ≡ i → ⊥) → share j (xorList words (map (placed i) x)) ≡ share j words
-    other j n = let f = fits in let s = g .sized in share-rest j i n words x (omega arith) bytes
+    other j n = share-rest j i n words x (omega (arith, fits, g .sized)) bytes
 
     added : Gathered size shares from count (i + 1) (xorList words (map (placed i) x))
-    added =
-        let f = fits in
-        let s = g .sized in
-        let l = length-map x (placed i) in record {
-          sized = length-xorList words (map (placed i) x) (omega arith) ∙ g .sized;
-          done = λ j h. at j h (ℕ-discrete j i);
-          rest = λ j h. other j (λ o. omega arith) ∙ g .rest j (omega arith);
-        }
+    added = record {
+      sized = length-xorList words (map (placed i) x) (omega (arith, fits, g .sized, length-map x (placed i))) ∙ g .sized;
+      done = λ j h. at j h (ℕ-discrete j i);
+      rest = λ j h. other j (λ o. omega arith) ∙ g .rest j (omega arith);
+    }
       where
         at : (j : ℕ) → j < i + 1 → Dec (j ≡ i) → share j (xorList words (map (placed i) x)) ≡ bytesAt (part shares (j * size) size) from count
         at j h (yes q) = rw q own
@@ -90,9 +85,8 @@ module _ (size : ℕ) (shares : List ℕ) (from count : ℕ) where
   unfolding part
   gathered-all i n words h l g j = at (decLt j i)
     where
-      none : i ≤ j → length (part shares (j * size) size) ≤ from
-      none k = let q = mul-le-mul-right {m = n} {n = j} size (omega arith) in simp (length-take, length-drop) (omega arith)
-
       at : Dec (j < i) → share j words ≡ bytesAt (part shares (j * size) size) from count
       at (yes k) = g .done j k
-      at (no k) = g .rest j (omega arith) ∙ sym (past-end _ from count (none (omega arith)))
+      at (no k) =
+          let q = mul-le-mul-right {m = n} {n = j} size (omega arith) in
+          g .rest j (omega arith) ∙ sym (past-end _ from count (simp (length-take, length-drop) (omega arith)))
