@@ -71,13 +71,11 @@ module _ (m : ℕ) (some : 0 < m) (few : m < 256) where
       let p = one (m - 1) in
       let g = take (255 - m) (complementOf m) in
       let l : length (p ++ g) ≡ 255 = length-append p g ∙ ap₂ _+_ sized (length-low m few (complementOf m) refl) ∙ omega arith in
-      let v : eval byteOps p z ≡ 1 = ap (λ (x : ℕ). 1 ⊕ z ⊗ x) (zeros-value (m - 1) z) ∙ simp bytefield in
+      let v : eval byteOps p z ≡ 1 = rw (zeros-value (m - 1) z) (simp bytefield) in
       cancel _ _ 1
       (ap (_⊕_ (eval byteOps (p ++ g) z)) (sym (nonzero-around z s h))
       ∙ sym (monic-value (p ++ complementOf m) (p ++ g) 255 z (ap (_++_ p) (complement-monic m) ∙ sym (append-assoc p g (1 ∷ []))) l)
-      ∙ eval-append p (complementOf m) z (bytes-complement m few)
-      ∙ ap₂ (λ (x n : ℕ). x ⊕ pow byteOps z n ⊗ eval byteOps (complementOf m) z) v sized
-      ∙ ap (_⊕_ 1) (⊗-comm (pow byteOps z m) (eval byteOps (complementOf m) z)))
+      ∙ rw (eval-append p (complementOf m) z (bytes-complement m few), v, sized) (ap (_⊕_ 1) (⊗-comm _ _)))
 
   low-value : (i : ℕ) → i < m → eval byteOps (take m (vanishingOf m)) (1 + i) ≡ pow byteOps (1 + i) m
   unfolding vanishingOf
@@ -116,9 +114,9 @@ module _ (m : ℕ) (some : 0 < m) (few : m < 256) where
       let lx : length x ≡ m = length-map (interpolationPoints m) (eval byteOps f) ∙ length-ascending 1 m in
       let lf : length f ≡ m = length-take-le m (vanishingOf m) (omega (arith, length-vanishing m)) in
       let value : (z : ℕ) → 0 < z → z < 256 → eval byteOps (share 0 t) z ≡ eval byteOps (complementOf m) z ⊗ pow byteOps z m
-      = λ z s h. ap (λ (l : List ℕ). eval byteOps l z) (begun ys (rw eg at ey)) ∙ begun-value z s h in
+      = λ z s h. rw (begun ys (rw eg at ey)) (begun-value z s h) in
       eo ∙ rw la at (share-end 0 m a (interpolantOf x) (quotient-made m few 0 x t a g (lit< tt) la eg lx bx
-      (λ z h k. value z (omega arith) k ∙ ap (λ (v : ℕ). v ⊗ pow byteOps z m) (complement-zero m z h k) ∙ simp bytefield)
+      (λ z h k. rw (value z (omega arith) k, complement-zero m z h k) (simp bytefield))
       (λ j h. value (1 + j) (omega arith) (omega arith) ∙ ap (_⊗_ (eval byteOps (complementOf m) (1 + j)))
       (sym (getD-map-in (eval byteOps f) (interpolationPoints m) j (omega (arith, length-ascending 1 m))
       ∙ ap (eval byteOps f) (ascending-at 1 m j h) ∙ low-value j h))) divided))

@@ -39,9 +39,7 @@ missing m = ascending (1 + m) (255 - m)
 pub length-complement : (m : ℕ) → m < 256 → length (complementOf m) ≡ 256 - m
 unfolding complementOf
 length-complement m h =
-    let a = length-product byteOps (1 ∷ []) (missing m) in
-    let b = length-ascending (1 + m) (255 - m) in
-    omega arith
+    omega (arith, length-product byteOps (1 ∷ []) (missing m), length-ascending (1 + m) (255 - m))
 
 pub bytes-complement : (m : ℕ) → m < 256 → Bytes (complementOf m)
 unfolding complementOf
