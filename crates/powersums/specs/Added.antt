@@ -35,10 +35,9 @@ added-none g c = record { same-length = refl; added = λ k h. absurd (omega arit
 
 pub added-more : {j : ℕ} {g : ℕ → ℕ} {c d : List ℕ} (x : ℕ) → Added j g c d → j < length c → x ≡ g j → Added (j + 1) g c (set d j (getD d j 0 ⊕ x))
 added-more {j} {g} {c} {d} x p h e =
-    let s : length d ≡ length c = p .same-length in
     record {
-      same-length = length-set d j (getD d j 0 ⊕ x) ∙ s;
-      added = filled-more d (λ k. getD c k 0 ⊕ g k) (p .added) (omega arith) (ap₂ _⊕_ (p .same j (omega arith)) e);
+      same-length = length-set d j (getD d j 0 ⊕ x) ∙ p .same-length;
+      added = filled-more d (λ k. getD c k 0 ⊕ g k) (p .added) (omega (arith, p .same-length)) (ap₂ _⊕_ (p .same j (omega arith)) e);
       same = λ k l. getD-set-other d j k (getD d j 0 ⊕ x) 0 (λ q. omega arith) ∙ p .same k (omega arith);
     }
 
@@ -50,11 +49,7 @@ added-then {n} {g} {h} {c} {d} {e} p q = record {
 }
 
 pub added-ext : {n : ℕ} {g h : ℕ → ℕ} {c d : List ℕ} → ((k : ℕ) → k < n → g k ≡ h k) → Added n g c d → Added n h c d
-added-ext {n} {g} {h} {c} {d} e p = record {
-  same-length = p .same-length;
-  added = λ k l. p .added k l ∙ ap (_⊕_ (getD c k 0)) (e k l);
-  same = p .same;
-}
+added-ext {n} {g} {h} {c} e p = record { same-length = p .same-length; added = λ k l. p .added k l ∙ ap (_⊕_ (getD c k 0)) (e k l); same = p .same }
 
 pub added-to : {j n : ℕ} {g : ℕ → ℕ} {c d : List ℕ} → j ≡ n → Added j g c d → Added n g c d
 added-to e p = rw e at p

@@ -6,7 +6,7 @@
 --   x-step, z-step                  the products with X and Z by bytes
 --   byte-read                       the product of a byte and a point, from a table that starts with the point's multiples
 --   short-product, whole-product    the product of four bytes and a point, from one and from four tables
---   length-multiples, -multiplesOf, own-table   the tables' lengths; a table that is made of the word of four bytes
+--   length-multiples, own-table     the length of a table; a table that is made of the word of four bytes
 --   tables-made                     the four tables written one behind the other
 use mathlib.Core.Path.{_≡_, refl, sym, ap, ap₂, _∙_}
 use mathlib.Core.Logic.{⊎-elim}
@@ -221,10 +221,6 @@ tables-joined d p q r s ld lp lq lr ls =
 pub length-multiples : (v : ℕ) → length (multiples v) ≡ 32
 unfolding multiples nibbles
 length-multiples v = refl
-
-pub length-multiplesOf : (b : Point) → length (multiplesOf b) ≡ 128
-unfolding multiplesOf multiples nibbles
-length-multiplesOf b = refl
 
 -- a table made of the word of a
 pub own-table : (own a : List ℕ) (w : ℕ) → own ≡ multiples w → w ≡ wordOf (point a) → take 32 own ≡ multiples (wordOf (point a))

@@ -32,9 +32,7 @@ inside : (q : tie.In-loop Inv-loop μ-loop) →
     q .before .loop .i * z .share-length .result + a .from + length (a .words .now) ≤ length (a .shares .now)
 inside q =
     let z = size-at (q .before) in
-    let a = z .before .before .before .args in
-    share-fits (z .share-length .result) (a .shares .now) (a .from) (length (a .words .now)) (q .before .loop .i) (a .n) (q .loop-test .taken)
-    (sized z .0) (sized z .1)
+    share-fits _ (z .before .before .before .args .shares .now) _ _ _ _ (q .loop-test .taken) (sized z .0) (sized z .1)
 
 loop-holds : tie.Need-loop-holds Inv-loop μ-loop
 loop-holds c =
@@ -50,8 +48,7 @@ loop-again c =
     let p = q .before in
     let z = size-at p in
     let a = z .before .before .before .args in
-    let g = gathered-more (z .share-length .result) (a .shares .now) (a .from) (length (a .words .now)) (p .loop .i) (a .n) (q .loop-test .taken)
-    (sized z .0) (sized z .1) (p .loop .words) (d .add-share .last .0) (p .loop .inv .1)
+    let g = gathered-more _ (a .shares .now) (a .from) _ _ _ (q .loop-test .taken) (sized z .0) (sized z .1) _ _ (p .loop .inv .1)
     (λ k. omega (arith, z .before .before .shared-slice-known .given k)) (d .add-share .ensures) in
     (omega arith, g, omega (arith, d .add-share))
 

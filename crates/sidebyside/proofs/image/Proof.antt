@@ -3,7 +3,7 @@ use mathlib.Core.Path.{_≡_, refl}
 use Prim.Native.Nat.{_-_, _≤_}
 use native.Mathlib.Omega.{arith}
 use borrow.Author.Needs.{needs}
-use lib.ListN.{length, getD}
+use lib.ListN.{length}
 use Rattle.sidebyside.specs.Imaged.{Imaged, imaged-none, imaged-fits, imaged-more, imaged-all}
 use Rattle.sidebyside.proofs.image.Statement.{statement}
 use Rattle.sidebyside.proofs.image.Tie as tie
@@ -32,9 +32,8 @@ loop-again c =
     let t : tie.After-multiples Inv-loop μ-loop = search in
     let p : tie.At-loop Inv-loop μ-loop = search in
     let s : tie.Start Inv-loop μ-loop = search in
-    let l = p .loop .words in
-    let g = imaged-more (s .args .words .now) (s .args .matrix .now) (s .args .k) (p .loop .i) l (d .add-column .last .0) (s .pre .0) (omega arith) (p .loop .inv .1)
-    (d .add-column .ensures (getD l (p .loop .i) 0) (t .multiples .ensures)) (d .add-column .kept .0) in
+    let g = imaged-more _ (s .args .matrix .now) (s .args .k) (p .loop .i) (p .loop .words) (d .add-column .last .0) (s .pre .0) (omega arith) (p .loop .inv .1)
+    (d .add-column .ensures _ (t .multiples .ensures)) (d .add-column .kept .0) in
     (omega arith, g, g .sized)
 
 returns : tie.Need-returns Inv-loop μ-loop
