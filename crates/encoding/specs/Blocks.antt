@@ -40,8 +40,7 @@ pub joined-split : (f : ℕ → List ℕ) (i c : ℕ) → joined f (i + c) ≡ j
 unfolding joined
 joined-split f i zero = let e : i + 0 ≡ i = omega arith in ap (joined f) e ∙ sym (append-nil (joined f i))
 joined-split f i (suc c) =
-    let e : i + suc c ≡ suc (i + c) = omega arith in
-    ap (joined f) e ∙ ap (λ (l : List ℕ). l ++ f (i + c)) (joined-split f i c) ∙ append-assoc (joined f i) (joined (λ j. f (i + j)) c) (f (i + c))
+    let e : i + suc c ≡ suc (i + c) = omega arith in rw (e, joined-split f i c) (append-assoc (joined f i) (joined (λ j. f (i + j)) c) (f (i + c)))
 
 module _ (f : ℕ → List ℕ) (size n : ℕ) (d : List ℕ) (room : length d ≡ n * size) where
   -- u is what is left in the part of q that starts at b

@@ -60,9 +60,7 @@ returns c =
     (λ x e. terms-end (s .args .s .now) _ (s .args .stride) (s .args .at) x (s .args .values .now) (s .pre .0 .sized) _ _ n (p .loop .inv .1 x e), omega arith)
 
 pub add-terms-spec : {M : Type 1} → statement M
-add-terms-spec =
-    tie.close
-    (tie.spec Inv-loop μ-loop loop-holds (λ c. omega (arith, small c)) (λ c. omega (arith, small c)) inside
+add-terms-spec = tie.close (tie.spec Inv-loop μ-loop loop-holds (λ c. omega (arith, small c)) (λ c. omega (arith, small c)) inside
     (λ c κs. let s : tie.Start Inv-loop μ-loop = search in (s .pre .1, inr (refl, refl, refl), omega arith))
     (λ c. search needs) (λ c. search needs) (λ c κs. search needs) (λ c. search needs) (λ c. search needs) (λ c. search needs) (λ c. search needs)
     loop-again (λ c. search needs) returns)

@@ -25,7 +25,5 @@ returns c =
     )
 
 pub next-term-spec : {M : Type 1} → statement M
-next-term-spec =
-    tie.close
-    (tie.spec (λ c κs. search needs) (λ c κs. search needs) (λ c. search needs) (λ c κs. search needs) next-power-requires
+next-term-spec = tie.close (tie.spec (λ c κs. search needs) (λ c κs. search needs) (λ c. search needs) (λ c κs. search needs) next-power-requires
     (λ c. search needs) returns)

@@ -97,7 +97,5 @@ count-fits c =
     omega (arith, s .pre .0 .count)
 
 pub values-at-spec : {M : Type 1} → statement M
-values-at-spec =
-    tie.close
-    (tie.spec Inv-loop μ-loop (λ c κs. search needs) (λ c. search needs) (λ c κs. search needs) loop-holds (λ c. search needs) next-term-requires
+values-at-spec = tie.close (tie.spec Inv-loop μ-loop (λ c κs. search needs) (λ c. search needs) (λ c κs. search needs) loop-holds (λ c. search needs) next-term-requires
     (λ c. search needs) (λ c. search needs) (λ c. search needs) loop-again count-fits (λ c. search needs) returns)

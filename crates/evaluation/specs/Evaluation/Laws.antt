@@ -98,9 +98,7 @@ value-snoc p c r =
 bytesAt-snoc : (s : List ℕ) (i j : ℕ) → bytesAt s i (suc j) ≡ bytesAt s i j ++ (getD s (i + j) 0 ∷ [])
 unfolding bytesAt
 bytesAt-snoc s i zero = let e : i ≡ i + 0 = omega arith in ap (λ (k : ℕ). getD s k 0 ∷ []) e
-bytesAt-snoc s i (suc j) =
-    let e : suc i + j ≡ i + suc j = omega arith in
-    ap (_∷_ (getD s i 0)) (rw e at (bytesAt-snoc s (suc i) j))
+bytesAt-snoc s i (suc j) = let e : suc i + j ≡ i + suc j = omega arith in ap (_∷_ (getD s i 0)) (rw e at (bytesAt-snoc s (suc i) j))
 
 value-turn : (s : List ℕ) (i j : ℕ) (r : Point) → value (bytesAt s i (j + 1)) r ≡ value (bytesAt s i j) r ⊞ scalar (getD s (i + j) 0) ⊠ pointPower r j
 value-turn s i j r = rw (add-one j, bytesAt-snoc s i j, value-snoc (bytesAt s i j) (getD s (i + j) 0) r, length-bytesAt s i j) refl

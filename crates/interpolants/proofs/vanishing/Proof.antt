@@ -33,9 +33,7 @@ returns c =
     (a .add-share .ensures) (d .divide .ensures) (h .share .ensures)
 
 pub vanishing-spec : {M : Type 1} → statement M
-vanishing-spec =
-    tie.close
-    (tie.spec (λ c. search needs) (λ c. search needs) (λ c. search needs) (λ c. search needs)
+vanishing-spec = tie.close (tie.spec (λ c. search needs) (λ c. search needs) (λ c. search needs) (λ c. search needs)
     (λ c. search needs) (λ c. search needs) (λ c. let s : tie.Start = search in sym (low s)) add-share-requires
     (λ c. let a : tie.After-add-share = search in simp (length-append, length-take, length-drop) (omega (arith, words a)))
     (λ c. let s : tie.Start = search in sym (low s))

@@ -99,12 +99,11 @@ module _ (i : ℕ) (small : i < 8) (v w : List ℕ) where
   lane-weighed e =
       rw (byteAt-scaled i (entryOf v (power e)) (entryOf w (power e)) small, getD-timesEach (share i v) w (power e - 1), getD-share i v (power e - 1)) refl
 
-  entry : ℕ → ℕ
+  abbrev entry : ℕ → ℕ
   entry e = entryOf (timesEach (share i v) w) (power e)
 
   lane-term : (κ q o : ℕ) → byteAt i (progression (weighed v w (κ + 15 * q)) 0 (κ + 15 * q) (o % 17)) ⊗ power (17 * κ * (o / 17))
       ≡ entry (κ + 15 * q) ⊗ power ((κ + 15 * q) * o)
-  unfolding entry
   lane-term κ q o =
       rw (zero-add ((κ + 15 * q) * (o % 17)), byteAt-scaled i (weighed v w (κ + 15 * q)) (power ((κ + 15 * q) * (o % 17))) small, lane-weighed (κ + 15 * q))
       (⊗-assoc (entry (κ + 15 * q)) _ _ ∙ ap (_⊗_ (entry (κ + 15 * q))) (exponents κ q o))
@@ -120,7 +119,6 @@ module _ (i : ℕ) (small : i < 8) (v w : List ℕ) where
       ∙ sum-ext xorGroup _ _ 17 (λ q l. lane-term κ q o))
 
   pub power-sums-at : (o : ℕ) → o < 255 → byteAt i (classSums (weighed v w) 15 (place o)) ≡ powerSum (timesEach (share i v) w) o 255
-  unfolding entry
   power-sums-at o h =
       total-of (byteAt i) (byteAt-sum i) (λ κ. classTerm (weighed v w) κ (place o)) 15 ∙ sum-ext xorGroup _ _ 15 (λ κ l. lane-class κ o h)
       ∙ sum-swap xorGroup (λ κ q. entry (κ + 15 * q) ⊗ power ((κ + 15 * q) * o)) 15 17
