@@ -1,4 +1,4 @@
-// S of several shares, eight at a time: their vectors x stand side by side in words (crate packed).
+// S of several shares, eight at a time, and F: the vectors x stand side by side in words (crate packed).
 use encoding::share_length;
 use parameters::Parameters;
 ghost use mathlib.Core.Path.{_≡_};

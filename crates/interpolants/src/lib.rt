@@ -1,4 +1,4 @@
-// S of up to eight vectors side by side, by power sums and one division. The complement and the weights depend on m alone and are made once.
+// S of up to eight vectors side by side, by power sums and one division, and F by the same division. Complement and weights depend on m alone.
 ghost use mathlib.Core.Path.{_≡_};
 ghost use mathlib.Core.List.{_++_};
 ghost use Prim.Native.Nat.{ℕ, _-_, _<_, _≤_};

@@ -5,7 +5,7 @@
 --   weighed v w e    the entries of the vectors v at the byte 03 to the e, times the weight of that byte
 --   progression      the word v times 03 to the s, s + e, s + 2·e and so on
 --   classSum x κ o   the first stage: the sum over the class κ of x e times 03 to the e·o
---   classTerm x κ p  the second stage: what the class adds to entry p = 15·o₂ + o₁ of the work area
+--   classTerm x κ p  the second stage: what the class adds to entry p = 15·o₂ + o₁ of the code's array b
 --   classSums x n p  what the first n classes add to it
 --   place o          the entry of exponent o
 use mathlib.Core.Path.{_≡_}

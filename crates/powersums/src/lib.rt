@@ -143,7 +143,7 @@ fn add_classes(b: &mut [u64], a: &[u64], m: usize, weights: &[u8], log: &[u8; 25
     }
 }
 
-// The entry of the work area for the exponent o.
+// The entry of b for the exponent o.
 fn place(o: usize) -> usize
     requires { ⌜ o < 255 ⌝ }
     ensures { λ r. ⌜ r ≡ place o ⌝ }

@@ -1,4 +1,4 @@
--- Entry j comes from the entry for exponent 254 − j of the work area, which has the sum over all classes (`power-sums-of`).
+-- Entry j comes from the entry for exponent 254 − j of b, which has the sum over all classes (`power-sums-of`).
 use native.Mathlib.Omega.{arith}
 use borrow.Author.Needs.{needs}
 use lib.ListN.{getD-replicate}

@@ -124,7 +124,7 @@ module _ (i : ℕ) (small : i < 8) (v w : List ℕ) where
       ∙ sum-swap xorGroup (λ κ q. entry (κ + 15 * q) ⊗ power ((κ + 15 * q) * o)) 15 17
       ∙ total-blocks (λ e. entry e ⊗ power (e * o)) 15 17 ∙ sym (powerSum-total (timesEach (share i v) w) o 255)
 
--- z is the work area as it begins, b as it ends, t what is in it in the order of the exponents
+-- z is the code's array b as it begins, b as it ends, t what is in it in the order of the exponents
 pub power-sums-of : (v w z b t : List ℕ) → length t ≡ 255 → Filled 255 (λ k. 0) z → Added 255 (classSums (weighed v w) 15) z b
     → Filled 255 (λ j. getD b (place (254 - j)) 0) t → (i : ℕ) → i < 8 → PowerSums (timesEach (share i v) w) (share i t)
 power-sums-of v w z b t n fz ab ft i h = record {
