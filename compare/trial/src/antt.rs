@@ -40,7 +40,7 @@ pub fn record(fields: &[(&str, String)]) -> String {
 /// Parameters.
 pub fn parameters(set: &Parameters) -> String {
     let Parameters { m, k, w, axes, t } = set;
-    format!("record {{ m = {m}; k = {k}; w = {w}; d = {axes}; t = {t} }}")
+    format!("record {{ m = {m}; k = {k}; w = {w}; axes = {axes}; t = {t} }}")
 }
 
 /// Matrix and y of a key.

@@ -16,7 +16,7 @@ ghost use Rattle.answers.specs.declared.Answer.the-variants.{Done};
 ghost use Rattle.answers.specs.Checks.{checks};
 ghost use Rattle.parameters.specs.Limits.{Within};
 ghost use Rattle.relation.specs.Key.{vectorOf};
-ghost use Rattle.exchange.specs.Layout.{message2Length, message5Length};
+ghost use Rattle.layout.specs.Layout.{message2Length, message5Length};
 ghost use Rattle.layout.specs.Lent.{lentTests};
 ghost use Rattle.arguments.specs.Arguments.{beginTests, argumentChecks};
 

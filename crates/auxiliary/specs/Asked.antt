@@ -9,7 +9,7 @@ use lib.ListN.{length}
 use Rattle.parameters.specs.declared.Parameters.{Parameters}
 use Rattle.parameters.specs.Limits.{Within}
 use Rattle.relation.specs.Light.{Light}
-use Rattle.exchange.specs.Layout.{auxLength, shareLength}
+use Rattle.layout.specs.Layout.{auxLength, shareLength}
 
 pub record ProductsAsked (p : Parameters) (drawn out : List ℕ) : Type 0 where
   pub within : Within p

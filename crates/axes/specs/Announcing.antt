@@ -16,7 +16,7 @@ use Rattle.lists.specs.Part.{part}
 use Rattle.lists.specs.Sum.{xorList}
 use Rattle.tower.specs.Field.{Point}
 use Rattle.parameters.specs.declared.Parameters.{Parameters}
-use Rattle.exchange.specs.Layout.{side, shareLength}
+use Rattle.layout.specs.Layout.{side, shareLength}
 use Rattle.exchange.specs.Sequences.{joined}
 use Rattle.exchange.specs.Reading.{pointAt, _⊞_, 𝟎}
 use Rattle.exchange.specs.Values.{Key, alpha, beta, partV}
@@ -45,7 +45,7 @@ module _ (p : Parameters) (key : Key) (m2 : List ℕ) (s : ℕ → List ℕ) (α
 unfoldable pub partyFrom : Parameters → List ℕ → ℕ → ℕ → List ℕ
 partyFrom p parts j c =
     cond (eqb c 0) (part parts (j * shareLength p) (shareLength p))
-    (xorList (part parts (p .d * shareLength p) (shareLength p)) (part parts (j * shareLength p) (shareLength p)))
+    (xorList (part parts (p .axes * shareLength p) (shareLength p)) (part parts (j * shareLength p) (shareLength p)))
 
 unfoldable pub rowOf : Parameters → Key → List ℕ → List ℕ → ℕ → List ℕ → ℕ → List ℕ
 rowOf p key m2 parts leaf hidden j =

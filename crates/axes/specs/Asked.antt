@@ -12,18 +12,18 @@ use Prim.Native.Nat.{ℕ, _+_, _-_, _*_}
 use lib.ListN.{length}
 use Rattle.parameters.specs.declared.Parameters.{Parameters}
 use Rattle.parameters.specs.Limits.{Within}
-use Rattle.exchange.specs.Layout.{shareLength, message2Length}
+use Rattle.layout.specs.Layout.{shareLength, message2Length}
 use Rattle.partyrows.specs.Asked.{RowAsked}
 pub mod Laws
 
 pub record RowsAsked (p : Parameters) (parts m2 matrix y hidden rows : List ℕ) : Type 0 where
   pub within : Within p
-  pub sized-parts : length parts ≡ (p .d + 1) * shareLength p
+  pub sized-parts : length parts ≡ (p .axes + 1) * shareLength p
   pub sized-m2 : length m2 ≡ message2Length p
   pub sized-matrix : length matrix ≡ (p .m - p .k) * p .k
   pub sized-y : length y ≡ p .m - p .k
   pub sized-hidden : length hidden ≡ 8 * p .t
-  pub sized-rows : length rows ≡ p .d * (24 * p .t)
+  pub sized-rows : length rows ≡ p .axes * (24 * p .t)
 
 pub record AxisAsked (p : Parameters) (s block sums total hidden : List ℕ) : Type 0 where
   pub row : RowAsked p s block sums
@@ -32,8 +32,8 @@ pub record AxisAsked (p : Parameters) (s block sums total hidden : List ℕ) : T
 
 pub record TotalAsked (p : Parameters) (parts blocks hidden : List ℕ) : Type 0 where
   pub within : Within p
-  pub sized-parts : length parts ≡ (p .d + 1) * shareLength p
-  pub sized-blocks : length blocks ≡ (p .d + 1) * (12 * p .t)
+  pub sized-parts : length parts ≡ (p .axes + 1) * shareLength p
+  pub sized-blocks : length blocks ≡ (p .axes + 1) * (12 * p .t)
   pub sized-hidden : length hidden ≡ 8 * p .t
 
 pub record AxesAsked (p : Parameters) (parts blocks sums total hidden : List ℕ) : Type 0 where
@@ -43,13 +43,13 @@ pub record AxesAsked (p : Parameters) (parts blocks sums total hidden : List ℕ
 
 pub record EvaluateAsked (p : Parameters) (parts m2 matrix y blocks : List ℕ) : Type 0 where
   pub within : Within p
-  pub sized-parts : length parts ≡ (p .d + 1) * shareLength p
+  pub sized-parts : length parts ≡ (p .axes + 1) * shareLength p
   pub sized-m2 : length m2 ≡ message2Length p
   pub sized-matrix : length matrix ≡ (p .m - p .k) * p .k
   pub sized-y : length y ≡ p .m - p .k
-  pub sized-blocks : length blocks ≡ (p .d + 1) * (12 * p .t)
+  pub sized-blocks : length blocks ≡ (p .axes + 1) * (12 * p .t)
 
 pub record RoomAsked (p : Parameters) (blocks sums total : List ℕ) : Type 0 where
-  pub sized-blocks : length blocks ≡ (p .d + 1) * (12 * p .t)
+  pub sized-blocks : length blocks ≡ (p .axes + 1) * (12 * p .t)
   pub sized-sums : length sums ≡ 8 * p .t
   pub sized-total : length total ≡ 12 * p .t

@@ -18,8 +18,8 @@ use Rattle.lists.specs.Part.{part}
 use Rattle.lists.specs.Sum.{xorList}
 use Rattle.tower.specs.Field.{Point, bytesOf, bytesOf-point}
 use Rattle.parameters.specs.declared.Parameters.{Parameters}
-use Rattle.exchange.specs.Layout.{bits, leaves, digit}
-use Rattle.exchange.specs.Layout.Laws.{digit-lt}
+use Rattle.layout.specs.Layout.{bits, leaves, digit}
+use Rattle.layout.specs.Layout.Laws.{digit-lt}
 use Rattle.exchange.specs.Sequences.{joined}
 use Rattle.exchange.specs.Sequences.Laws.{joined-ext}
 use Rattle.exchange.specs.Reading.{points, bytesAt, pointAt, encode, _⊞_}
@@ -36,7 +36,7 @@ use Rattle.axes.specs.Announcing.{partyFrom, rowOf}
 use Rattle.axes.specs.Parties.{hatAlpha, hatBeta, row-made}
 
 pub record Evaluated (p : Parameters) (key : Key) (m2 parts blocks : List ℕ) : Type 0 where
-  pub announcements : (i : ℕ) → i < p .d + 1 → blockOf p blocks i ≡ announcedOf p key m2 true (shareOf p parts i)
+  pub announcements : (i : ℕ) → i < p .axes + 1 → blockOf p blocks i ≡ announcedOf p key m2 true (shareOf p parts i)
 
 -- ---- bytes read as points
 
@@ -71,8 +71,8 @@ hidden-some p leaf j = go (ltb leaf (leaves p))
 
 module _ (p : Parameters) (key : Key) (m2 parts : List ℕ) (leaf : ℕ) (hidden blocks sums total : List ℕ)
     (given : Evaluated p key m2 parts blocks) (sized : length hidden ≡ 8 * p .t) (bytes : (i : ℕ) → getD hidden i 0 < 256)
-    (es : sums ≡ sumsBy p leaf (blockOf p blocks (p .d)) hidden)
-    (et : total ≡ rowBy p (shareOf p parts (p .d)) (blockOf p blocks (p .d)) sums) where
+    (es : sums ≡ sumsBy p leaf (blockOf p blocks (p .axes)) hidden)
+    (et : total ≡ rowBy p (shareOf p parts (p .axes)) (blockOf p blocks (p .axes)) sums) where
   α⋆ : ℕ → Point
   α⋆ l = pointAt hidden (4 * l)
 
@@ -80,7 +80,7 @@ module _ (p : Parameters) (key : Key) (m2 parts : List ℕ) (leaf : ℕ) (hidden
   β⋆ l = pointAt hidden (4 * p .t + 4 * l)
 
   all : List ℕ
-  all = shareOf p parts (p .d)
+  all = shareOf p parts (p .axes)
 
   α̂ : ℕ → Point
   α̂ = hatAlpha p key m2 all α⋆ (ltb leaf (leaves p))
@@ -92,16 +92,16 @@ module _ (p : Parameters) (key : Key) (m2 parts : List ℕ) (leaf : ℕ) (hidden
   unfolding α⋆ β⋆
   hidden-is = points-of hidden (p .t) sized bytes
 
-  all-is : frontBy p (blockOf p blocks (p .d)) ≡ encode (alpha p key m2 true all) (p .t) ++ encode (beta p key m2 true all) (p .t)
+  all-is : frontBy p (blockOf p blocks (p .axes)) ≡ encode (alpha p key m2 true all) (p .t) ++ encode (beta p key m2 true all) (p .t)
   unfolding all
-  all-is = frontBy-is p key m2 (shareOf p parts (p .d)) _ (given .announcements (p .d) (omega arith))
+  all-is = frontBy-is p key m2 (shareOf p parts (p .axes)) _ (given .announcements (p .axes) (omega arith))
 
   sums-is : sums ≡ encode α̂ (p .t) ++ encode β̂ (p .t)
   unfolding sumsBy withHidden α̂ β̂ hatAlpha hatBeta
   sums-is = es ∙ go (ltb leaf (leaves p))
     where
       go : (b : Bool)
-          → cond b (xorList (frontBy p (blockOf p blocks (p .d))) hidden) (frontBy p (blockOf p blocks (p .d)))
+          → cond b (xorList (frontBy p (blockOf p blocks (p .axes))) hidden) (frontBy p (blockOf p blocks (p .axes)))
           ≡ encode (hatAlpha p key m2 all α⋆ b) (p .t) ++ encode (hatBeta p key m2 all β⋆ b) (p .t)
       go true =
           ap₂ xorList all-is hidden-is ∙ front-xor _ _ (p .t) _ _
@@ -109,22 +109,22 @@ module _ (p : Parameters) (key : Key) (m2 parts : List ℕ) (leaf : ℕ) (hidden
       go false = all-is ∙ ap₂ _++_ (encode-ext _ _ (p .t) (λ l h. sym (points .base .add-zero _))) (encode-ext _ _ (p .t) (λ l h. sym (points .base .add-zero _)))
 
   -- the row of share i of the D + 1
-  share-is : (i : ℕ) → i < p .d + 1 → rowBy p (shareOf p parts i) (blockOf p blocks i) sums ≡ shareRow p key m2 true (shareOf p parts i) α̂ β̂
+  share-is : (i : ℕ) → i < p .axes + 1 → rowBy p (shareOf p parts i) (blockOf p blocks i) sums ≡ shareRow p key m2 true (shareOf p parts i) α̂ β̂
   share-is i h = rowBy-is p key m2 (shareOf p parts i) _ _ α̂ β̂ (given .announcements i h) sums-is
 
-  pub axis-made : (j : ℕ) → j < p .d
+  pub axis-made : (j : ℕ) → j < p .axes
       → axisBy p (shareOf p parts j) (blockOf p blocks j) sums total (hiddenParty p leaf j) hidden ≡ rowOf p key m2 parts leaf hidden j
   unfolding axisBy rowOf partyFrom α̂ β̂ α⋆ β⋆ all
   axis-made j h =
       sym (row-made p key m2 (partyFrom p parts j) all refl α⋆ β⋆ hidden hidden-is (hiddenParty p leaf j)
       (rowBy p (shareOf p parts j) (blockOf p blocks j) sums) total (hidden-some p leaf j .0)
       (share-is j (omega arith) ∙ hats (shareOf p parts j))
-      (et ∙ share-is (p .d) (omega arith) ∙ hats (shareOf p parts (p .d))))
+      (et ∙ share-is (p .axes) (omega arith) ∙ hats (shareOf p parts (p .axes))))
     where
       hats : (s : List ℕ) → shareRow p key m2 true s α̂ β̂
           ≡ shareRow p key m2 true s (hatAlpha p key m2 all α⋆ (ltb (hiddenParty p leaf j) 2)) (hatBeta p key m2 all β⋆ (ltb (hiddenParty p leaf j) 2))
       hats s = ap (λ (b : Bool). shareRow p key m2 true s (hatAlpha p key m2 all α⋆ b) (hatBeta p key m2 all β⋆ b)) (sym (hidden-some p leaf j .1))
 
-  pub rows-made : joined (λ j. axisBy p (shareOf p parts j) (blockOf p blocks j) sums total (hiddenParty p leaf j) hidden) (p .d)
-      ≡ joined (rowOf p key m2 parts leaf hidden) (p .d)
-  rows-made = joined-ext _ _ (p .d) axis-made
+  pub rows-made : joined (λ j. axisBy p (shareOf p parts j) (blockOf p blocks j) sums total (hiddenParty p leaf j) hidden) (p .axes)
+      ≡ joined (rowOf p key m2 parts leaf hidden) (p .axes)
+  rows-made = joined-ext _ _ (p .axes) axis-made

@@ -13,7 +13,7 @@ use Rattle.cube.specs.Group.{Group2, additive, group}
 use Rattle.cube.specs.Sum.{sum}
 use Rattle.tower.specs.Field.{Point}
 use Rattle.parameters.specs.declared.Parameters.{Parameters}
-use Rattle.exchange.specs.Layout.{bits, side}
+use Rattle.layout.specs.Layout.{bits, side}
 use Rattle.exchange.specs.Sequences.{joined}
 use Rattle.exchange.specs.Reading.{points, encode, _⊞_, 𝟎}
 use Rattle.exchange.specs.Reading.Laws.{encode-ext}

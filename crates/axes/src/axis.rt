@@ -116,7 +116,7 @@ pub fn put_axis(
     log: &[u8; 256],
     pow: &[u8; 256],
 )
-    requires { ⌜ AxesAsked p (now parts) (now blocks) (now sums) (now total) (now hidden) × (axis < p .d) × (length (now row) ≡ 24 * p .t) × (now log ≡ logs) × (now pow ≡ powers) ⌝ }
+    requires { ⌜ AxesAsked p (now parts) (now blocks) (now sums) (now total) (now hidden) × (axis < p .axes) × (length (now row) ≡ 24 * p .t) × (now log ≡ logs) × (now pow ≡ powers) ⌝ }
     ensures { λ _. ⌜ now (row .exit) ≡ axisBy p (shareOf p (now (parts .entry)) axis) (blockOf p (now (blocks .entry)) axis) (now (sums .entry)) (now (total .entry)) (hiddenParty p leaf axis) (now (hidden .entry)) ⌝ }
 {
     let size = 8 * p.t + (p.k + 2 * p.w + 4 * p.t);

@@ -30,13 +30,13 @@ pub fn axis_rows(
     pow: &[u8; 256],
 ) -> usize
     requires { ⌜ RowsAsked p (now parts) (now m2) (now matrix) (now y) (now hidden) (now rows) × (now log ≡ logs) × (now pow ≡ powers) ⌝ }
-    ensures { λ c. ⌜ (now (rows .exit) ≡ joined (rowOf p (keyOf (now (matrix .entry)) (now (y .entry))) (now (m2 .entry)) (now (parts .entry)) leaf (now (hidden .entry))) (p .d)) × (c ≡ productsOf p (p .d + 1)) ⌝ }
+    ensures { λ c. ⌜ (now (rows .exit) ≡ joined (rowOf p (keyOf (now (matrix .entry)) (now (y .entry))) (now (m2 .entry)) (now (parts .entry)) leaf (now (hidden .entry))) (p .axes)) × (c ≡ productsOf p (p .axes + 1)) ⌝ }
 {
     let mut blocks = [0u8; 864];
     let mut sums = [0u8; 64];
     let mut total = [0u8; 96];
     let c = 8 * p.t;
-    let b = (p.d + 1) * (12 * p.t);
+    let b = (p.axes + 1) * (12 * p.t);
     let t = 12 * p.t;
     axis_rows_with(
         p,

@@ -29,13 +29,13 @@ fn put_rows(
     log: &[u8; 256],
     pow: &[u8; 256],
 )
-    requires { ⌜ AxesAsked p (now parts) (now blocks) (now sums) (now total) (now hidden) × (length (now rows) ≡ p .d * (24 * p .t)) × (now log ≡ logs) × (now pow ≡ powers) ⌝ }
-    ensures { λ _. ⌜ now (rows .exit) ≡ joined (λ j. axisBy p (shareOf p (now (parts .entry)) j) (blockOf p (now (blocks .entry)) j) (now (sums .entry)) (now (total .entry)) (hiddenParty p leaf j) (now (hidden .entry))) (p .d) ⌝ }
+    requires { ⌜ AxesAsked p (now parts) (now blocks) (now sums) (now total) (now hidden) × (length (now rows) ≡ p .axes * (24 * p .t)) × (now log ≡ logs) × (now pow ≡ powers) ⌝ }
+    ensures { λ _. ⌜ now (rows .exit) ≡ joined (λ j. axisBy p (shareOf p (now (parts .entry)) j) (blockOf p (now (blocks .entry)) j) (now (sums .entry)) (now (total .entry)) (hiddenParty p leaf j) (now (hidden .entry))) (p .axes) ⌝ }
 {
     let width = 24 * p.t;
     let mut b = 0;
     let mut j = 0;
-    while j < p.d {
+    while j < p.axes {
         let e = b + width;
         put_axis(
             p,
@@ -73,7 +73,7 @@ pub fn axis_rows_with(
     pow: &[u8; 256],
 ) -> usize
     requires { ⌜ RowsAsked p (now parts) (now m2) (now matrix) (now y) (now hidden) (now rows) × RoomAsked p (now blocks) (now sums) (now total) × (now log ≡ logs) × (now pow ≡ powers) ⌝ }
-    ensures { λ c. ⌜ (now (rows .exit) ≡ joined (rowOf p (keyOf (now (matrix .entry)) (now (y .entry))) (now (m2 .entry)) (now (parts .entry)) leaf (now (hidden .entry))) (p .d)) × (c ≡ productsOf p (p .d + 1)) ⌝ }
+    ensures { λ c. ⌜ (now (rows .exit) ≡ joined (rowOf p (keyOf (now (matrix .entry)) (now (y .entry))) (now (m2 .entry)) (now (parts .entry)) leaf (now (hidden .entry))) (p .axes)) × (c ≡ productsOf p (p .axes + 1)) ⌝ }
 {
     let made = evaluate(p, parts, m2, matrix, y, blocks, log, pow);
     total_row(p, parts, blocks, leaf, hidden, sums, total, log, pow);

@@ -25,10 +25,10 @@ fn evaluate_with(
     log: &[u8; 256],
     pow: &[u8; 256],
 ) -> usize
-    requires { ⌜ EvaluateAsked p (now parts) (now m2) (now matrix) (now y) (now blocks) × (length (now rows) ≡ (p .d + 1 + 1) * p .m) × (now log ≡ logs) × (now pow ≡ powers) ⌝ }
-    ensures { λ c. ⌜ Evaluated p (keyOf (now (matrix .entry)) (now (y .entry))) (now (m2 .entry)) (now (parts .entry)) (now (blocks .exit)) × (c ≡ productsOf p (p .d + 1)) ⌝ }
+    requires { ⌜ EvaluateAsked p (now parts) (now m2) (now matrix) (now y) (now blocks) × (length (now rows) ≡ (p .axes + 1 + 1) * p .m) × (now log ≡ logs) × (now pow ≡ powers) ⌝ }
+    ensures { λ c. ⌜ Evaluated p (keyOf (now (matrix .entry)) (now (y .entry))) (now (m2 .entry)) (now (parts .entry)) (now (blocks .exit)) × (c ≡ productsOf p (p .axes + 1)) ⌝ }
 {
-    let n = p.d + 1;
+    let n = p.axes + 1;
     coefficients::interpolate_each(p, n, parts, matrix, y, true, rows, log, pow);
     values::announce_each(p, n, parts, rows, m2, true, blocks, log, pow)
 }
@@ -45,10 +45,10 @@ pub fn evaluate(
     pow: &[u8; 256],
 ) -> usize
     requires { ⌜ EvaluateAsked p (now parts) (now m2) (now matrix) (now y) (now blocks) × (now log ≡ logs) × (now pow ≡ powers) ⌝ }
-    ensures { λ c. ⌜ Evaluated p (keyOf (now (matrix .entry)) (now (y .entry))) (now (m2 .entry)) (now (parts .entry)) (now (blocks .exit)) × (c ≡ productsOf p (p .d + 1)) ⌝ }
+    ensures { λ c. ⌜ Evaluated p (keyOf (now (matrix .entry)) (now (y .entry))) (now (m2 .entry)) (now (parts .entry)) (now (blocks .exit)) × (c ≡ productsOf p (p .axes + 1)) ⌝ }
 {
     let mut rows = [0u8; 2550];
-    let e = (p.d + 2) * p.m;
+    let e = (p.axes + 2) * p.m;
     evaluate_with(p, parts, m2, matrix, y, &mut rows[..e], blocks, log, pow)
 }
 
@@ -65,11 +65,11 @@ pub fn total_row(
     pow: &[u8; 256],
 )
     requires { ⌜ AxesAsked p (now parts) (now blocks) (now sums) (now total) (now hidden) × (now log ≡ logs) × (now pow ≡ powers) ⌝ }
-    ensures { λ _. ⌜ (now (sums .exit) ≡ sumsBy p leaf (blockOf p (now (blocks .entry)) (p .d)) (now (hidden .entry))) × (now (total .exit) ≡ rowBy p (shareOf p (now (parts .entry)) (p .d)) (blockOf p (now (blocks .entry)) (p .d)) (now (sums .exit))) ⌝ }
+    ensures { λ _. ⌜ (now (sums .exit) ≡ sumsBy p leaf (blockOf p (now (blocks .entry)) (p .axes)) (now (hidden .entry))) × (now (total .exit) ≡ rowBy p (shareOf p (now (parts .entry)) (p .axes)) (blockOf p (now (blocks .entry)) (p .axes)) (now (sums .exit))) ⌝ }
 {
     let size = 8 * p.t + (p.k + 2 * p.w + 4 * p.t);
-    let a = p.d * size;
-    let b = p.d * (12 * p.t);
+    let a = p.axes * size;
+    let b = p.axes * (12 * p.t);
     let e = a + size;
     let f = b + 12 * p.t;
     total_row_with(

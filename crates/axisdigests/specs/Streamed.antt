@@ -38,9 +38,9 @@ module _ (p : Parameters) (prefix rows : List ℕ) where
       ∙ absorbed-joined (begun 7 prefix) (λ j. SHAKE256 (rowString p prefix rows j) 32) j
       ∙ ap (streamed p prefix rows) (sym (add-one j))
 
-  pub streamed-end : (all : Sponge) (j n : ℕ) → j ≡ p .d → all ≡ streamed p prefix rows j
+  pub streamed-end : (all : Sponge) (j n : ℕ) → j ≡ p .axes → all ≡ streamed p prefix rows j
       → digest all n ≡ SHAKE256 (rowsString SHAKE256 p prefix rows) n
   unfolding streamed string7
   streamed-end all j n e ea =
-      digest-from 7 prefix (joined (λ j. SHAKE256 (rowString p prefix rows j) 32) (p .d)) n (begun 7 prefix) all refl
+      digest-from 7 prefix (joined (λ j. SHAKE256 (rowString p prefix rows j) 32) (p .axes)) n (begun 7 prefix) all refl
       (ea ∙ ap (streamed p prefix rows) e)

@@ -58,7 +58,7 @@ pub fn response_digest(p: Parameters, prefix: &[u8], rows: &[u8], out: &mut [u8]
     let width = 24 * p.t;
     let mut b = 0;
     let mut j = 0;
-    while j < p.d {
+    while j < p.axes {
         let e = b + width;
         let next = add_axis(all, axes, j, &rows[b..e]);
         all = next;

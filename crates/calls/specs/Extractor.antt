@@ -27,7 +27,7 @@ use Rattle.answers.specs.declared.Refusal.the-variants.{Parameter, Length, Leaf
 use Rattle.answers.specs.Checks.{checks}
 use Rattle.parameters.specs.declared.Parameters.{Parameters}
 use Rattle.parameters.specs.Limits.{withinLimits}
-use Rattle.exchange.specs.Layout.{leaves, message2Length, message5Length, workLength, outputLength}
+use Rattle.layout.specs.Layout.{leaves, message2Length, message5Length, workLength, outputLength}
 use Rattle.exchange.specs.Values.{Key}
 use Rattle.exchange.specs.Opening.{Exchange, exchange, verdict}
 use Rattle.exchange.specs.Extractor.{Finding, unequal, states, extract}

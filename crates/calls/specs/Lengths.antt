@@ -11,7 +11,7 @@ use Prim.Native.Nat.{ℕ, _*_, _-_}
 use lib.Dec.{eqb, leb}
 use lib.ListN.{length}
 use Rattle.parameters.specs.declared.Parameters.{Parameters}
-use Rattle.exchange.specs.Layout.{message2Length, message5Length, workLength}
+use Rattle.layout.specs.Layout.{message2Length, message5Length, workLength}
 use Rattle.exchange.specs.Values.{Key}
 
 abbrev pub keyLengths : Parameters → Key → List ℕ → List Bool

@@ -32,7 +32,7 @@ use Rattle.answers.specs.Checks.{checks}
 use Rattle.parameters.specs.declared.Parameters.{Parameters}
 use Rattle.parameters.specs.Limits.{withinLimits}
 use Rattle.relation.specs.Key.{weightOf, vectorOf}
-use Rattle.exchange.specs.Layout.{leaves, message2Length, workLength}
+use Rattle.layout.specs.Layout.{leaves, message2Length, workLength}
 use Rattle.exchange.specs.Values.{Key}
 use Rattle.exchange.specs.Messages.{message1, message3, message5}
 use Rattle.prover_phase.specs.declared.Phase.{Phase}
@@ -60,7 +60,7 @@ pub record Prover : Type 0 where
 unfoldable pub fresh : Prover
 fresh = record {
   phase = Fresh;
-  parameters = record { m = 0; k = 0; w = 0; d = 0; t = 0 };
+  parameters = record { m = 0; k = 0; w = 0; axes = 0; t = 0 };
   x = replicate 255 0;
   salt = replicate 32 0;
   root = replicate 16 0;

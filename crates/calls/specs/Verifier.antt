@@ -27,7 +27,7 @@ use Rattle.answers.specs.Number.{refusalNumber, answerNumber}
 use Rattle.answers.specs.Checks.{checks}
 use Rattle.parameters.specs.declared.Parameters.{Parameters}
 use Rattle.parameters.specs.Limits.{withinLimits}
-use Rattle.exchange.specs.Layout.{leaves, message2Length, workLength}
+use Rattle.layout.specs.Layout.{leaves, message2Length, workLength}
 use Rattle.exchange.specs.Values.{Key}
 use Rattle.exchange.specs.Opening.{Exchange, exchange, verdict}
 use Rattle.verifier_phase.specs.declared.Phase.{Phase}
@@ -54,7 +54,7 @@ pub record Verifier : Type 0 where
 unfoldable pub fresh : Verifier
 fresh = record {
   phase = Fresh;
-  parameters = record { m = 0; k = 0; w = 0; d = 0; t = 0 };
+  parameters = record { m = 0; k = 0; w = 0; axes = 0; t = 0 };
   message1 = replicate 64 0;
   message2 = replicate 64 0;
   message3 = replicate 32 0;

@@ -9,10 +9,10 @@ use mathlib.Core.Bool.{cond}
 use Prim.Native.Nat.{ℕ}
 use Rattle.parameters.specs.declared.Parameters.{Parameters}
 use Rattle.parameters.specs.Limits.{withinLimits}
-use Rattle.exchange.specs.Layout.{workLength, message5Length, outputLength}
+use Rattle.layout.specs.Layout.{workLength, message5Length, outputLength}
 
 abbrev pub parametersOf : ℕ → ℕ → ℕ → ℕ → ℕ → Parameters
-parametersOf m k w d t = record { m = m; k = k; w = w; d = d; t = t }
+parametersOf m k w d t = record { m = m; k = k; w = w; axes = d; t = t }
 
 abbrev pub sized : Parameters → ℕ → ℕ
 sized p n = cond (withinLimits p) n 0

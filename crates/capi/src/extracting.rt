@@ -54,7 +54,13 @@ pub extern "C" fn unlock_extract(
         (transcript (now (second1 .entry)) (now (second2 .entry)) (now (second3 .entry)) second4 (now (second5 .entry)))
         (keyOf (now (matrix .entry)) (now (y .entry))) (now (work .entry)) (now (out .entry)) ⌝ }
 {
-    let p = Parameters { m, k, w, d, t };
+    let p = Parameters {
+        m,
+        k,
+        w,
+        axes: d,
+        t,
+    };
     let e = extractor::extract(
         p,
         first1,

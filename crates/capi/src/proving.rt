@@ -49,11 +49,23 @@ pub extern "C" fn unlock_prover_begin(
         ≡ proverBegin (now (session .entry)) (parametersOf m k w d t) (now («x_a» .entry)) (now (salt .entry)) (now (root .entry)) (keyOf (now (matrix .entry)) (now (y .entry))) (now (work .entry)) (now (out .entry)) ⌝ }
 {
     if session.len() != stored::PROVER_SIZE {
-        let p = Parameters { m, k, w, d, t };
+        let p = Parameters {
+            m,
+            k,
+            w,
+            axes: d,
+            t,
+        };
         return misfit_number(p);
     }
     let s = stored::read_prover(session);
-    let p = Parameters { m, k, w, d, t };
+    let p = Parameters {
+        m,
+        k,
+        w,
+        axes: d,
+        t,
+    };
     let called = s.begin(p, x_a, salt, root, matrix, y, work, out);
     keep(called, session)
 }

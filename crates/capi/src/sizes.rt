@@ -26,7 +26,13 @@ pub extern "C" fn unlock_verifier_size() -> usize
 pub extern "C" fn unlock_work_size(m: usize, k: usize, w: usize, d: usize, t: usize) -> usize
     ensures { λ r. ⌜ r ≡ workSize (parametersOf m k w d t) ⌝ }
 {
-    let p = Parameters { m, k, w, d, t };
+    let p = Parameters {
+        m,
+        k,
+        w,
+        axes: d,
+        t,
+    };
     if !parameters::within_limits(p) {
         return 0;
     }
@@ -45,7 +51,13 @@ pub extern "C" fn unlock_opening_size(
 ) -> usize
     ensures { λ r. ⌜ r ≡ openingSize (parametersOf m k w d t) leaf ⌝ }
 {
-    let p = Parameters { m, k, w, d, t };
+    let p = Parameters {
+        m,
+        k,
+        w,
+        axes: d,
+        t,
+    };
     if !parameters::within_limits(p) {
         return 0;
     }
@@ -57,7 +69,13 @@ pub extern "C" fn unlock_opening_size(
 pub extern "C" fn unlock_extract_size(m: usize, k: usize, w: usize, d: usize, t: usize) -> usize
     ensures { λ r. ⌜ r ≡ extractSize (parametersOf m k w d t) ⌝ }
 {
-    let p = Parameters { m, k, w, d, t };
+    let p = Parameters {
+        m,
+        k,
+        w,
+        axes: d,
+        t,
+    };
     if !parameters::within_limits(p) {
         return 0;
     }

@@ -44,11 +44,23 @@ pub extern "C" fn unlock_verifier_begin(
     ensures { λ r. ⌜ kept r (now (session .exit)) ≡ verifierBegin (now (session .entry)) (parametersOf m k w d t) (now (message1 .entry)) ⌝ }
 {
     if session.len() != stored::VERIFIER_SIZE {
-        let p = Parameters { m, k, w, d, t };
+        let p = Parameters {
+            m,
+            k,
+            w,
+            axes: d,
+            t,
+        };
         return misfit_number(p);
     }
     let s = stored::read_verifier(session);
-    let p = Parameters { m, k, w, d, t };
+    let p = Parameters {
+        m,
+        k,
+        w,
+        axes: d,
+        t,
+    };
     let called = s.begin(p, message1);
     keep(called, session)
 }

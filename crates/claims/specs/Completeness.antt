@@ -21,7 +21,7 @@ use Rattle.parameters.specs.declared.Parameters.{Parameters}
 use Rattle.parameters.specs.Limits.{Within}
 use Rattle.polynomial.specs.Bytes.{Bytes}
 use Rattle.relation.specs.Key.{weightOf, vectorOf}
-use Rattle.exchange.specs.Layout.{leaves, message2Length, message5Length, workLength}
+use Rattle.layout.specs.Layout.{leaves, message2Length, message5Length, workLength}
 use Rattle.exchange.specs.Values.{Key}
 use Rattle.calls.specs.Prover as prover
 use Rattle.calls.specs.Prover.{Prover}

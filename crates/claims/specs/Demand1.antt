@@ -19,7 +19,7 @@ use Rattle.shake256.specs.Fips.{SHAKE256}
 use Rattle.answers.specs.Order.{Conditions, order, holds, answerOf}
 use Rattle.answers.specs.Order.Laws.{noneOf, First, answer-carried, answer-first}
 use Rattle.parameters.specs.declared.Parameters.{Parameters}
-use Rattle.exchange.specs.Layout.{workLength}
+use Rattle.layout.specs.Layout.{workLength}
 use Rattle.exchange.specs.Values.{Key}
 use Rattle.calls.specs.Held.{isSome}
 use Rattle.calls.specs.Judging.{judged}

@@ -18,7 +18,7 @@ use Rattle.shake256.proofs.Laws.{length-SHAKE256, SHAKE256-byte}
 use Rattle.parameters.specs.declared.Parameters.{Parameters}
 use Rattle.parameters.specs.Limits.{Within}
 use Rattle.polynomial.specs.Bytes.{Bytes, bytes-from}
-use Rattle.exchange.specs.Layout.{workLength, outputLength}
+use Rattle.layout.specs.Layout.{workLength, outputLength}
 use Rattle.exchange.specs.Values.{Key}
 use Rattle.calls.specs.Extractor.{Transcript}
 use Rattle.claims.specs.Words.{Comparable}

@@ -49,7 +49,7 @@ use Rattle.calls.specs.Extractor.Told as extractor
 -- ---- the sums
 
 pub record Agreement (hash : List ℕ → ℕ → List ℕ) : Type 0 where
-  pub on-all-axes : (p : Parameters) (e : Exchange) (key : Key) (j j′ : ℕ) → j < p .d → j′ < p .d
+  pub on-all-axes : (p : Parameters) (e : Exchange) (key : Key) (j j′ : ℕ) → j < p .axes → j′ < p .axes
       → sumsOf p (announced hash p e key j) ≡ sumsOf p (announced hash p e key j′)
 
 -- ---- document 01's check
@@ -60,7 +60,7 @@ module _ (hash : List ℕ → ℕ → List ℕ) where
   sumsAgree p e key (suc n) = sumsAgree p e key n && eqList (sumsOf p (announced hash p e key n)) (sumsOf p (announced hash p e key 0))
 
   unfoldable pub sumsDiffer : Parameters → Exchange → Key → Bool
-  sumsDiffer p e key = not (sumsAgree p e key (p .d))
+  sumsDiffer p e key = not (sumsAgree p e key (p .axes))
 
   unfoldable pub differSince : List Made → List ℕ → Key → Bool
   differSince h m5 key = ofExchange h m5 false (λ p e. sumsDiffer p e key)
@@ -132,7 +132,7 @@ module _ (hash : List ℕ → ℕ → List ℕ) where
 
   never : (p : Parameters) (e : Exchange) (key : Key) → sumsDiffer hash p e key ≡ false
   unfolding sumsDiffer
-  never p e key = ap not (agree p e key (p .d))
+  never p e key = ap not (agree p e key (p .axes))
 
   never-since : (h : List Made) (m5 : List ℕ) (key : Key) → differSince hash h m5 key ≡ false
   unfolding differSince

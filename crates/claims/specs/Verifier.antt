@@ -8,7 +8,7 @@ use Prim.Native.Nat.{ℕ}
 use Rattle.lists.specs.Zeroed.{zeroed}
 use Rattle.answers.specs.declared.Answer.the-variants.{Done}
 use Rattle.answers.specs.Number.{answerNumber}
-use Rattle.exchange.specs.Layout.{workLength}
+use Rattle.layout.specs.Layout.{workLength}
 use Rattle.exchange.specs.Values.{Key}
 use Rattle.exchange.specs.Opening.{verdict}
 use Rattle.calls.specs.Verifier.{Verifier, ended, heldExchange, openingChecks, judge, opening}

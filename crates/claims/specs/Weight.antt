@@ -29,7 +29,7 @@ use Rattle.tower.specs.Field.{Point}
 use Rattle.parameters.specs.declared.Parameters.{Parameters}
 use Rattle.polynomial.specs.Bytes.{Bytes}
 use Rattle.relation.specs.Key.{weightOf}
-use Rattle.exchange.specs.Layout.{leaves, workLength, outputLength}
+use Rattle.layout.specs.Layout.{leaves, workLength, outputLength}
 use Rattle.exchange.specs.Values.{Key, pointOf, multiplierOf}
 use Rattle.exchange.specs.Opening.{Exchange}
 use Rattle.exchange.specs.Extractor.{axis, stringAt}
@@ -80,7 +80,7 @@ module _ (hash : List ℕ → ℕ → List ℕ) (p : Parameters) (key : Key) whe
 
   pub data Hashed (e : Exchange) : ℕ → ℕ → Type 0 where
     at7 : Hashed e 7 0
-    at6 : (j : ℕ) → j < p .d → Hashed e 6 (j + 1)
+    at6 : (j : ℕ) → j < p .axes → Hashed e 6 (j + 1)
     at5 : Hashed e 5 0
     at4 : (i : ℕ) → i < leaves p → (i ≡ e .leaf → ⊥) → Hashed e 4 i
 

@@ -26,7 +26,7 @@ use Rattle.tower.specs.Field.{Point}
 use Rattle.parameters.specs.declared.Parameters.{Parameters}
 use Rattle.parameters.specs.Limits.{Within}
 use Rattle.polynomial.specs.Interpolant.{interpolantOf}
-use Rattle.exchange.specs.Layout.{leaves, atQ, message2Length, message5Length}
+use Rattle.layout.specs.Layout.{leaves, atQ, message2Length, message5Length}
 use Rattle.exchange.specs.Reading.{bytesAt, value, _⊞_, _⊠_}
 use Rattle.exchange.specs.Leaf.{share, commitment}
 use Rattle.exchange.specs.Values.{Key, xAOf, POf, aOf, bOf, cOf, pointOf, multiplierOf, imageOf, F}

@@ -8,7 +8,7 @@ use Prim.Native.Nat.{ℕ, _-_, _*_, _≤_}
 use lib.ListN.{length}
 use Rattle.parameters.specs.declared.Parameters.{Parameters}
 use Rattle.parameters.specs.Limits.{Within}
-use Rattle.exchange.specs.Layout.{shareLength}
+use Rattle.layout.specs.Layout.{shareLength}
 use Rattle.interpolants.specs.Complement.{complementOf, weightsOf}
 
 pub record RowsAsked (p : Parameters) (n c : ℕ) (shares matrix y rows : List ℕ) : Type 0 where

@@ -22,7 +22,7 @@ use Rattle.parameters.specs.declared.Parameters.{Parameters}
 use Rattle.polynomial.specs.Interpolant.{interpolantOf, vanishingOf}
 use Rattle.exchange.specs.Sequences.{joined}
 use Rattle.exchange.specs.Sequences.Laws.{joined-ext}
-use Rattle.exchange.specs.Layout.{shareLength}
+use Rattle.layout.specs.Layout.{shareLength}
 use Rattle.exchange.specs.Values.{Key, xOf, SOf, F}
 use Rattle.packed.specs.Share.{share}
 use Rattle.interpolants.specs.Shares.{share-end}

@@ -1,5 +1,5 @@
 // S of several shares, eight at a time, and F: the vectors x stand side by side in words (crate packed).
-use encoding::share_length;
+use layout::share_length;
 use parameters::Parameters;
 ghost use mathlib.Core.Path.{_≡_};
 ghost use mathlib.Core.List.{_++_};

@@ -8,7 +8,7 @@ use Prim.Native.Nat.{ℕ, _+_, _*_, _≤_}
 use lib.ListN.{length}
 use Rattle.parameters.specs.declared.Parameters.{Parameters}
 use Rattle.parameters.specs.Limits.{Within}
-use Rattle.exchange.specs.Layout.{leaves}
+use Rattle.layout.specs.Layout.{leaves}
 use Rattle.leaves.specs.Shapes.{LeafOf}
 
 pub record Absorb (p : Parameters) (i : ℕ) (st : List ℕ) : Type 0 where

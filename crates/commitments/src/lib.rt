@@ -1,7 +1,7 @@
 // Layers 4 and 5: the digest h of all leaf commitments, each recomputed from its leaf's state and absorbed at once.
+use layout::leaf_count;
 use leaves::COMMITMENTS;
 use leaves::leaf_commitment;
-use leaves::leaf_count;
 use parameters::Parameters;
 use shake256::Sponge;
 use strings::begin;
@@ -10,7 +10,7 @@ ghost use mathlib.Core.Path.{_≡_};
 ghost use lib.ListN.{length};
 ghost use Rattle.shake256.specs.Fips.{SHAKE256};
 ghost use Rattle.shake256.specs.Stream.{absorbed};
-ghost use Rattle.exchange.specs.Layout as layout;
+ghost use Rattle.layout.specs.Layout as layout;
 ghost use Rattle.exchange.specs.Strings.{string5};
 ghost use Rattle.commitments.specs.Commitments.{commitmentsAfter, commitmentsOf};
 ghost use Rattle.commitments.specs.Shapes.{Absorb, Commitments};

@@ -12,7 +12,7 @@ use borrow.Author.Tests.{lt-ltb, le-ltb}
 use lib.Dec.{ltb}
 use Rattle.lists.specs.Equal.{eqList}
 use Rattle.parameters.specs.declared.Parameters.{Parameters}
-use Rattle.exchange.specs.Layout.{leaves}
+use Rattle.layout.specs.Layout.{leaves}
 use Rattle.exchange.specs.Sequences.{listed, those, least}
 use Rattle.exchange.specs.Sequences.Laws.{those-append}
 use Rattle.exchange.specs.Values.{Key}
@@ -67,7 +67,7 @@ module _ (hash : List ℕ → ℕ → List ℕ) (p : Parameters) (key : Key) (e 
   found-head (n ∷ l) = refl
 
   abbrev axes : List (ℕ × ℕ)
-  axes = listed (λ j. (6, j + 1)) (p .d)
+  axes = listed (λ j. (6, j + 1)) (p .axes)
 
   abbrev all : List (ℕ × ℕ)
   all = listed (λ i. (4, i)) (leaves p)
@@ -87,7 +87,7 @@ module _ (hash : List ℕ → ℕ → List ℕ) (p : Parameters) (key : Key) (e 
       ∙ headOr-listed named (λ n. both n && differs n) otherwise (λ i. (4, i)) (leaves p))
 
   pub extract-chain : extract hash p key e e′
-      ≡ chain (differsAt 7 0) (least (λ j. differsAt 6 (j + 1)) (p .d)) (p .d) (differsAt 5 0)
+      ≡ chain (differsAt 7 0) (least (λ j. differsAt 6 (j + 1)) (p .axes)) (p .axes) (differsAt 5 0)
       (least (λ i. openedInBoth p e e′ i && differsAt 4 i) (leaves p)) (leaves p) otherwise
   unfolding extract unequalAt compared chain differsAt
   extract-chain =
@@ -96,4 +96,4 @@ module _ (hash : List ℕ → ℕ → List ℕ) (p : Parameters) (key : Key) (e 
       ∙ headOr-append named otherwise (those differs ((7, 0) ∷ axes)) (those differs ((5, 0) ∷ those both all))
       ∙ ap (λ (rest : Finding). headOr named rest (those differs ((7, 0) ∷ axes))) leaves-chain
       ∙ headOr-those named differs _ (7, 0) axes
-      ∙ ap (cond (differsAt 7 0) (unequal 7 0)) (headOr-listed named differs _ (λ j. (6, j + 1)) (p .d))
+      ∙ ap (cond (differsAt 7 0) (unequal 7 0)) (headOr-listed named differs _ (λ j. (6, j + 1)) (p .axes))

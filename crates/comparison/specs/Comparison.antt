@@ -24,7 +24,7 @@ use Rattle.lists.specs.Part.{part}
 use Rattle.lists.specs.Equal.{eqList}
 use Rattle.shake256.specs.Fips.{SHAKE256}
 use Rattle.parameters.specs.declared.Parameters.{Parameters}
-use Rattle.exchange.specs.Layout.{leaves, isLast}
+use Rattle.layout.specs.Layout.{leaves, isLast}
 use Rattle.exchange.specs.Sequences.{joined, least}
 use Rattle.exchange.specs.Strings.{string}
 use Rattle.exchange.specs.Leaf.{commitment}
@@ -88,9 +88,9 @@ axisOf u u′ = trailingZeros 8 (bitXor u u′) + 1
 unfoldable pub comparison : Parameters → List ℕ → View → View → Finding
 comparison p prefix v v′ =
     chain
-    (ltb (firstApart (digestAt p prefix (v .rows)) (digestAt p prefix (v′ .rows)) (p .d)) (p .d))
-    (firstApart (rowAt p (v .rows)) (rowAt p (v′ .rows)) (p .d))
-    (p .d)
+    (ltb (firstApart (digestAt p prefix (v .rows)) (digestAt p prefix (v′ .rows)) (p .axes)) (p .axes))
+    (firstApart (rowAt p (v .rows)) (rowAt p (v′ .rows)) (p .axes))
+    (p .axes)
     (ltb (firstApart (commitments p prefix v) (commitments p prefix v′) (leaves p)) (leaves p))
     (firstOpened (v .leaf) (v′ .leaf) (leafAt p (v .states) (v .aux)) (leafAt p (v′ .states) (v′ .aux)) (leaves p))
     (leaves p)

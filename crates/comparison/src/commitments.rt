@@ -1,7 +1,7 @@
 // The leaf commitments of two openings compared (layer 5).
+use layout::leaf_count;
 use leaves::COMMITMENTS;
 use leaves::leaf_commitment;
-use leaves::leaf_count;
 use lists::copy;
 use lists::equal;
 use parameters::Parameters;
@@ -11,7 +11,7 @@ ghost use mathlib.Core.Path.{_≡_};
 ghost use mathlib.Core.List.{List};
 ghost use Prim.Native.Nat.{ℕ, _<_};
 ghost use Rattle.lists.specs.Equal.{eqList};
-ghost use Rattle.exchange.specs.Layout.{leaves};
+ghost use Rattle.layout.specs.Layout.{leaves};
 ghost use Rattle.strings.specs.Digest.{begun};
 ghost use Rattle.comparison.specs.Comparison.{commitmentAt, firstApart};
 ghost use Rattle.comparison.specs.Shapes.{Committed, BothCommitted};

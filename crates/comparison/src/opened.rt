@@ -1,13 +1,13 @@
 // The leaves opened in both openings compared (layer 4).
-use leaves::is_last;
-use leaves::leaf_count;
+use layout::is_last;
+use layout::leaf_count;
 use lists::equal;
 use parameters::Parameters;
 ghost use mathlib.Core.Path.{_≡_};
 ghost use mathlib.Core.Bool.{_&&_};
 ghost use Prim.Native.Nat.{_<_};
 ghost use Rattle.lists.specs.Equal.{eqList};
-ghost use Rattle.exchange.specs.Layout.{leaves};
+ghost use Rattle.layout.specs.Layout.{leaves};
 ghost use Rattle.comparison.specs.Comparison.{leafAt, apart, openedBoth, firstOpened};
 ghost use Rattle.comparison.specs.Shapes.{States};
 

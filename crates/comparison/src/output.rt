@@ -1,10 +1,10 @@
 // The output: every leaf's state, then aux, each from the opening that discloses it.
-use leaves::is_last;
-use leaves::leaf_count;
+use layout::is_last;
+use layout::leaf_count;
 use lists::put_at;
 use parameters::Parameters;
 ghost use mathlib.Core.Path.{_≡_};
-ghost use Rattle.exchange.specs.Layout.{leaves};
+ghost use Rattle.layout.specs.Layout.{leaves};
 ghost use Rattle.comparison.specs.Comparison.{outputOf};
 ghost use Rattle.comparison.specs.Output.{placed};
 ghost use Rattle.comparison.specs.Shapes.{Placed, Output};

@@ -9,7 +9,7 @@ ghost use Rattle.comparison.specs.Shapes.{Rows};
 
 // Are the rows of an axis the same in both openings?
 fn same_row(p: Parameters, rows: &[u8], others: &[u8], axis: usize) -> bool
-    requires { ⌜ Rows p (now rows) (now others) × (axis < p .d) ⌝ }
+    requires { ⌜ Rows p (now rows) (now others) × (axis < p .axes) ⌝ }
     ensures { λ r. ⌜ r ≡ eqList (rowAt p (now (rows .entry)) axis) (rowAt p (now (others .entry)) axis) ⌝ }
 {
     let size = 24 * p.t;
@@ -21,9 +21,9 @@ fn same_row(p: Parameters, rows: &[u8], others: &[u8], axis: usize) -> bool
 // The first axis, from 0, whose rows differ, or D where none does.
 pub fn first_row(p: Parameters, rows: &[u8], others: &[u8]) -> usize
     requires { ⌜ Rows p (now rows) (now others) ⌝ }
-    ensures { λ r. ⌜ r ≡ firstApart (rowAt p (now (rows .entry))) (rowAt p (now (others .entry))) (p .d) ⌝ }
+    ensures { λ r. ⌜ r ≡ firstApart (rowAt p (now (rows .entry))) (rowAt p (now (others .entry))) (p .axes) ⌝ }
 {
-    let d = p.d;
+    let d = p.axes;
     let mut axis = 0;
     while axis < d {
         if !same_row(p, rows, others, axis) {

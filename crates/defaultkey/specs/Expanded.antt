@@ -33,4 +33,4 @@ unfoldable pub expanded : List ℕ → ℕ → List ℕ
 expanded label n = SHAKE256 (title ++ label) n
 
 abbrev pub leafOf : Parameters → ℕ
-leafOf p = getD (expanded leafLabel 1) 0 0 % 2 ^ p .d
+leafOf p = getD (expanded leafLabel 1) 0 0 % 2 ^ p .axes

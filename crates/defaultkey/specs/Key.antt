@@ -8,7 +8,7 @@ use Prim.Native.Nat.{ℕ}
 use Rattle.parameters.specs.declared.Parameters.{Parameters}
 
 abbrev pub shippedSet : Parameters
-shippedSet = record { m = 230; k = 126; w = 79; d = 8; t = 3 }
+shippedSet = record { m = 230; k = 126; w = 79; axes = 8; t = 3 }
 
 unfoldable pub defaultY : List ℕ
 defaultY =

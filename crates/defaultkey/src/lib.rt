@@ -265,7 +265,7 @@ pub fn shipped_set() -> Parameters
         m: 230,
         k: 126,
         w: 79,
-        d: 8,
+        axes: 8,
         t: 3,
     }
 }
@@ -331,5 +331,5 @@ pub fn leaf(p: Parameters) -> u8
 {
     let mut out = [0u8; 1];
     expand(b"leaf", &mut out);
-    remainder(out[0], leaves::leaf_count(p))
+    remainder(out[0], layout::leaf_count(p))
 }

@@ -1,12 +1,9 @@
-// Points in slices of bytes, four bytes each, and the length of a share.
-use parameters::Parameters;
+// Points in slices of bytes, four bytes each.
 ghost use mathlib.Core.Path.{_≡_};
 ghost use Prim.Native.Nat.{_+_, _≤_};
 ghost use lib.ListN.{length};
 ghost use Rattle.lists.specs.Part.{putAt};
 ghost use Rattle.tower.specs.Field.{bytesOf};
-ghost use Rattle.parameters.specs.Limits.{Within};
-ghost use Rattle.exchange.specs.Layout.{shareLength};
 ghost use Rattle.exchange.specs.Reading.{pointAt};
 
 // The point whose four bytes stand in s from place at on.
@@ -26,12 +23,4 @@ pub fn put_point(out: &mut [u8], at: usize, x: [u8; 4])
     out[at + 1] = x[1];
     out[at + 2] = x[2];
     out[at + 3] = x[3];
-}
-
-// The length of a share.
-pub fn share_length(p: Parameters) -> usize
-    requires { ⌜ Within p ⌝ }
-    ensures { λ r. ⌜ r ≡ shareLength p ⌝ }
-{
-    8 * p.t + (p.k + 2 * p.w + 4 * p.t)
 }

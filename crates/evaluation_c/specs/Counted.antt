@@ -10,7 +10,7 @@ use Rattle.parameters.specs.Limits.{withinLimits}
 use Rattle.values.specs.Products.{productsOf}
 
 abbrev pub setOf : ℕ → ℕ → ℕ → ℕ → ℕ → Parameters
-setOf m k w d t = record { m = m; k = k; w = w; d = d; t = t }
+setOf m k w d t = record { m = m; k = k; w = w; axes = d; t = t }
 
 unfoldable pub countedFor : ℕ → ℕ → ℕ → ℕ → ℕ → ℕ → ℕ
 countedFor n m k w d t = cond (leb n 9) (cond (withinLimits (setOf m k w d t)) (productsOf (setOf m k w d t) n) 0) 0

@@ -18,7 +18,7 @@ fn count(p: Parameters, n: usize) -> usize
     let rows = [0u8; 2550];
     let m2 = [0u8; 64];
     let mut out = [0u8; 864];
-    let a = n * encoding::share_length(p);
+    let a = n * layout::share_length(p);
     let b = (n + 1) * p.m;
     let c = 8 * p.t;
     let e = n * (12 * p.t);
@@ -47,7 +47,13 @@ pub extern "C" fn evaluation_c_products(
 ) -> usize
     ensures { λ r. ⌜ r ≡ countedFor n m k w d t ⌝ }
 {
-    let p = Parameters { m, k, w, d, t };
+    let p = Parameters {
+        m,
+        k,
+        w,
+        axes: d,
+        t,
+    };
     if n > 9 {
         return 0;
     }

@@ -15,7 +15,7 @@ use Prim.Native.Nat.{ℕ, _+_, _-_}
 use lib.Dec.{eqb}
 use Rattle.lists.specs.Equal.{eqList}
 use Rattle.parameters.specs.declared.Parameters.{Parameters}
-use Rattle.exchange.specs.Layout.{leaves, digit, isLast}
+use Rattle.layout.specs.Layout.{leaves, digit, isLast}
 use Rattle.exchange.specs.Sequences.{joined, listed, those, least}
 use Rattle.exchange.specs.Values.{Key}
 use Rattle.exchange.specs.Parties.{axisString}
@@ -34,11 +34,11 @@ module _ (p : Parameters) (e e′ : Exchange) where
 
   unfoldable pub compared : List (ℕ × ℕ)
   compared =
-      ((7, 0) ∷ listed (λ j. (6, j + 1)) (p .d))
+      ((7, 0) ∷ listed (λ j. (6, j + 1)) (p .axes))
       ++ ((5, 0) ∷ those (λ n. openedInBoth (n .1)) (listed (λ i. (4, i)) (leaves p)))
 
   unfoldable pub axis : ℕ
-  axis = least (λ j. not (eqb (digit p j (e .leaf)) (digit p j (e′ .leaf)))) (p .d) + 1
+  axis = least (λ j. not (eqb (digit p j (e .leaf)) (digit p j (e′ .leaf)))) (p .axes) + 1
 
   unfoldable pub auxFrom : List ℕ
   auxFrom = cond (isLast p (e .leaf)) (auxOf p e′) (auxOf p e)

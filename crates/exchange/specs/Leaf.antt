@@ -9,7 +9,7 @@ use mathlib.Core.List.{List, _++_}
 use Prim.Native.Nat.{ℕ, _*_}
 use lib.ListN.{take}
 use Rattle.parameters.specs.declared.Parameters.{Parameters}
-use Rattle.exchange.specs.Layout.{isLast, shareLength}
+use Rattle.layout.specs.Layout.{isLast, shareLength}
 use Rattle.exchange.specs.Strings.{string2, string3, string4}
 pub mod Laws
 

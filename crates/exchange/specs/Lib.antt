@@ -1,5 +1,5 @@
-pub mod Layout
 pub mod Sequences
+pub mod FirstAxis
 pub mod Strings
 pub mod Reading
 pub mod Tree

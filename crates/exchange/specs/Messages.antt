@@ -20,7 +20,7 @@ use Rattle.lists.specs.Sum.{xorList}
 use Rattle.tower.specs.Field.{Point}
 use Rattle.parameters.specs.declared.Parameters.{Parameters}
 use Rattle.relation.specs.Key.{locatorOf, quotientOf}
-use Rattle.exchange.specs.Layout.{side, levels, leaves, isLast}
+use Rattle.layout.specs.Layout.{side, levels, leaves, isLast}
 use Rattle.exchange.specs.Strings.{string5, string7}
 use Rattle.exchange.specs.Tree.{leafSeeds, siblingSeeds}
 use Rattle.exchange.specs.Leaf.{state, share, commitment}
@@ -74,7 +74,7 @@ module _ (hash : List ℕ → ℕ → List ℕ) (p : Parameters) (x salt root : 
     }
 
     unfoldable pub message3 : List ℕ
-    message3 = hash (string7 salt (λ j. hash (axisString p salt j (ownAnnounced j)) 32) (p .d)) 32
+    message3 = hash (string7 salt (λ j. hash (axisString p salt j (ownAnnounced j)) 32) (p .axes)) 32
 
     unfoldable pub message5 : ℕ → List ℕ
     message5 i =

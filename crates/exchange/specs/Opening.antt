@@ -28,7 +28,7 @@ use Rattle.answers.specs.declared.Answer.{Answer}
 use Rattle.answers.specs.declared.Refusal.the-variants.{Commitment, Response}
 use Rattle.answers.specs.Checks.{checks}
 use Rattle.parameters.specs.declared.Parameters.{Parameters}
-use Rattle.exchange.specs.Layout.{side, levels, leaves, digit}
+use Rattle.layout.specs.Layout.{side, levels, leaves, digit}
 use Rattle.exchange.specs.Strings.{string4, string5, string7}
 use Rattle.exchange.specs.Tree.{openedSeeds}
 use Rattle.exchange.specs.Leaf.{state, share}
@@ -114,7 +114,7 @@ module _ (hash : List ℕ → ℕ → List ℕ) (p : Parameters) (e : Exchange) 
 
   module _ (key : Key) where
     unfoldable pub responseString : List ℕ
-    responseString = string7 (e .prefix) (λ j. hash (axisString p (e .prefix) j (announced key j)) 32) (p .d)
+    responseString = string7 (e .prefix) (λ j. hash (axisString p (e .prefix) j (announced key j)) 32) (p .axes)
 
     unfoldable pub verdict : Answer
     verdict =
@@ -126,5 +126,5 @@ module _ (hash : List ℕ → ℕ → List ℕ) (p : Parameters) (e : Exchange) 
 
 pub record Accepted (hash : List ℕ → ℕ → List ℕ) (p : Parameters) (e : Exchange) (key : Key) : Type 0 where
   pub commitment : hash (commitmentString hash p e) 32 ≡ e .h
-  pub sums-same : (j : ℕ) → j < p .d → sumsOf p (announced hash p e key j) ≡ sumsOf p (announced hash p e key 0)
+  pub sums-same : (j : ℕ) → j < p .axes → sumsOf p (announced hash p e key j) ≡ sumsOf p (announced hash p e key 0)
   pub response : hash (responseString hash p e key) 32 ≡ e .message3

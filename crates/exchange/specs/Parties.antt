@@ -17,7 +17,7 @@ use Rattle.cube.specs.Sum.{sum}
 use Rattle.lists.specs.Sum.{xorList}
 use Rattle.tower.specs.Field.{Point}
 use Rattle.parameters.specs.declared.Parameters.{Parameters}
-use Rattle.exchange.specs.Layout.{side, digit, shareLength}
+use Rattle.layout.specs.Layout.{side, digit, shareLength}
 use Rattle.exchange.specs.Strings.{string6}
 use Rattle.exchange.specs.Reading.{points, encode}
 pub mod Laws

@@ -14,7 +14,7 @@ use mathlib.Core.Bool.{cond}
 use mathlib.Core.List.{List, [], _∷_, _++_}
 use Prim.Native.Nat.{ℕ, _+_, _/_, _%_}
 use Rattle.parameters.specs.declared.Parameters.{Parameters}
-use Rattle.exchange.specs.Layout.{isLast}
+use Rattle.layout.specs.Layout.{isLast}
 use Rattle.exchange.specs.Sequences.{joined}
 
 unfoldable pub string : ℕ → List ℕ → List ℕ → List ℕ

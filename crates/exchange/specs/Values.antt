@@ -20,7 +20,7 @@ use Rattle.tower.specs.Field.{Point}
 use Rattle.parameters.specs.declared.Parameters.{Parameters}
 use Rattle.polynomial.specs.Interpolant.{interpolantOf, vanishingOf}
 use Rattle.relation.specs.Key.{rows}
-use Rattle.exchange.specs.Layout.{atB, atX, atQ, atP, atC}
+use Rattle.layout.specs.Layout.{atB, atX, atQ, atP, atC}
 use Rattle.exchange.specs.Reading.{bytesAt, pointAt, value, _⊞_, _⊠_, 𝟎}
 pub mod Laws
 pub mod Relation

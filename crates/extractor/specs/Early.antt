@@ -24,7 +24,7 @@ use Rattle.answers.specs.Checks.Laws.{check-true, check-rest}
 use Rattle.parameters.specs.declared.Parameters.{Parameters}
 use Rattle.parameters.specs.Limits.{withinLimits, Within}
 use Rattle.parameters.specs.Limits.Laws.{test-within}
-use Rattle.exchange.specs.Layout.{leaves, message2Length, message5Length, outputLength}
+use Rattle.layout.specs.Layout.{leaves, message2Length, message5Length, outputLength}
 use Rattle.exchange.specs.Values.{Key}
 use Rattle.layout.specs.Lent.{lentTests, lent, Lent}
 use Rattle.layout.specs.Lent.Laws.{test-lent}

@@ -1,11 +1,11 @@
 // The checks that stand before 5 in document 01's order: 1, 2, 4, 8, 9.
 use answers::Answer;
 use answers::Refusal;
+use layout::leaf_count;
 use layout::lent;
 use layout::message2_length;
 use layout::message5_length;
 use layout::output_length;
-use leaves::leaf_count;
 use lists::equal;
 use parameters::Parameters;
 use parameters::within_limits;
@@ -18,7 +18,7 @@ ghost use Rattle.lists.specs.Checks.{allTrue};
 ghost use Rattle.lists.specs.Equal.{eqList};
 ghost use Rattle.parameters.specs.Limits.{Within};
 ghost use Rattle.shake256.specs.Fips.{SHAKE256};
-ghost use Rattle.exchange.specs.Layout.{leaves, outputLength};
+ghost use Rattle.layout.specs.Layout.{leaves, outputLength};
 ghost use Rattle.exchange.specs.Values.{keyOf};
 ghost use Rattle.layout.specs.Lent.{lentTests};
 ghost use Rattle.calls.specs.Extractor as spec;

@@ -1,9 +1,9 @@
 // Two checked openings compared.
 use findings::Extraction;
 use findings::compare;
+use layout::MOST_SIBLINGS;
+use layout::MOST_VALUES;
 use parameters::Parameters;
-use reader::opening::MOST_SIBLINGS;
-use reader::opening::MOST_VALUES;
 use reader::opening::read_opening;
 ghost use mathlib.Core.Path.{_≡_};
 ghost use lib.ListN.{length, take};

@@ -1,7 +1,7 @@
 // An opening checked.
 use answers::Answer;
+use layout::leaf_count;
 use layout::work_length;
-use leaves::leaf_count;
 use openings::check_opening;
 use parameters::Parameters;
 ghost use lib.ListN.{length};
@@ -28,7 +28,7 @@ pub fn judge(
 {
     let area = work_length(p);
     let all_states = 32 * leaf_count(p);
-    let all_rows = p.d * (24 * p.t);
+    let all_rows = p.axes * (24 * p.t);
     check_opening(
         p,
         m1,

@@ -8,7 +8,7 @@ use comparison::opened::first_leaf;
 use comparison::output::write_output;
 use comparison::rows::first_row;
 use digests::first_digest;
-use leaves::leaf_count;
+use layout::leaf_count;
 use parameters::Parameters;
 ghost use Rattle.comparison.specs.Comparison.{view, comparison};
 ghost use Rattle.comparison.specs.Shapes.{Views};
@@ -42,7 +42,7 @@ pub fn compare(
     requires { ⌜ Views p (view first (now given) (now aux) (now states) (now rows)) (view second (now «other_given») (now «other_aux») (now others) (now «other_rows»)) (now out) ⌝ }
     ensures { λ r. ⌜ Found (comparison p (now (prefix .entry)) (view first (now (given .entry)) (now (aux .entry)) (now (states .entry)) (now (rows .entry))) (view second (now («other_given» .entry)) (now («other_aux» .entry)) (now (others .entry)) (now («other_rows» .entry)))) (now (out .entry)) r (now (out .exit)) ⌝ }
 {
-    let d = p.d;
+    let d = p.axes;
     if first_digest(p, prefix, rows, other_rows) < d {
         return Extraction::Unequal {
             layer: 7,

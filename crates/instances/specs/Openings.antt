@@ -14,7 +14,7 @@ use Rattle.answers.specs.declared.Answer.the-variants.{Done}
 use Rattle.parameters.specs.declared.Parameters.{Parameters}
 use Rattle.parameters.specs.Limits.{Within}
 use Rattle.relation.specs.Key.{vectorOf}
-use Rattle.exchange.specs.Layout.{leaves, workLength, outputLength}
+use Rattle.layout.specs.Layout.{leaves, workLength, outputLength}
 use Rattle.exchange.specs.Values.{Key}
 use Rattle.exchange.specs.Messages.{message1, message3, message5}
 use Rattle.exchange.specs.Messages.Laws.{Secret, length-message1, length-message3, length-message5}
@@ -30,7 +30,7 @@ use Rattle.meetings.specs.StandIn.{length-standIn}
 use Rattle.meetings.specs.Honest.{honest-accepted}
 
 abbrev pub p : Parameters
-p = record { m = 4; k = 2; w = 2; d = 2; t = 2 }
+p = record { m = 4; k = 2; w = 2; axes = 2; t = 2 }
 
 abbrev pub key : Key
 key = record { matrix = 1 ∷ 7 ∷ 9 ∷ 3 ∷ []; y = 5 ∷ 6 ∷ [] }
@@ -64,8 +64,8 @@ within = record {
   k-most = omega arith;
   w-least = omega arith;
   w-most = omega arith;
-  d-least = omega arith;
-  d-most = omega arith;
+  axes-least = omega arith;
+  axes-most = omega arith;
   t-least = omega arith;
   t-most = omega arith;
 }

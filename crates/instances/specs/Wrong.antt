@@ -22,7 +22,7 @@ use Rattle.answers.specs.declared.Answer.the-variants.{Done}
 use Rattle.answers.specs.declared.Refusal.the-variants.{Commitment}
 use Rattle.answers.specs.Checks.{checks}
 use Rattle.parameters.specs.declared.Parameters.{Parameters}
-use Rattle.exchange.specs.Layout.{leaves}
+use Rattle.layout.specs.Layout.{leaves}
 use Rattle.exchange.specs.Opening.{Exchange, openedState, commitmentString}
 use Rattle.exchange.specs.Extractor.{unequal, states, compared, stringAt, unequalAt, extract}
 use Rattle.calls.specs.Extractor.{Transcript, exchangeOf, pair as namedPair, Outcome, found}

@@ -27,7 +27,7 @@ use Rattle.keylisting.specs.Listing.{printed}
 pub mod Laws
 
 abbrev pub parametersRead : List ℕ → Parameters
-parametersRead ns = record { m = getD ns 0 0; k = getD ns 1 0; w = getD ns 2 0; d = getD ns 3 0; t = getD ns 4 0 }
+parametersRead ns = record { m = getD ns 0 0; k = getD ns 1 0; w = getD ns 2 0; axes = getD ns 3 0; t = getD ns 4 0 }
 
 abbrev pub rowsOf : Parameters → ℕ
 rowsOf p = p .m - p .k

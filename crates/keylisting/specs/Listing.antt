@@ -60,7 +60,7 @@ keyLines w x =
     ++ (resultLine sWord (interpolantOf x) ++ (resultLine pWord (quotientOf w x) ++ resultLine fWord (vanishingOf (length x)))))
 
 abbrev pub parametersIn : List ℕ → Parameters
-parametersIn t = record { m = numberAt t 1; k = numberAt t 2; w = numberAt t 3; d = numberAt t 4; t = numberAt t 5 }
+parametersIn t = record { m = numberAt t 1; k = numberAt t 2; w = numberAt t 3; axes = numberAt t 4; t = numberAt t 5 }
 
 abbrev pub vectorIn : List ℕ → List ℕ
 vectorIn t = vectorOf (bytesAt t 1) (bytesAt t 2) (bytesAt t 3)

@@ -10,7 +10,7 @@ use Prim.Native.Nat.{ℕ, _*_, _-_, _≤_}
 use lib.Dec.{eqb, leb}
 use Rattle.lists.specs.Checks.{allTrue}
 use Rattle.parameters.specs.declared.Parameters.{Parameters}
-use Rattle.exchange.specs.Layout.{workLength}
+use Rattle.layout.specs.Layout.{workLength}
 pub mod Laws
 
 abbrev pub lentTests : Parameters → ℕ → ℕ → ℕ → List Bool

@@ -1,11 +1,142 @@
-// Lengths of messages, work area and output (document 01, Messages and Sessions), and slices as arrays of a fixed length.
+// How many leaves there are, and every length, offset and maximum (document 01, Leaves, Messages and Sessions).
 pub mod arrays;
 
 use parameters::Parameters;
 ghost use mathlib.Core.Path.{_≡_};
 ghost use Rattle.parameters.specs.Limits.{Within};
-ghost use Rattle.exchange.specs.Layout as spec;
+ghost use Rattle.layout.specs.Layout as spec;
 ghost use Rattle.layout.specs.Lent.{lent};
+
+// The states of 256 leaves.
+pub const MOST_STATES: usize = 8192;
+
+// The longest aux: k + 2w + 4t at k 254, w 255, t 8.
+pub const LONGEST_AUX: usize = 796;
+
+// The longest share: 12t + k + 2w at t 8, k 254, w 255.
+pub const LONGEST_SHARE: usize = 860;
+
+// The rows of all axes at D 8, t 8.
+pub const MOST_ROWS: usize = 1536;
+
+// A party's row at t 8.
+pub const LONGEST_ROW: usize = 96;
+
+// The sibling seeds at D 8.
+pub const MOST_SIBLINGS: usize = 128;
+
+// α and β at t 8.
+pub const MOST_VALUES: usize = 64;
+
+// How many bits of a leaf's number tell its party on an axis.
+pub fn bits(p: Parameters) -> usize
+    ensures { λ r. ⌜ r ≡ spec.bits p ⌝ }
+{
+    1
+}
+
+// The number of parties on an axis.
+pub fn side(p: Parameters) -> usize
+    ensures { λ r. ⌜ r ≡ spec.side p ⌝ }
+{
+    2
+}
+
+// The levels of the seed tree below the root.
+pub fn levels(p: Parameters) -> usize
+    requires { ⌜ Within p ⌝ }
+    ensures { λ r. ⌜ r ≡ spec.levels p ⌝ }
+{
+    bits(p) * p.axes
+}
+
+// The number of leaves.
+pub fn leaf_count(p: Parameters) -> usize
+    requires { ⌜ Within p ⌝ }
+    ensures { λ r. ⌜ r ≡ spec.leaves p ⌝ }
+{
+    1 << levels(p)
+}
+
+// Is the leaf the last one, whose share ends with aux?
+pub fn is_last(p: Parameters, leaf: usize) -> bool
+    requires { ⌜ Within p ⌝ }
+    ensures { λ r. ⌜ r ≡ spec.isLast p leaf ⌝ }
+{
+    leaf == leaf_count(p) - 1
+}
+
+// The length of a point at each position: r, c or v.
+pub fn points_length(p: Parameters) -> usize
+    requires { ⌜ Within p ⌝ }
+    ensures { λ r. ⌜ r ≡ spec.pointsLength p ⌝ }
+{
+    4 * p.t
+}
+
+// The length of a factor at each position: ε, a, b, α or β.
+pub fn factor_length(p: Parameters) -> usize
+    requires { ⌜ Within p ⌝ }
+    ensures { λ r. ⌜ r ≡ spec.factorLength p ⌝ }
+{
+    4 * p.t
+}
+
+// The length of α and β.
+pub fn values_length(p: Parameters) -> usize
+    requires { ⌜ Within p ⌝ }
+    ensures { λ r. ⌜ r ≡ spec.valuesLength p ⌝ }
+{
+    8 * p.t
+}
+
+// The length of what a party announces: α, β and v.
+pub fn row_length(p: Parameters) -> usize
+    requires { ⌜ Within p ⌝ }
+    ensures { λ r. ⌜ r ≡ spec.rowLength p ⌝ }
+{
+    12 * p.t
+}
+
+// The length of what the parties of an axis announce.
+pub fn axis_length(p: Parameters) -> usize
+    requires { ⌜ Within p ⌝ }
+    ensures { λ r. ⌜ r ≡ spec.axisLength p ⌝ }
+{
+    24 * p.t
+}
+
+// Where x_A starts in a share, behind a and b.
+pub fn at_x(p: Parameters) -> usize
+    requires { ⌜ Within p ⌝ }
+    ensures { λ r. ⌜ r ≡ spec.atX p ⌝ }
+{
+    8 * p.t
+}
+
+// Where Q starts in a share.
+pub fn at_q(p: Parameters) -> usize
+    requires { ⌜ Within p ⌝ }
+    ensures { λ r. ⌜ r ≡ spec.atQ p ⌝ }
+{
+    8 * p.t + p.k
+}
+
+// Where P starts in a share.
+pub fn at_p(p: Parameters) -> usize
+    requires { ⌜ Within p ⌝ }
+    ensures { λ r. ⌜ r ≡ spec.atP p ⌝ }
+{
+    8 * p.t + p.k + p.w
+}
+
+// Where c starts in a share.
+pub fn at_c(p: Parameters) -> usize
+    requires { ⌜ Within p ⌝ }
+    ensures { λ r. ⌜ r ≡ spec.atC p ⌝ }
+{
+    8 * p.t + p.k + p.w + p.w
+}
 
 // The length of aux.
 pub fn aux_length(p: Parameters) -> usize
@@ -13,6 +144,14 @@ pub fn aux_length(p: Parameters) -> usize
     ensures { λ r. ⌜ r ≡ spec.auxLength p ⌝ }
 {
     p.k + 2 * p.w + 4 * p.t
+}
+
+// The length of a share.
+pub fn share_length(p: Parameters) -> usize
+    requires { ⌜ Within p ⌝ }
+    ensures { λ r. ⌜ r ≡ spec.shareLength p ⌝ }
+{
+    8 * p.t + aux_length(p)
 }
 
 // The length of message 2: t points and t multipliers.
@@ -23,13 +162,21 @@ pub fn message2_length(p: Parameters) -> usize
     8 * p.t
 }
 
+// The length of the sibling seeds.
+pub fn siblings_length(p: Parameters) -> usize
+    requires { ⌜ Within p ⌝ }
+    ensures { λ r. ⌜ r ≡ spec.siblingsLength p ⌝ }
+{
+    16 * levels(p)
+}
+
 // The length of message 5 where the leaf is hidden: aux stands in it unless that is leaf n−1.
 pub fn message5_length(p: Parameters, leaf: usize) -> usize
     requires { ⌜ Within p ⌝ }
     ensures { λ r. ⌜ r ≡ spec.message5Length p leaf ⌝ }
 {
-    let short = 16 * p.d + 32 + 8 * p.t;
-    if leaves::is_last(p, leaf) {
+    let short = siblings_length(p) + 32 + values_length(p);
+    if is_last(p, leaf) {
         return short;
     }
     short + aux_length(p)
@@ -40,7 +187,7 @@ pub fn work_length(p: Parameters) -> usize
     requires { ⌜ Within p ⌝ }
     ensures { λ r. ⌜ r ≡ spec.workLength p ⌝ }
 {
-    2 * p.d * (p.k + 2 * p.w + 12 * p.t)
+    side(p) * p.axes * share_length(p)
 }
 
 // The length of the extractor's output: seed and rho of every leaf, then aux.
@@ -48,7 +195,7 @@ pub fn output_length(p: Parameters) -> usize
     requires { ⌜ Within p ⌝ }
     ensures { λ r. ⌜ r ≡ spec.outputLength p ⌝ }
 {
-    32 * leaves::leaf_count(p) + aux_length(p)
+    32 * leaf_count(p) + aux_length(p)
 }
 
 // Have matrix, y and work area, of these lengths, the lengths that every call asks?

@@ -11,7 +11,7 @@ use lib.ListN.{take}
 use Rattle.shake256.specs.declared.Sponge.{Sponge}
 use Rattle.shake256.specs.Stream.{absorbed}
 use Rattle.parameters.specs.declared.Parameters.{Parameters}
-use Rattle.exchange.specs.Layout.{isLast, shareLength}
+use Rattle.layout.specs.Layout.{isLast, shareLength}
 use Rattle.strings.specs.Digest.{digest}
 pub mod Laws
 

@@ -12,8 +12,7 @@ use Prim.Native.Nat.{ℕ, _≤_, _<_}
 use lib.ListN.{length}
 use Rattle.parameters.specs.declared.Parameters.{Parameters}
 use Rattle.parameters.specs.Limits.{Within}
-use Rattle.exchange.specs.Layout.{isLast, auxLength, shareLength}
-pub mod Laws
+use Rattle.layout.specs.Layout.{isLast, auxLength, shareLength}
 
 pub record LeafOf (p : Parameters) (i : ℕ) : Type 0 where
   pub within : Within p

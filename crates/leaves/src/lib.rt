@@ -1,6 +1,7 @@
 // A leaf (document 01, layers 2 to 4): its state, share and commitment.
 // Each string goes on from the start of its layer, which `strings::begin` makes once for all leaves.
 
+use layout::is_last;
 use lists::put_at;
 use parameters::Parameters;
 use shake256::Sponge;
@@ -10,8 +11,6 @@ ghost use mathlib.Core.List.{_∷_};
 ghost use Prim.Native.Nat.{_<_};
 ghost use lib.ListN.{length, take};
 ghost use Rattle.shake256.specs.Stream.{absorbed};
-ghost use Rattle.parameters.specs.Limits.{Within};
-ghost use Rattle.exchange.specs.Layout as layout;
 ghost use Rattle.leaves.specs.After.{bytesAfter, stateAfter, shareAfter, commitmentAfter};
 ghost use Rattle.leaves.specs.Shapes.{State, ShareBytes, Share, Commitment};
 
@@ -23,22 +22,6 @@ pub const SHARES: u8 = 3;
 
 // The layer byte of the strings that give a leaf's commitment.
 pub const COMMITMENTS: u8 = 4;
-
-// The number of leaves.
-pub fn leaf_count(p: Parameters) -> usize
-    requires { ⌜ Within p ⌝ }
-    ensures { λ r. ⌜ r ≡ layout.leaves p ⌝ }
-{
-    1 << p.d
-}
-
-// Is the leaf the last one, whose share ends with aux?
-pub fn is_last(p: Parameters, leaf: usize) -> bool
-    requires { ⌜ Within p ⌝ }
-    ensures { λ r. ⌜ r ≡ layout.isLast p leaf ⌝ }
-{
-    leaf == leaf_count(p) - 1
-}
 
 // The sponge that has absorbed a leaf's number and then s.
 fn absorb_leaf(start: Sponge, leaf: usize, s: &[u8]) -> Sponge

@@ -192,7 +192,7 @@ pub fn parameters_read(numbers: [usize; 5]) -> Parameters
         m: numbers[0],
         k: numbers[1],
         w: numbers[2],
-        d: numbers[3],
+        axes: numbers[3],
         t: numbers[4],
     }
 }

@@ -19,7 +19,7 @@ pub mod Laws
 pub mod Free
 
 abbrev pub p : ℕ → Parameters
-p d = record { m = 2; k = 1; w = 1; d = d; t = 1 }
+p d = record { m = 2; k = 1; w = 1; axes = d; t = 1 }
 
 abbrev pub key : Key
 key = record { matrix = 1 ∷ []; y = 5 ∷ [] }

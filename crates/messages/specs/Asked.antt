@@ -10,7 +10,7 @@ use Prim.Native.Nat.{ℕ, _*_, _-_, _<_}
 use lib.ListN.{length}
 use Rattle.parameters.specs.declared.Parameters.{Parameters}
 use Rattle.parameters.specs.Limits.{Within}
-use Rattle.exchange.specs.Layout.{leaves, auxLength, message2Length, message5Length}
+use Rattle.layout.specs.Layout.{leaves, auxLength, message2Length, message5Length}
 
 pub record FirstAsked (p : Parameters) (salt states out : List ℕ) : Type 0 where
   pub within : Within p

@@ -11,7 +11,7 @@ use lib.Seq.{take-at}
 use Rattle.shake256.specs.Fips.{SHAKE256}
 use Rattle.lists.specs.Part.{putAt}
 use Rattle.parameters.specs.declared.Parameters.{Parameters}
-use Rattle.exchange.specs.Layout.{leaves}
+use Rattle.layout.specs.Layout.{leaves}
 use Rattle.exchange.specs.Strings.{string5}
 use Rattle.exchange.specs.Messages.{ownAux, message1}
 use Rattle.leaves.specs.States.{stateAt}

@@ -7,7 +7,7 @@ use mathlib.Core.List.{List, [], _++_}
 use Prim.Native.Nat.{ℕ}
 use Rattle.shake256.specs.Fips.{SHAKE256}
 use Rattle.parameters.specs.declared.Parameters.{Parameters}
-use Rattle.exchange.specs.Layout.{isLast}
+use Rattle.layout.specs.Layout.{isLast}
 use Rattle.exchange.specs.Tree.{siblingSeeds}
 use Rattle.exchange.specs.Leaf.{share, commitment}
 use Rattle.values.specs.Leaf.{leafValues}
@@ -19,4 +19,4 @@ leafBytes p salt m2 leaf matrix state aux =
 
 unfoldable pub openingOf : Parameters → List ℕ → List ℕ → List ℕ → ℕ → List ℕ → List ℕ → List ℕ → List ℕ
 openingOf p salt root m2 leaf matrix state aux =
-    siblingSeeds SHAKE256 salt (p .d) 1 root leaf ++ (leafBytes p salt m2 leaf matrix state aux ++ cond (isLast p leaf) [] aux)
+    siblingSeeds SHAKE256 salt (p .axes) 1 root leaf ++ (leafBytes p salt m2 leaf matrix state aux ++ cond (isLast p leaf) [] aux)

@@ -2,7 +2,7 @@
 use bytefield::log_table;
 use bytefield::power_table;
 use commitments::digest_commitments;
-use leaves::leaf_count;
+use layout::leaf_count;
 use lists::put_at;
 use ownleaves::own_leaves;
 use parameters::Parameters;
@@ -11,7 +11,7 @@ ghost use mathlib.Core.List.{[], _++_};
 ghost use Prim.Native.Nat.{_*_};
 ghost use lib.ListN.{length, replicate};
 ghost use Rattle.shake256.specs.Fips.{SHAKE256};
-ghost use Rattle.exchange.specs.Layout.{leaves, auxLength, workLength};
+ghost use Rattle.layout.specs.Layout.{leaves, auxLength, workLength};
 ghost use Rattle.exchange.specs.Strings.{string5};
 ghost use Rattle.exchange.specs.Messages as spec;
 ghost use Rattle.commitments.specs.Commitments.{commitmentsOf};

@@ -1,10 +1,11 @@
 // Message 5: the siblings of the leaf, what the leaf itself gives, and aux unless it is leaf n−1.
 use bytefield::log_table;
 use bytefield::power_table;
-use encoding::share_length;
+use layout::LONGEST_SHARE;
+use layout::is_last;
+use layout::share_length;
 use leaves::COMMITMENTS;
 use leaves::SHARES;
-use leaves::is_last;
 use leaves::leaf_commitment;
 use leaves::leaf_share;
 use lists::put_at;
@@ -21,7 +22,7 @@ ghost use lib.ListN.{length, replicate, take};
 ghost use Rattle.bytefield.specs.Tables.{logs, powers};
 ghost use Rattle.shake256.specs.Fips.{SHAKE256};
 ghost use Rattle.parameters.specs.Limits.{Within};
-ghost use Rattle.exchange.specs.Layout.{leaves, isLast, auxLength, shareLength, workLength};
+ghost use Rattle.layout.specs.Layout.{leaves, isLast, auxLength, shareLength, workLength};
 ghost use Rattle.exchange.specs.Leaf.{share, commitment};
 ghost use Rattle.exchange.specs.Messages.{message5};
 ghost use Rattle.exchange.specs.Values.{keyOf};
@@ -29,9 +30,6 @@ ghost use Rattle.values.specs.Leaf.{leafValues};
 ghost use Rattle.messages.specs.Opening.{leafBytes, openingOf};
 ghost use Rattle.ownleaves.specs.Asked.{Held};
 ghost use Rattle.messages.specs.Asked.{LeafAsked, OpeningAsked, LastAsked};
-
-// The length of the longest share: 12t + k + 2w at t 8, k 254, w 255.
-const LONGEST_SHARE: usize = 860;
 
 // out becomes the leaf's commitment, from its state.
 fn put_leaf_commitment(
@@ -161,7 +159,7 @@ fn put_opening(
     requires { ⌜ OpeningAsked p (now root) (now m2) leaf (now matrix) (now state) (now aux) (now out) × (now log ≡ logs) × (now pow ≡ powers) ⌝ }
     ensures { λ _. ⌜ now (out .exit) ≡ openingOf p (now (salt .entry)) (now (root .entry)) (now (m2 .entry)) leaf (now (matrix .entry)) (now (state .entry)) (now (aux .entry)) ⌝ }
 {
-    let d = p.d;
+    let d = p.axes;
     let a = 16 * d;
     let e = a + (32 + 8 * p.t);
     sibling_seeds(salt, d, root, leaf, &mut out[..a]);

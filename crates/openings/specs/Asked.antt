@@ -16,7 +16,7 @@ use Rattle.parameters.specs.declared.Parameters.{Parameters}
 use Rattle.parameters.specs.Limits.{Within}
 use Rattle.commitments.specs.Shapes.{Commitments}
 use Rattle.axisdigests.specs.Rows.{ResponseAsked}
-use Rattle.exchange.specs.Layout.{levels, leaves, auxLength, message2Length, message5Length, workLength}
+use Rattle.layout.specs.Layout.{levels, leaves, auxLength, message2Length, message5Length, workLength}
 pub mod Laws
 
 pub record OpeningAsked (p : Parameters) (m1 m2 m3 : List ℕ) (leaf : ℕ) (m5 matrix y area states rows : List ℕ) : Type 0 where
@@ -30,7 +30,7 @@ pub record OpeningAsked (p : Parameters) (m1 m2 m3 : List ℕ) (leaf : ℕ) (m5 
   pub y-is : length y ≡ p .m - p .k
   pub area-is : length area ≡ workLength p
   pub states-are : length states ≡ 32 * leaves p
-  pub rows-are : length rows ≡ p .d * (24 * p .t)
+  pub rows-are : length rows ≡ p .axes * (24 * p .t)
 
 pub record SiblingsAsked (p : Parameters) (leaf : ℕ) (siblings states : List ℕ) : Type 0 where
   pub within : Within p
@@ -55,7 +55,7 @@ pub record AnnounceAsked (p : Parameters) (m2 values matrix y area rows : List �
   pub sized-matrix : length matrix ≡ (p .m - p .k) * p .k
   pub sized-y : length y ≡ p .m - p .k
   pub sized-area : length area ≡ workLength p
-  pub sized-rows : length rows ≡ p .d * (24 * p .t)
+  pub sized-rows : length rows ≡ p .axes * (24 * p .t)
 
 pub record AxesAsked (p : Parameters) (m2 values aux matrix y states area rows : List ℕ) : Type 0 where
   pub announce : AnnounceAsked p m2 values matrix y area rows

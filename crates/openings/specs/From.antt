@@ -15,7 +15,7 @@ use Rattle.answers.specs.declared.Answer.{Answer}
 use Rattle.answers.specs.declared.Refusal.the-variants.{Commitment, Response}
 use Rattle.answers.specs.Checks.{checks}
 use Rattle.parameters.specs.declared.Parameters.{Parameters}
-use Rattle.exchange.specs.Layout.{leaves, shareLength}
+use Rattle.layout.specs.Layout.{leaves, shareLength}
 use Rattle.exchange.specs.Sequences.{joined}
 use Rattle.exchange.specs.Strings.{string5}
 use Rattle.exchange.specs.Tree.{openedSeeds}
@@ -28,13 +28,13 @@ use Rattle.axes.specs.Announcing.{rowOf}
 use Rattle.axisdigests.specs.Rows.{rowsString}
 
 unfoldable pub statesFrom : Parameters → List ℕ → ℕ → List ℕ → List ℕ
-statesFrom p prefix leaf siblings = statesOf prefix (laid (openedSeeds SHAKE256 prefix (p .d) 1 leaf siblings)) (leaves p)
+statesFrom p prefix leaf siblings = statesOf prefix (laid (openedSeeds SHAKE256 prefix (p .axes) 1 leaf siblings)) (leaves p)
 
 unfoldable pub digestFrom : Parameters → List ℕ → ℕ → List ℕ → List ℕ → List ℕ → ℕ → List ℕ
 digestFrom p prefix leaf commitment aux states n = SHAKE256 (string5 prefix (commitmentsOf p prefix states leaf commitment aux) (leaves p)) n
 
 unfoldable pub announcedFrom : Parameters → Key → List ℕ → List ℕ → ℕ → List ℕ → List ℕ
-announcedFrom p key m2 area leaf values = joined (rowOf p key m2 (take ((p .d + 1) * shareLength p) area) leaf values) (p .d)
+announcedFrom p key m2 area leaf values = joined (rowOf p key m2 (take ((p .axes + 1) * shareLength p) area) leaf values) (p .axes)
 
 unfoldable pub rowsFrom : Parameters → Key → List ℕ → List ℕ → List ℕ → ℕ → List ℕ → List ℕ → List ℕ
 rowsFrom p key prefix m2 states leaf values aux = announcedFrom p key m2 (filled p prefix states leaf aux) leaf values

@@ -7,7 +7,7 @@ use mathlib.Core.List.{List}
 use Prim.Native.Nat.{ℕ}
 use Rattle.shake256.specs.Fips.{SHAKE256}
 use Rattle.parameters.specs.declared.Parameters.{Parameters}
-use Rattle.exchange.specs.Layout.{side}
+use Rattle.layout.specs.Layout.{side}
 use Rattle.exchange.specs.Sequences.{joined}
 use Rattle.exchange.specs.Values.{Key}
 use Rattle.exchange.specs.Parties.{announcedBytes}
@@ -23,4 +23,4 @@ unfoldable pub openedRow : Parameters → Exchange → Key → ℕ → List ℕ
 openedRow p e key j = joined (announcedBytes p (announced SHAKE256 p e key j)) (side p)
 
 unfoldable pub openedRows : Parameters → Exchange → Key → List ℕ
-openedRows p e key = joined (openedRow p e key) (p .d)
+openedRows p e key = joined (openedRow p e key) (p .axes)

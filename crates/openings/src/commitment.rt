@@ -1,7 +1,7 @@
 // Layers 1, 2, 4 and 5 of an opening: the states of the disclosed leaves, and h recomputed.
 use commitments::digest_commitments;
+use layout::leaf_count;
 use leafstates::leaf_states;
-use leaves::leaf_count;
 use lists::equal;
 use parameters::Parameters;
 use seedtree::opened_seeds;
@@ -18,7 +18,7 @@ pub fn opened_states(p: Parameters, prefix: &[u8], leaf: usize, siblings: &[u8],
 {
     let n = leaf_count(p);
     let half = 16 * n;
-    opened_seeds(prefix, p.d, leaf, siblings, &mut states[half..]);
+    opened_seeds(prefix, p.axes, leaf, siblings, &mut states[half..]);
     leaf_states(prefix, n, states);
 }
 

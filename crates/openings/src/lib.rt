@@ -9,9 +9,9 @@ use crate::response::opened_rows;
 use crate::response::response_agrees;
 use answers::Answer;
 use answers::Refusal;
+use layout::MOST_SIBLINGS;
+use layout::MOST_VALUES;
 use parameters::Parameters;
-use reader::opening::MOST_SIBLINGS;
-use reader::opening::MOST_VALUES;
 use reader::opening::read_opening;
 ghost use mathlib.Core.Path.{_≡_};
 ghost use Rattle.exchange.specs.Values.{keyOf};
@@ -136,7 +136,7 @@ pub fn check_opening(
     let mut commitment = [0u8; 32];
     let mut values = [0u8; MOST_VALUES];
     let rest = read_opening(p, m5, &mut siblings, &mut commitment, &mut values);
-    let seeds = 16 * p.d;
+    let seeds = 16 * p.axes;
     let points = 8 * p.t;
     let aux = m5.len() - rest;
     check_parts(

@@ -16,7 +16,7 @@ ghost use Prim.Native.Nat.{_*_, _≤_};
 ghost use lib.ListN.{length, replicate};
 ghost use Rattle.lists.specs.Equal.{eqList};
 ghost use Rattle.parameters.specs.Limits.{Within};
-ghost use Rattle.exchange.specs.Layout.{shareLength, workLength};
+ghost use Rattle.layout.specs.Layout.{shareLength, workLength};
 ghost use Rattle.exchange.specs.Sequences.{joined};
 ghost use Rattle.exchange.specs.Values.{keyOf};
 ghost use Rattle.parties.specs.Sums.Front.{filled};
@@ -42,7 +42,7 @@ fn sum_leaves(p: Parameters, prefix: &[u8], leaf: usize, aux: &[u8], states: &[u
 {
     party_sums(p, prefix, states, leaf, area);
     put_total(p, area);
-    xor_at(area, shares_length(p, p.d) + 8 * p.t, aux);
+    xor_at(area, shares_length(p, p.axes) + 8 * p.t, aux);
 }
 
 // Fills `rows` with what the parties of every axis announce, from the sums of their leaves.
@@ -57,7 +57,7 @@ fn announce(
     rows: &mut [u8],
 )
     requires { ⌜ RowsAsked p (now sums) (now m2) (now matrix) (now y) (now values) (now rows) ⌝ }
-    ensures { λ _. ⌜ now (rows .exit) ≡ joined (rowOf p (keyOf (now (matrix .entry)) (now (y .entry))) (now (m2 .entry)) (now (sums .entry)) leaf (now (values .entry))) (p .d) ⌝ }
+    ensures { λ _. ⌜ now (rows .exit) ≡ joined (rowOf p (keyOf (now (matrix .entry)) (now (y .entry))) (now (m2 .entry)) (now (sums .entry)) leaf (now (values .entry))) (p .axes) ⌝ }
 {
     let log = log_table();
     let pow = power_table();
@@ -78,7 +78,7 @@ fn announce_front(
     requires { ⌜ AnnounceAsked p (now m2) (now values) (now matrix) (now y) (now area) (now rows) ⌝ }
     ensures { λ _. ⌜ now (rows .exit) ≡ announcedFrom p (keyOf (now (matrix .entry)) (now (y .entry))) (now (m2 .entry)) (now (area .entry)) leaf (now (values .entry)) ⌝ }
 {
-    let front = shares_length(p, p.d + 1);
+    let front = shares_length(p, p.axes + 1);
     announce(p, &area[..front], m2, matrix, y, leaf, values, rows);
 }
 

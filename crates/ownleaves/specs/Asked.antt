@@ -11,7 +11,7 @@ use lib.ListN.{length}
 use Rattle.parameters.specs.declared.Parameters.{Parameters}
 use Rattle.parameters.specs.Limits.{Within}
 use Rattle.relation.specs.Light.{Light}
-use Rattle.exchange.specs.Layout.{leaves, auxLength, shareLength, message2Length, workLength}
+use Rattle.layout.specs.Layout.{leaves, auxLength, shareLength, message2Length, workLength}
 
 pub record Held (p : Parameters) (x salt root area : List ℕ) : Type 0 where
   pub within : Within p

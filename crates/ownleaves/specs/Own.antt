@@ -7,7 +7,7 @@ use mathlib.Core.List.{List}
 use Prim.Native.Nat.{ℕ}
 use Rattle.shake256.specs.Fips.{SHAKE256}
 use Rattle.parameters.specs.declared.Parameters.{Parameters}
-use Rattle.exchange.specs.Layout.{leaves}
+use Rattle.layout.specs.Layout.{leaves}
 use Rattle.exchange.specs.Tree.{leafSeeds}
 use Rattle.exchange.specs.Parties.{total}
 use Rattle.seedtree.specs.Laid.{laid}
@@ -16,7 +16,7 @@ use Rattle.parties.specs.Drawn.{drawnShare}
 pub mod Laws
 
 unfoldable pub ownStates : Parameters → List ℕ → List ℕ → List ℕ
-ownStates p salt root = statesOf salt (laid (leafSeeds SHAKE256 salt (p .d) 1 root)) (leaves p)
+ownStates p salt root = statesOf salt (laid (leafSeeds SHAKE256 salt (p .axes) 1 root)) (leaves p)
 
 abbrev pub sumOf : Parameters → List ℕ → List ℕ → List ℕ
 sumOf p salt states = total p (λ i. true) (drawnShare p salt states) (leaves p)

@@ -1,7 +1,7 @@
 // What the prover has of its leaves: all states, and aux.
-use encoding::share_length;
+use layout::leaf_count;
+use layout::share_length;
 use leafstates::leaf_states;
-use leaves::leaf_count;
 use lists::zero_front;
 use parameters::Parameters;
 use parties::share_sum;
@@ -11,17 +11,11 @@ ghost use Prim.Native.Nat.{_*_};
 ghost use lib.ListN.{length, replicate};
 ghost use Rattle.bytefield.specs.Tables.{logs, powers};
 ghost use Rattle.shake256.specs.Fips.{SHAKE256};
-ghost use Rattle.exchange.specs.Layout as spec;
+ghost use Rattle.layout.specs.Layout as spec;
 ghost use Rattle.exchange.specs.Messages.{ownAux};
 ghost use Rattle.auxiliary.specs.Auxiliary.{auxFor};
 ghost use Rattle.ownleaves.specs.Own.{ownStates, sumOf};
 ghost use Rattle.ownleaves.specs.Asked.{Held, StatesAsked, SumAsked};
-
-// The states of 256 leaves.
-pub const MOST_STATES: usize = 8192;
-
-// The longest aux: k + 2w + 4t at k 254, w 255, t 8.
-pub const LONGEST_AUX: usize = 796;
 
 // Fills `states` with the states of all leaves, from the root's seed.
 pub fn own_states(p: Parameters, salt: &[u8], root: &[u8], states: &mut [u8])
@@ -30,7 +24,7 @@ pub fn own_states(p: Parameters, salt: &[u8], root: &[u8], states: &mut [u8])
 {
     let n = leaf_count(p);
     let half = 16 * n;
-    leaf_seeds(salt, p.d, root, &mut states[half..]);
+    leaf_seeds(salt, p.axes, root, &mut states[half..]);
     leaf_states(salt, n, states);
 }
 

@@ -13,7 +13,7 @@ pub mod Laws
 
 unfoldable pub limits : Parameters → List Bool
 limits p =
-    leb 2 (p .m) ∷ leb (p .m) 255 ∷ leb 1 (p .k) ∷ ltb (p .k) (p .m) ∷ leb 1 (p .w) ∷ leb (p .w) (p .m) ∷ leb 1 (p .d) ∷ leb (p .d) 8
+    leb 2 (p .m) ∷ leb (p .m) 255 ∷ leb 1 (p .k) ∷ ltb (p .k) (p .m) ∷ leb 1 (p .w) ∷ leb (p .w) (p .m) ∷ leb 1 (p .axes) ∷ leb (p .axes) 8
     ∷ leb 1 (p .t) ∷ leb (p .t) 8 ∷ []
 
 unfoldable pub withinLimits : Parameters → Bool
@@ -26,7 +26,7 @@ pub record Within (p : Parameters) : Type 0 where
   pub k-most : p .k < p .m
   pub w-least : 1 ≤ p .w
   pub w-most : p .w ≤ p .m
-  pub d-least : 1 ≤ p .d
-  pub d-most : p .d ≤ 8
+  pub axes-least : 1 ≤ p .axes
+  pub axes-most : p .axes ≤ 8
   pub t-least : 1 ≤ p .t
   pub t-most : p .t ≤ 8

@@ -7,7 +7,7 @@ pub struct Parameters {
     pub m: usize,
     pub k: usize,
     pub w: usize,
-    pub d: usize,
+    pub axes: usize,
     pub t: usize,
 }
 
@@ -33,10 +33,10 @@ pub fn within_limits(p: Parameters) -> bool
     if p.w > p.m {
         return false;
     }
-    if p.d < 1 {
+    if p.axes < 1 {
         return false;
     }
-    if p.d > 8 {
+    if p.axes > 8 {
         return false;
     }
     if p.t < 1 {

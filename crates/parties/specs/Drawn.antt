@@ -7,7 +7,7 @@ use mathlib.Core.List.{List, []}
 use Prim.Native.Nat.{ℕ, _*_}
 use Rattle.shake256.specs.Fips.{SHAKE256}
 use Rattle.parameters.specs.declared.Parameters.{Parameters}
-use Rattle.exchange.specs.Layout.{isLast, shareLength}
+use Rattle.layout.specs.Layout.{isLast, shareLength}
 use Rattle.exchange.specs.Leaf.{share}
 use Rattle.leaves.specs.States.{stateAt}
 pub mod Laws

@@ -15,11 +15,11 @@ use Prim.Native.Nat.{ℕ, _*_, _≤_, _<_}
 use lib.ListN.{length}
 use Rattle.parameters.specs.declared.Parameters.{Parameters}
 use Rattle.parameters.specs.Limits.{Within}
-use Rattle.exchange.specs.Layout.{side, leaves, shareLength, workLength}
+use Rattle.layout.specs.Layout.{side, leaves, shareLength, workLength}
 
 pub record Place (p : Parameters) (j c : ℕ) : Type 0 where
   pub within : Within p
-  pub axis : j < p .d
+  pub axis : j < p .axes
   pub party : c < side p
 
 pub record Area (p : Parameters) (w : List ℕ) : Type 0 where
@@ -32,7 +32,7 @@ pub record AddLeaf (p : Parameters) (s w : List ℕ) : Type 0 where
 
 pub record AddToParty (p : Parameters) (j : ℕ) (s w : List ℕ) : Type 0 where
   pub leaf : AddLeaf p s w
-  pub axis : j < p .d
+  pub axis : j < p .axes
 
 pub record DrawShare (p : Parameters) (i : ℕ) (st d : List ℕ) : Type 0 where
   pub within : Within p

@@ -15,7 +15,7 @@ use lib.Dec.{eqb}
 use Rattle.lists.specs.Part.{part}
 use Rattle.lists.specs.Sum.{xorList, xorAt}
 use Rattle.parameters.specs.declared.Parameters.{Parameters}
-use Rattle.exchange.specs.Layout.{side, leaves, shareLength}
+use Rattle.layout.specs.Layout.{side, leaves, shareLength}
 use Rattle.exchange.specs.Sequences.{joined}
 use Rattle.exchange.specs.Parties.{total, partyOf}
 pub mod Laws
@@ -24,13 +24,13 @@ pub mod Leaves
 pub mod Front
 
 unfoldable pub place : Parameters → ℕ → ℕ → ℕ
-place p j c = (c * p .d + j) * shareLength p
+place p j c = (c * p .axes + j) * shareLength p
 
 unfoldable pub partyAt : Parameters → List ℕ → ℕ → ℕ → List ℕ
 partyAt p d j c = part d (place p j c) (shareLength p)
 
 unfoldable pub allParties : Parameters → (ℕ → ℕ → List ℕ) → List ℕ
-allParties p f = joined (λ q. f (q % p .d) (q / p .d)) (side p * p .d)
+allParties p f = joined (λ q. f (q % p .axes) (q / p .axes)) (side p * p .axes)
 
 unfoldable pub addedLeaf : Parameters → ℕ → List ℕ → List ℕ → List ℕ
 addedLeaf p i s d = allParties p (λ j c. cond (partyOf p j c i) (xorList (partyAt p d j c) s) (partyAt p d j c))
@@ -39,7 +39,7 @@ unfoldable pub partySums : Parameters → (ℕ → List ℕ) → ℕ → List �
 partySums p s hidden = allParties p (λ j c. total p (λ i. partyOf p j c i && not (eqb i hidden)) s (leaves p))
 
 abbrev pub withTotal : Parameters → List ℕ → List ℕ
-withTotal p d = xorAt d (p .d * shareLength p) (part d 0 (shareLength p))
+withTotal p d = xorAt d (p .axes * shareLength p) (part d 0 (shareLength p))
 
 abbrev pub withAux : Parameters → List ℕ → List ℕ → List ℕ
-withAux p d aux = xorAt d (p .d * shareLength p + 8 * p .t) aux
+withAux p d aux = xorAt d (p .axes * shareLength p + 8 * p .t) aux

@@ -23,8 +23,8 @@ use lib.Pow.{ones-split, ones-lt}
 use Rattle.lists.specs.Sum.{xorList, xorAt}
 use Rattle.lists.specs.Sum.Laws.{length-xorList, xorList-comm, xorList-assoc, xorList-append, xorList-self, xorList-zeros}
 use Rattle.parameters.specs.declared.Parameters.{Parameters}
-use Rattle.exchange.specs.Layout.{bits, leaves, digit, auxLength, shareLength}
-use Rattle.exchange.specs.Layout.Laws.{leaves-pos, leaves-is, digit-bit, digit-lt}
+use Rattle.layout.specs.Layout.{bits, leaves, digit, auxLength, shareLength}
+use Rattle.layout.specs.Layout.Laws.{leaves-pos, leaves-is, digit-bit, digit-lt}
 use Rattle.exchange.specs.Strings.{string3}
 use Rattle.exchange.specs.Leaf.{share}
 use Rattle.exchange.specs.Leaf.Laws.{share-last, share-other, length-share-le}
@@ -108,9 +108,9 @@ all-ones j d h =
     whole = omega arith
 
 module _ (p : Parameters) where
-  pub last-digit : (j : ℕ) → j < p .d → digit p j (leaves p - 1) ≡ 1
+  pub last-digit : (j : ℕ) → j < p .axes → digit p j (leaves p - 1) ≡ 1
   last-digit j h =
-      digit-bit p j (leaves p - 1) ∙ ap (λ (n : ℕ). (n - 1) / 2 ^ j % 2) (leaves-is p) ∙ all-ones j (p .d) h
+      digit-bit p j (leaves p - 1) ∙ ap (λ (n : ℕ). (n - 1) / 2 ^ j % 2) (leaves-is p) ∙ all-ones j (p .axes) h
 
 -- ---- aux
 
@@ -126,7 +126,7 @@ module _ (hash : List ℕ → ℕ → List ℕ) (p : Parameters) (prefix : List 
   unfolding shares
   same-share aux aux′ i other = share-other hash p prefix i (st i) aux other ∙ sym (share-other hash p prefix i (st i) aux′ other)
 
-  pub first-without-aux : (aux aux′ : List ℕ) (hidden j : ℕ) → j < p .d
+  pub first-without-aux : (aux aux′ : List ℕ) (hidden j : ℕ) → j < p .axes
       → total p (disclosedOf p hidden j 0) (λ i. share hash p prefix i (st i) aux) (leaves p)
       ≡ total p (disclosedOf p hidden j 0) (λ i. share hash p prefix i (st i) aux′) (leaves p)
   unfolding partyOf shares

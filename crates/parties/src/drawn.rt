@@ -1,6 +1,6 @@
 // A leaf's share as hashed (layer 3), with no aux.
-use encoding::share_length;
-use leaves::is_last;
+use layout::is_last;
+use layout::share_length;
 use leaves::share_bytes;
 use parameters::Parameters;
 use shake256::Sponge;

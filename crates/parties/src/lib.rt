@@ -3,9 +3,10 @@
 mod drawn;
 
 use crate::drawn::draw_share;
-use encoding::share_length;
+use layout::LONGEST_SHARE;
+use layout::leaf_count;
+use layout::share_length;
 use leaves::SHARES;
-use leaves::leaf_count;
 use lists::put_at;
 use lists::xor_at;
 use lists::xor_into;
@@ -19,15 +20,12 @@ ghost use mathlib.Core.List.{List};
 ghost use Prim.Native.Nat.{ℕ, _<_};
 ghost use lib.Dec.{eqb};
 ghost use Rattle.lists.specs.Sum.{xorList, xorAt};
-ghost use Rattle.exchange.specs.Layout.{leaves, digit};
+ghost use Rattle.layout.specs.Layout.{leaves, digit};
 ghost use Rattle.exchange.specs.Parties.{total};
 ghost use Rattle.strings.specs.Digest.{begun};
 ghost use Rattle.parties.specs.Sums as spec;
 ghost use Rattle.parties.specs.Drawn.{drawnShare};
 ghost use Rattle.parties.specs.Shapes.{Place, Area, AddLeaf, AddToParty, AddDrawn, AddDisclosed, ShareSum, PartySums};
-
-// The length of the longest share: 12t + k + 2w at t 8, k 254, w 255.
-const LONGEST_SHARE: usize = 860;
 
 // The party of a leaf on an axis.
 pub fn coordinate(p: Parameters, axis: usize, leaf: usize) -> usize
@@ -42,7 +40,7 @@ fn place(p: Parameters, axis: usize, party: usize) -> usize
     requires { ⌜ Place p axis party ⌝ }
     ensures { λ r. ⌜ r ≡ spec.place p axis party ⌝ }
 {
-    (party * p.d + axis) * share_length(p)
+    (party * p.axes + axis) * share_length(p)
 }
 
 // The share is added into the part of the leaf's party on one axis.
@@ -61,7 +59,7 @@ pub fn add_leaf(p: Parameters, leaf: usize, share: &[u8], parts: &mut [u8])
     ensures { λ _. ⌜ now (parts .exit) ≡ spec.addedLeaf p leaf (now (share .entry)) (now (parts .entry)) ⌝ }
 {
     let mut axis = 0;
-    while axis < p.d {
+    while axis < p.axes {
         add_to_party(p, axis, leaf, share, parts);
         axis += 1;
     }
@@ -147,5 +145,5 @@ pub fn put_total(p: Parameters, parts: &mut [u8])
     let size = share_length(p);
     let mut first = [0u8; LONGEST_SHARE];
     put_at(&mut first, 0, &parts[..size]);
-    xor_at(parts, p.d * size, &first[..size]);
+    xor_at(parts, p.axes * size, &first[..size]);
 }

@@ -19,7 +19,7 @@ use Rattle.lists.specs.Part.{putAt}
 use Rattle.lists.specs.Sum.{xorList}
 use Rattle.tower.specs.Field.{Point}
 use Rattle.parameters.specs.declared.Parameters.{Parameters}
-use Rattle.exchange.specs.Layout.{side, leaves, digit}
+use Rattle.layout.specs.Layout.{side, leaves, digit}
 use Rattle.exchange.specs.Reading.{pointAt, encode}
 use Rattle.values.specs.Announced.{vOf}
 pub mod Laws

@@ -1,5 +1,5 @@
 // The party that holds the hidden leaf, and its row. A number of a leaf that is not below n hides none.
-use leaves::leaf_count;
+use layout::leaf_count;
 use parameters::Parameters;
 use parties::coordinate;
 ghost use mathlib.Core.Path.{_≡_};
@@ -10,7 +10,7 @@ ghost use Rattle.partyrows.specs.Row.{hiddenParty, withHidden, hideIn, f
 
 // The party that holds the hidden leaf on an axis, or 2 where none is hidden.
 pub fn hidden_party(p: Parameters, axis: usize, leaf: usize) -> usize
-    requires { ⌜ Within p × (axis < p .d) ⌝ }
+    requires { ⌜ Within p × (axis < p .axes) ⌝ }
     ensures { λ r. ⌜ r ≡ hiddenParty p leaf axis ⌝ }
 {
     if leaf < leaf_count(p) {

@@ -6,7 +6,7 @@ ghost use lib.ListN.{length};
 ghost use Rattle.bytefield.specs.Tables.{logs, powers};
 ghost use Rattle.tower.specs.Field.{bytesOf};
 ghost use Rattle.parameters.specs.Limits.{Within};
-ghost use Rattle.exchange.specs.Layout.{shareLength};
+ghost use Rattle.layout.specs.Layout.{shareLength};
 ghost use Rattle.partyrows.specs.Row.{frontBy, vAt, vBy, rowBy};
 ghost use Rattle.partyrows.specs.Asked.{RowAsked};
 

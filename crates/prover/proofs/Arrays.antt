@@ -8,7 +8,7 @@ use denote.Shadow.{shadow}
 use denote.Struct.Declared.{shape}
 use denote.Struct.Laws.{val}
 use denote.Struct.Struct.{within}
-use Rattle.exchange.specs.Layout.{workLength}
+use Rattle.layout.specs.Layout.{workLength}
 use Rattle.rounds.specs.Rounds.{Arrays}
 use Rattle.prover.specs.declared.Prover.{Prover}
 use Rattle.prover.specs.Facts.{Ready}

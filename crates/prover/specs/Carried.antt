@@ -17,7 +17,7 @@ use Rattle.answers.specs.declared.Answer.the-variants.{Done}
 use Rattle.parameters.specs.declared.Parameters.{Parameters}
 use Rattle.relation.specs.Key.{vectorOf}
 use Rattle.relation.specs.Key.Vector.{length-vector}
-use Rattle.exchange.specs.Layout.{workLength}
+use Rattle.layout.specs.Layout.{workLength}
 use Rattle.exchange.specs.Messages.{message1, message3, message5}
 use Rattle.exchange.specs.Values.{Key}
 use Rattle.prover_phase.specs.declared.Phase.the-variants.{Begun}

@@ -26,7 +26,7 @@ use Rattle.parameters.specs.declared.Parameters.{Parameters}
 use Rattle.parameters.specs.Limits.{withinLimits}
 use Rattle.parameters.specs.Limits.Laws.{test-within}
 use Rattle.relation.specs.Key.{weightOf, vectorOf}
-use Rattle.exchange.specs.Layout.{leaves, message2Length, message5Length}
+use Rattle.layout.specs.Layout.{leaves, message2Length, message5Length}
 use Rattle.exchange.specs.Values.{Key}
 use Rattle.layout.specs.Lent.{lent, Lent}
 use Rattle.layout.specs.Lent.Laws.{test-lent}

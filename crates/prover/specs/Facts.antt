@@ -18,7 +18,7 @@ use Rattle.answers.specs.Number.{answerNumber}
 use Rattle.parameters.specs.declared.Parameters.{Parameters}
 use Rattle.parameters.specs.Limits.{Within}
 use Rattle.relation.specs.Key.{vectorOf, weightOf}
-use Rattle.exchange.specs.Layout.{leaves, message2Length, message5Length, workLength}
+use Rattle.layout.specs.Layout.{leaves, message2Length, message5Length, workLength}
 use Rattle.layout.specs.Lent.{Lent}
 use Rattle.arguments.specs.Arguments.{Sized}
 use Rattle.calls.specs.Prover.{Prover, Outcome, heldX}

@@ -10,7 +10,7 @@ use lib.ListN.{replicate, take}
 use Rattle.lists.specs.Zeroed.{zeroed}
 use Rattle.shake256.specs.Fips.{SHAKE256}
 use Rattle.parameters.specs.declared.Parameters.{Parameters}
-use Rattle.exchange.specs.Layout.{workLength}
+use Rattle.layout.specs.Layout.{workLength}
 use Rattle.exchange.specs.Messages.{message1}
 use Rattle.prover_phase.specs.declared.Phase.{Phase}
 use Rattle.prover_phase.specs.declared.Phase.the-variants.{Begun, Answered, Closed}

@@ -38,7 +38,7 @@ pub fn fresh() -> Prover
         m: 0,
         k: 0,
         w: 0,
-        d: 0,
+        axes: 0,
         t: 0,
     };
     Prover {

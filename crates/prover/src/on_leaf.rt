@@ -45,7 +45,7 @@ pub fn leaf_checks(
     if !leaf_lengths(p, leaf, matrix.len(), y.len(), work.len(), out.len()) {
         return Answer::Refused(Refusal::Length);
     }
-    if leaf >= leaves::leaf_count(p) {
+    if leaf >= layout::leaf_count(p) {
         return Answer::Refused(Refusal::Leaf);
     }
     Answer::Done

@@ -33,7 +33,7 @@ fn set_of(m: usize) -> Parameters {
         m,
         k: 126,
         w: 79,
-        d: 8,
+        axes: 8,
         t: 3,
     }
 }

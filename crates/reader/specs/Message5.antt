@@ -11,7 +11,7 @@ use Prim.Native.Nat.{ℕ, _+_, _*_}
 use lib.ListN.{take, drop}
 use Rattle.lists.specs.Part.{part}
 use Rattle.parameters.specs.declared.Parameters.{Parameters}
-use Rattle.exchange.specs.Layout.{levels}
+use Rattle.layout.specs.Layout.{levels}
 pub mod Laws
 
 abbrev pub commitmentPlace : Parameters → ℕ

@@ -9,12 +9,6 @@ ghost use Rattle.lists.specs.Part.{putAt};
 ghost use Rattle.reader.specs.Message5.{siblingsIn, commitmentIn, valuesIn, auxIn};
 ghost use Rattle.reader.specs.Opening.{Asked, Parts};
 
-// The sibling seeds at D 8.
-pub const MOST_SIBLINGS: usize = 128;
-
-// α and β at t 8.
-pub const MOST_VALUES: usize = 64;
-
 // Takes the parts of a message one after another, each as far as it reaches; the answer is how much is left behind them.
 fn read_parts(
     message: &[u8],
@@ -46,7 +40,7 @@ pub fn read_opening(
     ensures { λ _. ⌜ now (commitment .exit) ≡ commitmentIn p (now (message5 .entry)) ⌝ }
     ensures { λ _. ⌜ now (values .exit) ≡ putAt (now (values .entry)) 0 (valuesIn p (now (message5 .entry))) ⌝ }
 {
-    let seeds = 16 * p.d;
+    let seeds = 16 * p.axes;
     let points = 8 * p.t;
     read_parts(
         message5,

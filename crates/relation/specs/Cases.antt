@@ -43,7 +43,7 @@ P-by-hand = refl
 
 -- the set and the key of the key listing: x = 05 00
 abbrev sample : Parameters
-sample = record { m = 2; k = 1; w = 1; d = 1; t = 1 }
+sample = record { m = 2; k = 1; w = 1; axes = 1; t = 1 }
 
 pub weight-w : answerNumber (keyAnswer sample (0x01 ∷ []) (0x05 ∷ []) (0x05 ∷ [])) ≡ 0
 unfolding keyAnswer keyChecks keyLengths withinLimits limits vectorOf weightOf rows dot xorList _⊗_ timesBits xtime reduction _⊕_

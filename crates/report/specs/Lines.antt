@@ -41,7 +41,7 @@ digestField s = tab ∷ hexText (SHAKE256 s 32)
 
 unfoldable pub setLine : Parameters → List ℕ
 setLine p =
-    setWord ++ (numberField (p .m) ++ (numberField (p .k) ++ (numberField (p .w) ++ (numberField (p .d) ++ (numberField (p .t) ++ (lineFeed ∷ []))))))
+    setWord ++ (numberField (p .m) ++ (numberField (p .k) ++ (numberField (p .w) ++ (numberField (p .axes) ++ (numberField (p .t) ++ (lineFeed ∷ []))))))
 
 unfoldable pub messageLine : List ℕ → List ℕ → List ℕ
 messageLine name s = name ++ (numberField (length s) ++ (digestField s ++ (lineFeed ∷ [])))

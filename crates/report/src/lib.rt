@@ -52,7 +52,7 @@ pub fn set_line(out: &mut [u8; 96], p: Parameters) -> usize
     let b = number_field(out, a, p.m);
     let c = number_field(out, b, p.k);
     let d = number_field(out, c, p.w);
-    let e = number_field(out, d, p.d);
+    let e = number_field(out, d, p.axes);
     let f = number_field(out, e, p.t);
     put(out, f, b"\n")
 }

@@ -9,7 +9,7 @@ use lib.ListN.{length}
 use Prim.Native.Nat.{ℕ}
 use Rattle.shake256.specs.Fips.{SHAKE256}
 use Rattle.parameters.specs.declared.Parameters.{Parameters}
-use Rattle.exchange.specs.Layout.{leaves, auxLength}
+use Rattle.layout.specs.Layout.{leaves, auxLength}
 use Rattle.exchange.specs.Sequences.{joined}
 use Rattle.exchange.specs.Values.{Key}
 use Rattle.exchange.specs.Messages.{ownAux}
@@ -24,4 +24,4 @@ pub record Filled (p : Parameters) (x salt root area : List ℕ) : Type 0 where
   pub sized : length (ownAux SHAKE256 p x salt root) ≡ auxLength p
 
 unfoldable pub responseOf : Parameters → List ℕ → Key → List ℕ → List ℕ → List ℕ → List ℕ
-responseOf p salt key m2 parts hidden = SHAKE256 (rowsString SHAKE256 p salt (joined (rowOf p key m2 parts (leaves p) hidden) (p .d))) 32
+responseOf p salt key m2 parts hidden = SHAKE256 (rowsString SHAKE256 p salt (joined (rowOf p key m2 parts (leaves p) hidden) (p .axes))) 32

@@ -1,10 +1,10 @@
 // The work area filled: the sums of all parties' leaves, and in the second party's part on axis 0 the sum of all leaves.
-use encoding::share_length;
+use layout::LONGEST_AUX;
+use layout::MOST_STATES;
 use layout::aux_length;
-use leaves::leaf_count;
+use layout::leaf_count;
+use layout::share_length;
 use lists::xor_at;
-use ownleaves::LONGEST_AUX;
-use ownleaves::MOST_STATES;
 use ownleaves::own_states;
 use parameters::Parameters;
 use parties::party_sums;
@@ -14,7 +14,7 @@ ghost use Prim.Native.Nat.{_*_};
 ghost use lib.ListN.{length};
 ghost use Rattle.bytefield.specs.Tables.{logs, powers};
 ghost use Rattle.lists.specs.Part.{part};
-ghost use Rattle.exchange.specs.Layout.{leaves, auxLength, shareLength};
+ghost use Rattle.layout.specs.Layout.{leaves, auxLength, shareLength};
 ghost use Rattle.auxiliary.specs.Auxiliary.{auxFor};
 ghost use Rattle.parties.specs.Sums.{withAux};
 ghost use Rattle.ownleaves.specs.Asked.{Held};
@@ -31,11 +31,11 @@ fn add_aux(
     pow: &[u8; 256],
 )
     requires { ⌜ AddAsked p (now x) (now area) (now aux) × (now log ≡ logs) × (now pow ≡ powers) ⌝ }
-    ensures { λ _. ⌜ (now (aux .exit) ≡ auxFor p (now (x .entry)) (part (now (area .entry)) (p .d * shareLength p) (shareLength p)))
+    ensures { λ _. ⌜ (now (aux .exit) ≡ auxFor p (now (x .entry)) (part (now (area .entry)) (p .axes * shareLength p) (shareLength p)))
         × (now (area .exit) ≡ withAux p (now (area .entry)) (now (aux .exit))) ⌝ }
 {
     let size = share_length(p);
-    let at = p.d * size;
+    let at = p.axes * size;
     auxiliary::aux(p, x, &area[at..at + size], aux, log, pow);
     xor_at(area, at + 8 * p.t, aux);
 }

@@ -6,8 +6,9 @@ use axes::axis_rows;
 use axisdigests::response_digest;
 use bytefield::log_table;
 use bytefield::power_table;
-use encoding::share_length;
-use leaves::leaf_count;
+use layout::MOST_ROWS;
+use layout::leaf_count;
+use layout::share_length;
 use lists::zero_front;
 use parameters::Parameters;
 ghost use mathlib.Core.Path.{_≡_};
@@ -15,15 +16,12 @@ ghost use Prim.Native.Nat.{_*_};
 ghost use lib.ListN.{length, replicate};
 ghost use Rattle.bytefield.specs.Tables.{logs, powers};
 ghost use Rattle.shake256.specs.Fips.{SHAKE256};
-ghost use Rattle.exchange.specs.Layout.{workLength};
+ghost use Rattle.layout.specs.Layout.{workLength};
 ghost use Rattle.exchange.specs.Messages as spec;
 ghost use Rattle.exchange.specs.Values.{keyOf};
 ghost use Rattle.ownleaves.specs.Asked.{Held, Keyed};
 ghost use Rattle.response.specs.Response.{responseOf};
 ghost use Rattle.response.specs.Asked.{RespondAsked};
-
-// The rows of all axes: 24t bytes each, at D 8, t 8.
-const MOST_ROWS: usize = 1536;
 
 // out becomes h', by way of the rows of all axes, from the first parties' sums and the total. No leaf is hidden, so what
 // `hidden` holds does not enter.
@@ -63,7 +61,7 @@ fn put_message3(
     out: &mut [u8],
 )
     requires { ⌜ Held p (now x) (now salt) (now root) (now area) × Keyed p (now m2) (now matrix) (now y)
-        × (length (now hidden) ≡ 8 * p .t) × (length (now rows) ≡ p .d * (24 * p .t)) × (length (now out) ≡ 32) ⌝ }
+        × (length (now hidden) ≡ 8 * p .t) × (length (now rows) ≡ p .axes * (24 * p .t)) × (length (now out) ≡ 32) ⌝ }
     ensures { λ _. ⌜ (now (out .exit) ≡ spec.message3 SHAKE256 p (now (x .entry)) (now (salt .entry)) (now (root .entry))
         (keyOf (now (matrix .entry)) (now (y .entry))) (now (m2 .entry)))
         × (now (area .exit) ≡ replicate (workLength p) 0) ⌝ }
@@ -71,7 +69,7 @@ fn put_message3(
     let log = log_table();
     let pow = power_table();
     fill(p, x, salt, root, area, &log, &pow);
-    let end = (p.d + 1) * share_length(p);
+    let end = (p.axes + 1) * share_length(p);
     respond(
         p,
         salt,
@@ -109,7 +107,7 @@ pub fn message3(
     let hidden = [0u8; 64];
     let mut rows = [0u8; MOST_ROWS];
     let values = 8 * p.t;
-    let size = p.d * (24 * p.t);
+    let size = p.axes * (24 * p.t);
     put_message3(
         p,
         x,

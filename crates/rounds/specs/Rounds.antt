@@ -9,7 +9,7 @@ use lib.ListN.{length, take}
 use Rattle.parameters.specs.declared.Parameters.{Parameters}
 use Rattle.parameters.specs.Limits.{Within}
 use Rattle.relation.specs.Key.{weightOf}
-use Rattle.exchange.specs.Layout.{leaves, message5Length, workLength}
+use Rattle.layout.specs.Layout.{leaves, message5Length, workLength}
 pub mod Laws
 
 pub record Arrays (p : Parameters) (x salt root work : List ℕ) : Type 0 where

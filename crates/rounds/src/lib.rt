@@ -4,7 +4,7 @@ ghost use mathlib.Core.Path.{_≡_};
 ghost use lib.ListN.{length, take};
 ghost use Rattle.lists.specs.Zeroed.{zeroed};
 ghost use Rattle.shake256.specs.Fips.{SHAKE256};
-ghost use Rattle.exchange.specs.Layout.{message2Length, workLength};
+ghost use Rattle.layout.specs.Layout.{message2Length, workLength};
 ghost use Rattle.exchange.specs.Messages as spec;
 ghost use Rattle.exchange.specs.Values.{keyOf};
 ghost use Rattle.ownleaves.specs.Asked.{Keyed};

@@ -14,7 +14,7 @@ use Rattle.lists.specs.Part.Laws.{tail-part, tail-back}
 use Rattle.lists.specs.Sum.{xorList}
 use Rattle.parameters.specs.declared.Parameters.{Parameters}
 use Rattle.relation.specs.Key.{rows}
-use Rattle.exchange.specs.Layout.{atX}
+use Rattle.layout.specs.Layout.{atX}
 use Rattle.encoding.specs.Written.{halves-room, halves-made}
 use Rattle.exchange.specs.Reading.{bytesAt}
 use Rattle.exchange.specs.Reading.Laws.{bytesAt-all}

@@ -9,7 +9,7 @@ use Prim.Native.Nat.{ℕ, _*_, _≤_, _<_}
 use lib.ListN.{length, replicate}
 use Rattle.lists.specs.Part.{part}
 use Rattle.parameters.specs.declared.Parameters.{Parameters}
-use Rattle.exchange.specs.Layout.{shareLength}
+use Rattle.layout.specs.Layout.{shareLength}
 use Rattle.exchange.specs.Reading.{bytesAt}
 use Rattle.packed.specs.Share.{share}
 pub mod Laws

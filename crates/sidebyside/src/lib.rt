@@ -1,5 +1,5 @@
 // x of up to eight shares at once: byte i of a word is the entry of share i (crate packed).
-use encoding::share_length;
+use layout::share_length;
 use parameters::Parameters;
 ghost use mathlib.Core.Path.{_≡_};
 ghost use mathlib.Core.Bool.{cond};

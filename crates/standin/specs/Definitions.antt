@@ -20,7 +20,7 @@ use Rattle.parameters.specs.Limits.{limits, withinLimits}
 use Rattle.polynomial.specs.Division.{remainder, over}
 use Rattle.polynomial.specs.Interpolant.{ascending, interpolantOf, vanishingOf}
 use Rattle.relation.specs.Key.{dot, rows, vectorOf, weightOf, filled, positions, locatorOf, quotientOf}
-use Rattle.exchange.specs.Layout.{bits, digit, coordinate, isLast, message5Length, workLength, outputLength}
+use Rattle.layout.specs.Layout.{bits, digit, coordinate, isLast, message5Length, workLength, outputLength}
 use Rattle.exchange.specs.Sequences.{joined, listed, those, least}
 use Rattle.exchange.specs.Strings.{string, nodeBytes, string1, string2, string3, string4, string5, string6, string7}
 use Rattle.exchange.specs.Reading.{bytesAt, points, pointAt, encode, value}

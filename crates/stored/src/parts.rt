@@ -31,7 +31,7 @@ pub fn read_parameters(b: &[u8]) -> Parameters
         m: wide(b[1]),
         k: wide(b[2]),
         w: wide(b[3]),
-        d: wide(b[4]),
+        axes: wide(b[4]),
         t: wide(b[5]),
     }
 }
@@ -41,7 +41,14 @@ pub fn head(phase: u8, p: Parameters) -> [u8; 6]
     requires { ⌜ Small p ⌝ }
     ensures { λ r. ⌜ r ≡ phase ∷ parameterBytes p ⌝ }
 {
-    [phase, p.m as u8, p.k as u8, p.w as u8, p.d as u8, p.t as u8]
+    [
+        phase,
+        p.m as u8,
+        p.k as u8,
+        p.w as u8,
+        p.axes as u8,
+        p.t as u8,
+    ]
 }
 
 // The five parts are written to out, one behind the other; they fill it.

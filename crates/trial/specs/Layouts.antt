@@ -12,14 +12,14 @@ use mathlib.Core.Path.{_≡_, refl}
 use mathlib.Core.List.{List, [], _∷_, map}
 use Prim.Native.Nat.{ℕ}
 use Rattle.parameters.specs.declared.Parameters.{Parameters}
-use Rattle.exchange.specs.Layout.{levels, coordinate, message2Length, message5Length, workLength, outputLength}
+use Rattle.layout.specs.Layout.{levels, coordinate, message2Length, message5Length, workLength, outputLength}
 use Rattle.exchange.specs.Tree.{siblings}
 use Rattle.exchange.specs.Opening.{Exchange}
 use Rattle.exchange.specs.Extractor.{compared, axis}
 use Rattle.standin.specs.Definitions.{definitions}
 
 abbrev shipped : Parameters
-shipped = record { m = 230; k = 126; w = 79; d = 8; t = 3 }
+shipped = record { m = 230; k = 126; w = 79; axes = 8; t = 3 }
 
 lengths-are :
     message2Length shipped ∷ message5Length shipped 0 ∷ message5Length shipped 255 ∷ message5Length shipped 256 ∷ workLength shipped ∷ outputLength shipped ∷ []
@@ -28,7 +28,7 @@ unfolding definitions
 lengths-are = refl
 
 abbrev cube : Parameters
-cube = record { m = 2; k = 1; w = 1; d = 3; t = 1 }
+cube = record { m = 2; k = 1; w = 1; axes = 3; t = 1 }
 
 abbrev leafNumbers : List ℕ
 leafNumbers = 0 ∷ 1 ∷ 2 ∷ 3 ∷ 4 ∷ 5 ∷ 6 ∷ 7 ∷ []

@@ -20,7 +20,7 @@ use Rattle.exchange.specs.Opening.{Exchange, exchange, verdict}
 use Rattle.standin.specs.Definitions.{definitions}
 
 abbrev p : Parameters
-p = record { m = 3; k = 1; w = 2; d = 1; t = 1 }
+p = record { m = 3; k = 1; w = 2; axes = 1; t = 1 }
 
 abbrev key : Key
 key = record { matrix = hex 2 0xb980; y = hex 2 0x5336 }

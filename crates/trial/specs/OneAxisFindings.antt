@@ -13,7 +13,7 @@ use Rattle.exchange.specs.Extractor.{extract}
 use Rattle.standin.specs.Definitions.{definitions, findingLists}
 
 abbrev p : Parameters
-p = record { m = 2; k = 1; w = 1; d = 1; t = 1 }
+p = record { m = 2; k = 1; w = 1; axes = 1; t = 1 }
 
 abbrev key : Key
 key = record { matrix = hex 1 0x5f; y = hex 1 0xad }

@@ -20,7 +20,7 @@ use Rattle.exchange.specs.Opening.{Exchange, exchange, verdict}
 use Rattle.standin.specs.Definitions.{definitions}
 
 abbrev p : Parameters
-p = record { m = 3; k = 2; w = 1; d = 1; t = 2 }
+p = record { m = 3; k = 2; w = 1; axes = 1; t = 2 }
 
 abbrev key : Key
 key = record { matrix = hex 2 0x01cf; y = hex 1 0x25 }

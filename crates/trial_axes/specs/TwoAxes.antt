@@ -20,7 +20,7 @@ use Rattle.exchange.specs.Opening.{Exchange, exchange, verdict}
 use Rattle.standin.specs.Definitions.{definitions}
 
 abbrev p : Parameters
-p = record { m = 5; k = 3; w = 2; d = 2; t = 1 }
+p = record { m = 5; k = 3; w = 2; axes = 2; t = 1 }
 
 abbrev key : Key
 key = record { matrix = hex 6 0x2f6429b38683; y = hex 2 0x56d6 }

@@ -15,7 +15,7 @@ use Rattle.calls.specs.Extractor.{Transcript, Outcome, refused, pair, filled, e
 use Rattle.trial_extractor.specs.Definitions.{definitions, gives, given}
 
 abbrev p : Parameters
-p = record { m = 2; k = 1; w = 1; d = 1; t = 1 }
+p = record { m = 2; k = 1; w = 1; axes = 1; t = 1 }
 
 abbrev key : Key
 key = record { matrix = hex 1 0x5f; y = hex 1 0xad }
@@ -63,7 +63,7 @@ parameterOutsideA = record {
 }
 
 abbrev parameterOutside : Outcome
-parameterOutside = extraction standIn (record { m = 2; k = 2; w = 1; d = 1; t = 1 }) parameterOutsideA honestB key work out
+parameterOutside = extraction standIn (record { m = 2; k = 2; w = 1; axes = 1; t = 1 }) parameterOutsideA honestB key work out
 
 parameterOutside-gives :
     given parameterOutside

@@ -16,7 +16,7 @@ use Rattle.calls.specs.Prover.{Prover, Outcome, fresh, begin, points, leaf}
 use Rattle.trial_prover.specs.Definitions.{definitions}
 
 abbrev p : Parameters
-p = record { m = 2; k = 1; w = 1; d = 1; t = 1 }
+p = record { m = 2; k = 1; w = 1; axes = 1; t = 1 }
 
 abbrev key : Key
 key = record { matrix = hex 1 0x5f; y = hex 1 0xad }
@@ -48,7 +48,7 @@ call1-gives = refl
 
 -- call2: begin with k = m
 abbrev call2 : Outcome
-call2 = begin standIn (call1 .prover) (record { m = 2; k = 2; w = 1; d = 1; t = 1 }) xA salt root key work (replicate 64 0x5a)
+call2 = begin standIn (call1 .prover) (record { m = 2; k = 2; w = 1; axes = 1; t = 1 }) xA salt root key work (replicate 64 0x5a)
 
 call2-gives :
     (call2 .answer ∷ []) ∷ call2 .out ∷ call2 .work ∷ []
@@ -210,7 +210,7 @@ call17-gives = refl
 abbrev damaged : Prover
 damaged = record {
   phase = call17 .prover .phase;
-  parameters = record { m = 1; k = 1; w = 1; d = 1; t = 1 };
+  parameters = record { m = 1; k = 1; w = 1; axes = 1; t = 1 };
   x = call17 .prover .x;
   salt = call17 .prover .salt;
   root = call17 .prover .root;

@@ -16,7 +16,7 @@ use Rattle.calls.specs.Verifier.{Verifier, Outcome, Judged, fresh, begin, point
 use Rattle.trial_verifier.specs.Definitions.{definitions}
 
 abbrev p : Parameters
-p = record { m = 2; k = 1; w = 1; d = 1; t = 1 }
+p = record { m = 2; k = 1; w = 1; axes = 1; t = 1 }
 
 abbrev key : Key
 key = record { matrix = hex 1 0x5f; y = hex 1 0xad }
@@ -48,7 +48,7 @@ call1-gives = refl
 
 -- call2: begin with t 9, message 1 a byte short
 abbrev call2 : Outcome
-call2 = begin (call1 .verifier) (record { m = 2; k = 1; w = 1; d = 1; t = 9 }) (hex 63 0xf9bc3829513be4867a5491720bd00dfdef5ad14ea03d5d5d133497e208edfad19f8f62008be9ac1a3f8ed482e6b895cedbfca695b4d64a699aa25926895dc0)
+call2 = begin (call1 .verifier) (record { m = 2; k = 1; w = 1; axes = 1; t = 9 }) (hex 63 0xf9bc3829513be4867a5491720bd00dfdef5ad14ea03d5d5d133497e208edfad19f8f62008be9ac1a3f8ed482e6b895cedbfca695b4d64a699aa25926895dc0)
 
 call2-gives :
     call2 .answer

@@ -10,7 +10,7 @@ use Prim.Native.Nat.{ℕ, _+_, _*_, _≤_, _<_}
 use lib.ListN.{length}
 use Rattle.parameters.specs.declared.Parameters.{Parameters}
 use Rattle.parameters.specs.Limits.{Within}
-use Rattle.exchange.specs.Layout.{shareLength, message2Length}
+use Rattle.layout.specs.Layout.{shareLength, message2Length}
 
 pub record ShareAsked (p : Parameters) (s : List ℕ) (l : ℕ) (multiplier factor out : List ℕ) : Type 0 where
   pub within : Within p

@@ -16,7 +16,7 @@ use Rattle.lists.specs.Part.{part}
 use Rattle.lists.specs.Part.Laws.{part-whole}
 use Rattle.parameters.specs.declared.Parameters.{Parameters}
 use Rattle.parameters.specs.Limits.{Within}
-use Rattle.exchange.specs.Layout.{shareLength, message2Length}
+use Rattle.layout.specs.Layout.{shareLength, message2Length}
 use Rattle.exchange.specs.Reading.{encode}
 use Rattle.exchange.specs.Values.{Key, keyOf, imageOf, xOf, SOf, alpha, beta}
 use Rattle.values.specs.Announced.{announcedOf}

@@ -1,16 +1,16 @@
 // The verdict on an opening, and the session after it.
 use crate::Verifier;
 use answers::Answer;
+use layout::leaf_count;
 use layout::message2_length;
 use layout::work_length;
-use leaves::leaf_count;
 use openings::check_opening;
 use verifier_phase::Phase;
 ghost use mathlib.Core.Path.{_≡_};
 ghost use lib.ListN.{length};
 ghost use Rattle.lists.specs.Zeroed.{zeroed};
 ghost use Rattle.shake256.specs.Fips.{SHAKE256};
-ghost use Rattle.exchange.specs.Layout.{workLength};
+ghost use Rattle.layout.specs.Layout.{workLength};
 ghost use Rattle.exchange.specs.Opening.{verdict};
 ghost use Rattle.exchange.specs.Values.{keyOf};
 ghost use Rattle.calls.specs.Verifier as spec;
@@ -33,7 +33,7 @@ pub fn judge(s: Verifier, message5: &[u8], matrix: &[u8], y: &[u8], work: &mut [
     let points = message2_length(p);
     let area = work_length(p);
     let all_states = 32 * leaf_count(p);
-    let all_rows = p.d * (24 * p.t);
+    let all_rows = p.axes * (24 * p.t);
     check_opening(
         p,
         &m1,

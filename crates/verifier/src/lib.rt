@@ -45,7 +45,7 @@ pub fn fresh() -> Verifier
         m: 0,
         k: 0,
         w: 0,
-        d: 0,
+        axes: 0,
         t: 0,
     };
     Verifier {

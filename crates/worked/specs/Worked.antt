@@ -23,7 +23,7 @@ use Rattle.polynomial.specs.Division.{remainder, over}
 use Rattle.polynomial.specs.Interpolant.{ascending, interpolantOf, vanishingOf}
 use Rattle.relation.specs.Key.{dot, rows, vectorOf, weightOf, filled, positions, locatorOf, quotientOf}
 use Rattle.relation.specs.Admission.{keyLengths, keyChecks, keyAnswer}
-use Rattle.exchange.specs.Layout.{bits, levels, digit, coordinate}
+use Rattle.layout.specs.Layout.{bits, levels, digit, coordinate}
 use Rattle.exchange.specs.Tree.{siblings}
 
 pub record Case : Type 0 where
@@ -41,7 +41,7 @@ abbrev pointXZ : List ℕ
 pointXZ = fourTimes pointX pointZ
 
 abbrev sample : Parameters
-sample = record { m = 2; k = 1; w = 1; d = 1; t = 1 }
+sample = record { m = 2; k = 1; w = 1; axes = 1; t = 1 }
 
 abbrev matrix : List ℕ
 matrix = 0x01 ∷ []
@@ -50,7 +50,7 @@ abbrev vectorFor : ℕ → ℕ → List ℕ
 vectorFor key syndrome = vectorOf matrix (syndrome ∷ []) (key ∷ [])
 
 abbrev threeAxes : Parameters
-threeAxes = record { m = 2; k = 1; w = 1; d = 3; t = 1 }
+threeAxes = record { m = 2; k = 1; w = 1; axes = 3; t = 1 }
 
 pub cases : List Case
 cases =

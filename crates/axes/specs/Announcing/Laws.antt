@@ -14,7 +14,7 @@ use Rattle.cube.specs.Group.{additive}
 use Rattle.cube.specs.Sum.Laws.{sum-ext}
 use Rattle.tower.specs.Field.{Point}
 use Rattle.parameters.specs.declared.Parameters.{Parameters}
-use Rattle.exchange.specs.Layout.{side, leaves, digit}
+use Rattle.layout.specs.Layout.{side, leaves, digit}
 use Rattle.exchange.specs.Reading.{points, _⊞_, 𝟎}
 use Rattle.exchange.specs.Reading.Laws.{encode-ext}
 use Rattle.exchange.specs.Values.{Key, alpha, beta, partV}

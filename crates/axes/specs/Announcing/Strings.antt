@@ -14,8 +14,8 @@ use Rattle.lists.specs.Part.{part}
 use Rattle.lists.specs.Part.Laws.{getD-part}
 use Rattle.tower.specs.Field.{Point}
 use Rattle.parameters.specs.declared.Parameters.{Parameters}
-use Rattle.exchange.specs.Layout.{side, levels, leaves, digit}
-use Rattle.exchange.specs.Layout.Laws.{side-is}
+use Rattle.layout.specs.Layout.{side, levels, leaves, digit}
+use Rattle.layout.specs.Layout.Laws.{side-is}
 use Rattle.exchange.specs.Sequences.{joined}
 use Rattle.exchange.specs.Sequences.Laws.{joined-ext, length-joined}
 use Rattle.exchange.specs.Strings.{string, string6, string7}
@@ -42,17 +42,17 @@ module _ (p : Parameters) (key : Key) (m2 parts : List ℕ) (leaf : ℕ) (hidden
       length-joined (announcedBytes p _) (side p) (12 * p .t) (λ c h. length-announcedBytes p _ c)
       ∙ ap (λ (n : ℕ). n * (12 * p .t)) (side-is p) ∙ omega arith
 
-  pub length-rows : length (joined (rowOf p key m2 parts leaf hidden) (p .d)) ≡ p .d * (24 * p .t)
-  length-rows = length-joined (rowOf p key m2 parts leaf hidden) (p .d) (24 * p .t) (λ j h. length-row j)
+  pub length-rows : length (joined (rowOf p key m2 parts leaf hidden) (p .axes)) ≡ p .axes * (24 * p .t)
+  length-rows = length-joined (rowOf p key m2 parts leaf hidden) (p .axes) (24 * p .t) (λ j h. length-row j)
 
   pub rows-string : (hash : List ℕ → ℕ → List ℕ) (prefix : List ℕ) (A : ℕ → Announced)
-      → ((j : ℕ) → j < p .d → rowOf p key m2 parts leaf hidden j ≡ joined (announcedBytes p (A j)) (side p))
-      → rowsString hash p prefix (joined (rowOf p key m2 parts leaf hidden) (p .d))
-      ≡ string7 prefix (λ j. hash (axisString p prefix j (A j)) 32) (p .d)
+      → ((j : ℕ) → j < p .axes → rowOf p key m2 parts leaf hidden j ≡ joined (announcedBytes p (A j)) (side p))
+      → rowsString hash p prefix (joined (rowOf p key m2 parts leaf hidden) (p .axes))
+      ≡ string7 prefix (λ j. hash (axisString p prefix j (A j)) 32) (p .axes)
   unfolding string7 axisString string6
   rows-string hash prefix A same =
-      ap (string 7 prefix) (joined-ext _ _ (p .d) (λ j h. ap (λ (r : List ℕ). hash (string 6 prefix ((j + 1) ∷ r)) 32)
-      (blocks-at (rowOf p key m2 parts leaf hidden) (24 * p .t) (p .d) _ j (λ j h. length-row j) h refl ∙ same j h)))
+      ap (string 7 prefix) (joined-ext _ _ (p .axes) (λ j h. ap (λ (r : List ℕ). hash (string 6 prefix ((j + 1) ∷ r)) 32)
+      (blocks-at (rowOf p key m2 parts leaf hidden) (24 * p .t) (p .axes) _ j (λ j h. length-row j) h refl ∙ same j h)))
 
   -- a row of parties with the same sums of leaves, and of a hidden leaf with the same α and β
   row-is : (j z : ℕ) (s : ℕ → List ℕ) (α⋆ β⋆ : ℕ → Point) → hiddenParty p leaf j ≡ z → ((c : ℕ) → c < side p → partyFrom p parts j c ≡ s c)
@@ -67,14 +67,14 @@ module _ (p : Parameters) (key : Key) (m2 parts : List ℕ) (leaf : ℕ) (hidden
 
 module _ (hash : List ℕ → ℕ → List ℕ) (p : Parameters) (x salt root : List ℕ) (key : Key) (m2 parts : List ℕ) (leaf : ℕ) (hidden : List ℕ)
     (outside : leaves p ≤ leaf)
-    (same : (j c : ℕ) → j < p .d → c < side p → partyFrom p parts j c ≡ ownParty hash p x salt root key m2 j c) where
-  own-row : (j : ℕ) → j < p .d
+    (same : (j c : ℕ) → j < p .axes → c < side p → partyFrom p parts j c ≡ ownParty hash p x salt root key m2 j c) where
+  own-row : (j : ℕ) → j < p .axes
       → rowOf p key m2 parts leaf hidden j ≡ joined (announcedBytes p (ownAnnounced hash p x salt root key m2 j)) (side p)
   own-row j h =
       row-is p key m2 parts leaf hidden j (side p) _ _ _ (hidden-outside p leaf j outside) (λ c k. same j c h k) (λ l b. refl) (λ l b. refl)
       ∙ joined-ext _ _ (side p) (λ c k. sym (own-announced hash p x salt root key m2 j _ _ c k))
 
-  pub own-rows : hash (rowsString hash p salt (joined (rowOf p key m2 parts leaf hidden) (p .d))) 32 ≡ message3 hash p x salt root key m2
+  pub own-rows : hash (rowsString hash p salt (joined (rowOf p key m2 parts leaf hidden) (p .axes))) 32 ≡ message3 hash p x salt root key m2
   unfolding message3
   own-rows = ap (λ (s : List ℕ). hash s 32) (rows-string p key m2 parts leaf hidden hash salt (ownAnnounced hash p x salt root key m2) own-row)
 
@@ -82,14 +82,14 @@ module _ (hash : List ℕ → ℕ → List ℕ) (p : Parameters) (x salt root : 
 
 module _ (hash : List ℕ → ℕ → List ℕ) (p : Parameters) (e : Exchange) (key : Key) (parts hidden : List ℕ) (inside : e .leaf < leaves p)
     (lent : hidden ≡ part (e .message5) (16 * levels p + 32) (8 * p .t))
-    (same : (j c : ℕ) → j < p .d → c < side p → partyFrom p parts j c ≡ disclosed hash p e j c) where
+    (same : (j c : ℕ) → j < p .axes → c < side p → partyFrom p parts j c ≡ disclosed hash p e j c) where
   read : (i : ℕ) → i + 4 ≤ 8 * p .t → pointAt hidden i ≡ pointAt (e .message5) (16 * levels p + 32 + i)
   read i h =
       pointAt-ext hidden (e .message5) i (16 * levels p + 32 + i)
       (λ k b. let q : 16 * levels p + 32 + (i + k) ≡ 16 * levels p + 32 + i + k = omega arith in ap (λ (s : List ℕ). getD s (i + k) 0) lent ∙ getD-part (e .message5) (16 * levels p + 32) (8 * p .t) (i + k) (omega arith)
       ∙ ap (λ (n : ℕ). getD (e .message5) n 0) q)
 
-  pub opened-row : (j : ℕ) → j < p .d
+  pub opened-row : (j : ℕ) → j < p .axes
       → rowOf p key (e .message2) parts (e .leaf) hidden j ≡ joined (announcedBytes p (announced hash p e key j)) (side p)
   opened-row j h =
       row-is p key (e .message2) parts (e .leaf) hidden j (digit p j (e .leaf)) _ _ _ (hidden-inside p (e .leaf) j inside) (λ c k. same j c h k) alphas betas

@@ -10,17 +10,17 @@ use Rattle.axisdigests.proofs.response_digest.Statement.{statement}
 use Rattle.axisdigests.proofs.response_digest.Tie as tie
 
 abbrev Inv-loop : tie.InvT-loop
-Inv-loop p prefix rows out axes all₀ width b₀ j₀ all b j = (j ≤ p .d) × (b ≡ j * (24 * p .t)) × (all ≡ streamed p prefix rows j)
+Inv-loop p prefix rows out axes all₀ width b₀ j₀ all b j = (j ≤ p .axes) × (b ≡ j * (24 * p .t)) × (all ≡ streamed p prefix rows j)
 
 abbrev μ-loop : tie.MeasureT-loop
-μ-loop p prefix rows out axes all₀ width b₀ j₀ all b j = p .d - j
+μ-loop p prefix rows out axes all₀ width b₀ j₀ all b j = p .axes - j
 
 -- row j lies within the slice
-inside : (q : tie.At-loop Inv-loop μ-loop) → q .loop .j < q .before .before .before .before .before .before .before .args .p .d
+inside : (q : tie.At-loop Inv-loop μ-loop) → q .loop .j < q .before .before .before .before .before .before .before .args .p .axes
     → q .loop .b + 24 * q .before .before .before .before .before .before .before .args .p .t ≤ length (q .before .before .before .before .before .before .before .args .rows .now)
 inside q h =
     let s = q .before .before .before .before .before .before .before in
-    omega (arith, part-fits (q .loop .j) (s .args .p .d) (24 * s .args .p .t) h, q .loop .inv .1, s .pre .sized-rows)
+    omega (arith, part-fits (q .loop .j) (s .args .p .axes) (24 * s .args .p .t) h, q .loop .inv .1, s .pre .sized-rows)
 
 begin-requires : tie.Need-begin-requires Inv-loop μ-loop
 begin-requires c κs = search needs
@@ -47,10 +47,10 @@ part-add-axis-end : tie.Need-part-add-axis-end Inv-loop μ-loop
 part-add-axis-end c = let h = inside (c .before .before) (c .if1 .taken) in omega (arith, h)
 
 add-axis-requires : tie.Need-add-axis-requires Inv-loop μ-loop
-add-axis-requires c κs = omega (arith, c .before .if1 .taken, c .before .before .before .before .before .before .before .before .before .before .pre .within .d-most)
+add-axis-requires c κs = omega (arith, c .before .if1 .taken, c .before .before .before .before .before .before .before .before .before .before .pre .within .axes-most)
 
 add-j : tie.Need-add-j Inv-loop μ-loop
-add-j c = omega (arith, c .before .before .if1 .taken, c .before .before .before .before .before .before .before .before .before .before .before .pre .within .d-most)
+add-j c = omega (arith, c .before .before .if1 .taken, c .before .before .before .before .before .before .before .before .before .before .before .pre .within .axes-most)
 
 loop-less : tie.Need-loop-less Inv-loop μ-loop
 loop-less c = omega (arith, c .before .before .if1 .taken)

@@ -17,7 +17,7 @@ use Rattle.lists.specs.Checks.{allTrue}
 use Rattle.answers.specs.Order.{Conditions, answerOf}
 use Rattle.parameters.specs.declared.Parameters.{Parameters}
 use Rattle.parameters.specs.Limits.{withinLimits}
-use Rattle.exchange.specs.Layout.{leaves, workLength}
+use Rattle.layout.specs.Layout.{leaves, workLength}
 use Rattle.exchange.specs.Values.{Key}
 use Rattle.exchange.specs.Extractor.{Finding, unequal, states, extract}
 use Rattle.calls.specs.Judging.{openingConditions, judged}

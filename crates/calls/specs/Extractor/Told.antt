@@ -22,7 +22,7 @@ use Rattle.answers.specs.Checks.{checks}
 use Rattle.answers.specs.Order.{holds, firstOf, answerOf}
 use Rattle.parameters.specs.declared.Parameters.{Parameters}
 use Rattle.parameters.specs.Limits.{withinLimits}
-use Rattle.exchange.specs.Layout.{leaves, workLength}
+use Rattle.layout.specs.Layout.{leaves, workLength}
 use Rattle.exchange.specs.Values.{Key}
 use Rattle.exchange.specs.Opening.{verdict}
 use Rattle.exchange.specs.Extractor.{Finding, unequal, states, extract}

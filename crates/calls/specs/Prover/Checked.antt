@@ -21,7 +21,7 @@ use Rattle.answers.specs.Order.Laws.{told, picked, absent, picked-order}
 use Rattle.parameters.specs.Limits.{withinLimits, Within}
 use Rattle.parameters.specs.Limits.Laws.{test-within}
 use Rattle.relation.specs.Key.{weightOf}
-use Rattle.exchange.specs.Layout.{leaves}
+use Rattle.layout.specs.Layout.{leaves}
 use Rattle.exchange.specs.Values.{Key}
 use Rattle.calls.specs.Lengths.{beginLengths, pointsLengths, leafLengths}
 use Rattle.calls.specs.Prover.{Prover, closed, pointsDue, leafDue, repeated, beginChecks, pointsChecks, leafChecks}

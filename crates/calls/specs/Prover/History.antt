@@ -28,7 +28,7 @@ use Rattle.answers.specs.Order.{Conditions, answerOf}
 use Rattle.parameters.specs.declared.Parameters.{Parameters}
 use Rattle.parameters.specs.Limits.{withinLimits}
 use Rattle.relation.specs.Key.{weightOf, vectorOf}
-use Rattle.exchange.specs.Layout.{leaves, workLength}
+use Rattle.layout.specs.Layout.{leaves, workLength}
 use Rattle.exchange.specs.Values.{Key}
 use Rattle.exchange.specs.Messages.{message1, message3, message5}
 use Rattle.calls.specs.Lengths.{beginLengths, pointsLengths, leafLengths}

@@ -24,7 +24,7 @@ use Rattle.answers.specs.declared.Answer.the-variants.{Done}
 use Rattle.parameters.specs.Limits.Laws.{within-test}
 use Rattle.relation.specs.Key.{weightOf}
 use Rattle.relation.specs.Key.Vector.{length-vector}
-use Rattle.exchange.specs.Layout.{message2Length}
+use Rattle.layout.specs.Layout.{message2Length}
 use Rattle.exchange.specs.Values.{Key}
 use Rattle.prover_phase.specs.declared.Phase.{Phase}
 use Rattle.prover_phase.specs.declared.Phase.the-variants.{Begun, Answered, Closed}

@@ -24,7 +24,7 @@ use Rattle.answers.specs.Order.{holds, firstOf, answerOf}
 use Rattle.parameters.specs.Limits.{withinLimits}
 use Rattle.parameters.specs.Limits.Laws.{within-test}
 use Rattle.relation.specs.Key.{weightOf}
-use Rattle.exchange.specs.Layout.{leaves}
+use Rattle.layout.specs.Layout.{leaves}
 use Rattle.exchange.specs.Values.{Key}
 use Rattle.calls.specs.Lengths.{beginLengths, pointsLengths, leafLengths}
 use Rattle.calls.specs.Held.{isSome, told}

@@ -23,7 +23,7 @@ use Rattle.answers.specs.Number.{answerNumber}
 use Rattle.answers.specs.Order.{Conditions, holds, firstOf, answerOf}
 use Rattle.parameters.specs.Limits.{withinLimits}
 use Rattle.relation.specs.Key.{weightOf}
-use Rattle.exchange.specs.Layout.{leaves, workLength, message2Length}
+use Rattle.layout.specs.Layout.{leaves, workLength, message2Length}
 use Rattle.exchange.specs.Values.{Key}
 use Rattle.exchange.specs.Messages.{message3, message5}
 use Rattle.prover_phase.specs.declared.Phase.{Phase}

@@ -26,7 +26,7 @@ use Rattle.lists.specs.Checks.{allTrue}
 use Rattle.answers.specs.Order.{Conditions, answerOf}
 use Rattle.parameters.specs.declared.Parameters.{Parameters}
 use Rattle.parameters.specs.Limits.{withinLimits}
-use Rattle.exchange.specs.Layout.{leaves, message2Length, workLength}
+use Rattle.layout.specs.Layout.{leaves, message2Length, workLength}
 use Rattle.exchange.specs.Values.{Key}
 use Rattle.exchange.specs.Opening.{Exchange, exchange}
 use Rattle.calls.specs.Lengths.{openingLengths}

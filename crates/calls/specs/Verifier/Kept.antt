@@ -21,7 +21,7 @@ use Rattle.answers.specs.declared.Answer.the-variants.{Done, Refused}
 use Rattle.answers.specs.declared.Refusal.the-variants.{Parameter, Length, NotDue, Closed as ExchangeClosed}
 use Rattle.answers.specs.Checks.{checks}
 use Rattle.parameters.specs.Limits.{withinLimits}
-use Rattle.exchange.specs.Layout.{workLength}
+use Rattle.layout.specs.Layout.{workLength}
 use Rattle.exchange.specs.Values.{Key}
 use Rattle.verifier_phase.specs.declared.Phase.the-variants.{Fresh, Closed}
 use Rattle.calls.specs.Held.{isSome}

@@ -14,7 +14,7 @@ use lib.Dec.{eqb, ltb}
 use lib.ListN.{length, replicate}
 use Rattle.lists.specs.Part.{putAt}
 use Rattle.parameters.specs.Limits.{withinLimits}
-use Rattle.exchange.specs.Layout.{leaves, message2Length}
+use Rattle.layout.specs.Layout.{leaves, message2Length}
 use Rattle.exchange.specs.Values.{Key}
 use Rattle.verifier_phase.specs.declared.Phase.{Phase}
 use Rattle.verifier_phase.specs.declared.Phase.the-variants.{Begun, Pointed, Responded, Chosen, Closed}

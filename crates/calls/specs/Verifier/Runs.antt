@@ -18,7 +18,7 @@ use Rattle.answers.specs.Number.{answerNumber}
 use Rattle.answers.specs.Number.Laws.{answers-apart}
 use Rattle.answers.specs.Order.{holds, firstOf, answerOf}
 use Rattle.parameters.specs.Limits.{withinLimits}
-use Rattle.exchange.specs.Layout.{leaves, message2Length}
+use Rattle.layout.specs.Layout.{leaves, message2Length}
 use Rattle.exchange.specs.Values.{Key}
 use Rattle.exchange.specs.Opening.{exchange, verdict, Accepted}
 use Rattle.exchange.specs.Opening.Laws.{accepted-then, accepted-when}

@@ -25,7 +25,7 @@ use Rattle.parameters.specs.Limits.Laws.{test-within}
 use Rattle.relation.specs.Key.{vectorOf}
 use Rattle.relation.specs.Key.Vector.{length-vector}
 use Rattle.shake256.specs.Fips.{SHAKE256}
-use Rattle.exchange.specs.Layout.{message2Length}
+use Rattle.layout.specs.Layout.{message2Length}
 use Rattle.exchange.specs.Values.{Key}
 use Rattle.calls.specs.Lengths.{beginLengths, pointsLengths}
 use Rattle.calls.specs.Prover.{Prover, Outcome as Called, fresh, settle, closed, pointsDue, begin, beginChecks, begun, points, pointsChecks, answered, leaf, leafChecks, opened}

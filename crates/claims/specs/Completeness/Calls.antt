@@ -9,7 +9,7 @@ use Rattle.lists.specs.Zeroed.{zeroed}
 use Rattle.answers.specs.Number.{answerNumber}
 use Rattle.parameters.specs.declared.Parameters.{Parameters}
 use Rattle.relation.specs.Key.{vectorOf}
-use Rattle.exchange.specs.Layout.{leaves, message2Length, workLength}
+use Rattle.layout.specs.Layout.{leaves, message2Length, workLength}
 use Rattle.exchange.specs.Values.{Key}
 use Rattle.exchange.specs.Messages.{message1, message3, message5}
 use Rattle.exchange.specs.Messages.Laws.{length-message1, length-message3, length-message5}

@@ -23,7 +23,7 @@ use Rattle.parameters.specs.declared.Parameters.{Parameters}
 use Rattle.parameters.specs.Limits.{Within, limits, withinLimits}
 use Rattle.parameters.specs.Limits.Laws.{test-within}
 use Rattle.relation.specs.Key.{dot, rows, vectorOf, weightOf}
-use Rattle.exchange.specs.Layout.{message5Length, workLength}
+use Rattle.layout.specs.Layout.{message5Length, workLength}
 use Rattle.exchange.specs.Values.{Key}
 use Rattle.calls.specs.Prover.{Outcome}
 use Rattle.calls.specs.Prover.History.{Begin, Call, beginCall, outcome, after, made, begun, lastBegin}
@@ -32,7 +32,7 @@ use Rattle.claims.specs.Completeness.Reached.{may-start}
 use Rattle.claims.specs.Completeness.Sessions.{proverBegin-is}
 
 abbrev pub sample : Parameters
-sample = record { m = 2; k = 1; w = 1; d = 1; t = 1 }
+sample = record { m = 2; k = 1; w = 1; axes = 1; t = 1 }
 
 abbrev pub sampleKey : Key
 sampleKey = record { matrix = 0x01 ∷ []; y = 0x05 ∷ [] }

@@ -31,8 +31,8 @@ use Rattle.parameters.specs.Limits.{Within}
 use Rattle.parameters.specs.Limits.Laws.{within-test}
 use Rattle.relation.specs.Key.{weightOf, vectorOf}
 use Rattle.relation.specs.Key.Vector.{length-vector, bytes-vector}
-use Rattle.exchange.specs.Layout.{leaves, message2Length, message5Length, workLength}
-use Rattle.exchange.specs.Layout.Laws.{leaves-pos}
+use Rattle.layout.specs.Layout.{leaves, message2Length, message5Length, workLength}
+use Rattle.layout.specs.Layout.Laws.{leaves-pos}
 use Rattle.exchange.specs.Values.{Key}
 use Rattle.exchange.specs.Messages.{message1, message3, message5}
 use Rattle.exchange.specs.Messages.Laws.{Secret}

@@ -25,7 +25,7 @@ use Rattle.lists.specs.Checks.{and-left, and-right}
 use Rattle.lists.specs.Equal.{eqList}
 use Rattle.lists.specs.Equal.Laws.{eqList-true, eqList-false, eqList-of}
 use Rattle.parameters.specs.declared.Parameters.{Parameters}
-use Rattle.exchange.specs.Layout.{leaves}
+use Rattle.layout.specs.Layout.{leaves}
 use Rattle.exchange.specs.Sequences.{listed, those}
 use Rattle.exchange.specs.Sequences.Laws.{mem-listed, listed-mem, mem-those, those-mem, those-none, none-those, those-first}
 use Rattle.exchange.specs.Values.{Key}
@@ -64,13 +64,13 @@ other-layer a b n n′ h q = h (ap (λ (z : ℕ × ℕ). z .0) q)
 module _ (p : Parameters) (e e′ : Exchange) where
   pub data Place : ℕ × ℕ → Type 0 where
     place7 : Place (7, 0)
-    place6 : (j : ℕ) → j < p .d → Place (6, j + 1)
+    place6 : (j : ℕ) → j < p .axes → Place (6, j + 1)
     place5 : Place (5, 0)
     place4 : (i : ℕ) → i < leaves p → (i ≡ e .leaf → ⊥) → (i ≡ e′ .leaf → ⊥) → Place (4, i)
 
   -- layers 7 and 6
   abbrev upper : List (ℕ × ℕ)
-  upper = (7, 0) ∷ listed (λ j. (6, j + 1)) (p .d)
+  upper = (7, 0) ∷ listed (λ j. (6, j + 1)) (p .axes)
 
   -- layer 4
   abbrev lower : List (ℕ × ℕ)
@@ -81,7 +81,7 @@ module _ (p : Parameters) (e e′ : Exchange) where
   order = refl
 
   place-upper : (a : ℕ × ℕ) → List·Memᴰ a upper → Place a
-  place-upper a m = ⊎-elim (λ q. rw q place7) (λ k. let f = listed-mem (λ j. (6, j + 1)) (p .d) a k in rw (f .2) (place6 (f .0) (f .1))) (List·Memᴰ·cases-cons m)
+  place-upper a m = ⊎-elim (λ q. rw q place7) (λ k. let f = listed-mem (λ j. (6, j + 1)) (p .axes) a k in rw (f .2) (place6 (f .0) (f .1))) (List·Memᴰ·cases-cons m)
 
   both-then : (i : ℕ) → openedInBoth p e e′ i ≡ true → (i ≡ e .leaf → ⊥) × (i ≡ e′ .leaf → ⊥)
   unfolding openedInBoth
@@ -108,7 +108,7 @@ module _ (p : Parameters) (e e′ : Exchange) where
 
   pub place-is : (a : ℕ × ℕ) → Place a → List·Memᴰ a (compared p e e′)
   place-is a place7 = rw order (List·Memᴰ·head refl)
-  place-is a (place6 j l) = rw order (Memᴰ·append-left ((5, 0) ∷ lower) (List·Memᴰ·tail (mem-listed (λ j. (6, j + 1)) (p .d) j l)))
+  place-is a (place6 j l) = rw order (Memᴰ·append-left ((5, 0) ∷ lower) (List·Memᴰ·tail (mem-listed (λ j. (6, j + 1)) (p .axes) j l)))
   place-is a place5 = rw order (Memᴰ·append-right upper (List·Memᴰ·head refl))
   place-is a (place4 i l n n′) =
       rw order (Memᴰ·append-right upper (List·Memᴰ·tail
@@ -118,7 +118,7 @@ module _ (p : Parameters) (e e′ : Exchange) where
   not-upper : (i : ℕ) → List·Memᴰ (4, i) upper → ⊥
   not-upper i m =
       ⊎-elim (λ q. other-layer 4 7 i 0 (λ z. omega arith) q)
-      (λ k. let f = listed-mem (λ j. (6, j + 1)) (p .d) (4, i) k in other-layer 4 6 i (f .0 + 1) (λ z. omega arith) (f .2)) (List·Memᴰ·cases-cons m)
+      (λ k. let f = listed-mem (λ j. (6, j + 1)) (p .axes) (4, i) k in other-layer 4 6 i (f .0 + 1) (λ z. omega arith) (f .2)) (List·Memᴰ·cases-cons m)
 
 -- ---- strings
 
@@ -169,7 +169,7 @@ module _ (hash : List ℕ → ℕ → List ℕ) (hash-length : (s : List ℕ) (n
     unfolding OneDigest stringAt
     digest-5 = accepted .commitment ∙ same-h ∙ sym (accepted′ .commitment)
 
-    pub digest-6 : Equal (7, 0) → (j : ℕ) → j < p .d → OneDigest (6, j + 1)
+    pub digest-6 : Equal (7, 0) → (j : ℕ) → j < p .axes → OneDigest (6, j + 1)
     unfolding OneDigest
     digest-6 q j l =
         ap (λ (s : List ℕ). hash s 32) (string-6 e j)
@@ -188,7 +188,7 @@ module _ (hash : List ℕ → ℕ → List ℕ) (hash-length : (s : List ℕ) (n
         → ((b : ℕ × ℕ) → List·Memᴰ b earlier → Equal b) → OneDigest a
     one-digest a earlier rest q place7 equal = digest-7
     one-digest a earlier rest q (place6 j l) equal =
-        digest-6 (equal (7, 0) (stands-before [] (7, 0) (listed (λ j. (6, j + 1)) (p .d) ++ ((5, 0) ∷ lower p e e′)) earlier (6, j + 1) rest
+        digest-6 (equal (7, 0) (stands-before [] (7, 0) (listed (λ j. (6, j + 1)) (p .axes) ++ ((5, 0) ∷ lower p e e′)) earlier (6, j + 1) rest
         (sym (order p e e′) ∙ q) List·Memᴰ·not-nil (other-layer 6 7 (j + 1) 0 (λ z. omega arith)))) j l
     one-digest a earlier rest q place5 equal = digest-5
     one-digest a earlier rest q (place4 i l n n′) equal =
@@ -228,7 +228,7 @@ module _ (hash : List ℕ → ℕ → List ℕ) (hash-length : (s : List ℕ) (n
   pub same-leaves : AllEqual → SameLeaves hash hash-length p e e′ matched
   same-leaves h i l n n′ = equal-4 i (h (4, i) (place-is p e e′ (4, i) (place4 i l n n′)))
 
-  pub same-axis : AllEqual → (j : ℕ) → j < p .d → axisOf e j ≡ axisOf e′ j
+  pub same-axis : AllEqual → (j : ℕ) → j < p .axes → axisOf e j ≡ axisOf e′ j
   same-axis h j l = equal-6 j (h (6, j + 1) (place-is p e e′ (6, j + 1) (place6 j l)))
 
   pub same-commitments : AllEqual → (i : ℕ) → i < leaves p → leafCommitment hash p e i ≡ leafCommitment hash p e′ i

@@ -18,8 +18,8 @@ use borrow.Author.Tests.{eq-eqb, ne-eqb}
 use lib.Dec.{eqb}
 use lib.ListN.{length, take, drop}
 use Rattle.parameters.specs.declared.Parameters.{Parameters}
-use Rattle.exchange.specs.Layout.{leaves, message5Length}
-use Rattle.exchange.specs.Layout.Laws.{isLast-true, isLast-false, isLast-last}
+use Rattle.layout.specs.Layout.{leaves, message5Length}
+use Rattle.layout.specs.Layout.Laws.{isLast-true, isLast-false, isLast-last}
 use Rattle.exchange.specs.Sequences.{joined}
 use Rattle.exchange.specs.Sequences.Laws.{joined-at, joined-rest}
 use Rattle.exchange.specs.Leaf.{share}

@@ -15,9 +15,9 @@ use Rattle.lists.specs.Equal.Laws.{eqList-of}
 use Rattle.answers.specs.declared.Answer.the-variants.{Done}
 use Rattle.parameters.specs.declared.Parameters.{Parameters}
 use Rattle.parameters.specs.Limits.Laws.{within-test}
-use Rattle.exchange.specs.Layout.{leaves, workLength, outputLength}
-use Rattle.exchange.specs.Layout.Laws.{leaves-pos, isLast-true}
-use Rattle.exchange.specs.Layout.FirstAxis.{firstAxis, first-inside, first-apart}
+use Rattle.layout.specs.Layout.{leaves, workLength, outputLength}
+use Rattle.layout.specs.Layout.Laws.{leaves-pos, isLast-true}
+use Rattle.exchange.specs.FirstAxis.{firstAxis, first-inside, first-apart}
 use Rattle.exchange.specs.Strings.{string4}
 use Rattle.exchange.specs.Leaf.{commitment}
 use Rattle.exchange.specs.Values.{Key}

@@ -19,7 +19,7 @@ use Rattle.cube.specs.Opening.Laws.{totals-all, extraction}
 use Rattle.tower.specs.Field.{Point}
 use Rattle.parameters.specs.declared.Parameters.{Parameters}
 use Rattle.polynomial.specs.Interpolant.{interpolantOf}
-use Rattle.exchange.specs.Layout.{side, leaves, digit}
+use Rattle.layout.specs.Layout.{side, leaves, digit}
 use Rattle.exchange.specs.Reading.{points, value, _⊞_, _⊠_, 𝟎}
 use Rattle.exchange.specs.Values.{Key, QOf, POf, aOf, bOf, cOf, pointOf, multiplierOf, F, SOf, alpha, beta, partV}
 use Rattle.exchange.specs.Parties.Cube.{axisPartition, G, GG, leafW, leafV, constantW, constantV, alpha-total, beta-total, partV-total}

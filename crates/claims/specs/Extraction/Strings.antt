@@ -15,7 +15,7 @@ use mathlib.Core.List.{List, [], _∷_, _++_}
 use Prim.Native.Nat.{ℕ, _+_, _*_, _<_}
 use lib.ListN.{length, take, drop}
 use Rattle.parameters.specs.declared.Parameters.{Parameters}
-use Rattle.exchange.specs.Layout.{side, leaves, isLast, shareLength, message5Length}
+use Rattle.layout.specs.Layout.{side, leaves, isLast, shareLength, message5Length}
 use Rattle.exchange.specs.Sequences.Laws.{append-inj, joined-inj}
 use Rattle.exchange.specs.Strings.{string, string3, string4, string5, string7}
 use Rattle.exchange.specs.Leaf.{share}
@@ -96,10 +96,10 @@ module _ (hash : List ℕ → ℕ → List ℕ) (hash-length : (s : List ℕ) (n
     axisStringOf e j = axisString p (e .prefix) j (announced hash p e key j)
 
     pub digests-same : responseString hash p e key ≡ responseString hash p e′ key
-        → (j : ℕ) → j < p .d → hash (axisStringOf e j) 32 ≡ hash (axisStringOf e′ j) 32
+        → (j : ℕ) → j < p .axes → hash (axisStringOf e j) 32 ≡ hash (axisStringOf e′ j) 32
     unfolding responseString string7
     digests-same q =
-        joined-inj (λ j. hash (axisStringOf e j) 32) (λ j. hash (axisStringOf e′ j) 32) (p .d) 32 (λ j h. hash-length _ 32) (λ j h. hash-length _ 32)
+        joined-inj (λ j. hash (axisStringOf e j) 32) (λ j. hash (axisStringOf e′ j) 32) (p .axes) 32 (λ j h. hash-length _ 32) (λ j h. hash-length _ 32)
         (strings-inj 7 (e .prefix) (e′ .prefix) _ _ same-prefix q)
 
     pub axis-same : (j : ℕ) → axisStringOf e j ≡ axisStringOf e′ j → (c l : ℕ) → c < side p → l < p .t

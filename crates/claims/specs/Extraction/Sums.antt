@@ -21,7 +21,7 @@ use Rattle.lists.specs.Sum.Laws.{length-xorList, xorList-comm, xorList-assoc, x
 use Rattle.polynomial.specs.Bytes.{Bytes, byte-at, bytes-append, bytes-xorList}
 use Rattle.relation.specs.Key.Vector.{bytes-rows}
 use Rattle.parameters.specs.declared.Parameters.{Parameters}
-use Rattle.exchange.specs.Layout.{leaves, shareLength, atX, atQ}
+use Rattle.layout.specs.Layout.{leaves, shareLength, atX, atQ}
 use Rattle.exchange.specs.Reading.{bytesAt}
 use Rattle.exchange.specs.Reading.Laws.{length-bytesAt, bytesAt-is, bytesAt-xor}
 use Rattle.exchange.specs.Values.{Key, xAOf, QOf, POf, aOf, bOf, cOf, imageOf, xOf}

@@ -19,8 +19,8 @@ use Rattle.algebra.specs.Each.{Each}
 use Rattle.lists.specs.Equal.{eqList}
 use Rattle.lists.specs.Equal.Laws.{eqList-true, eqList-false}
 use Rattle.parameters.specs.declared.Parameters.{Parameters}
-use Rattle.exchange.specs.Layout.{leaves, message5Length, workLength, outputLength}
-use Rattle.exchange.specs.Layout.Laws.{isLast-last}
+use Rattle.layout.specs.Layout.{leaves, message5Length, workLength, outputLength}
+use Rattle.layout.specs.Layout.Laws.{isLast-last}
 use Rattle.exchange.specs.Leaf.{share}
 use Rattle.exchange.specs.Values.{Key}
 use Rattle.exchange.specs.Opening.{Exchange, exchange, auxOf, openedState, leafString, commitmentString}

@@ -17,7 +17,7 @@ use Rattle.parameters.specs.Limits.{Within}
 use Rattle.polynomial.specs.Bytes.{Bytes}
 use Rattle.polynomial.specs.Interpolant.{interpolantOf}
 use Rattle.relation.specs.Key.{weightOf}
-use Rattle.exchange.specs.Layout.{levels, leaves, atQ, workLength, outputLength}
+use Rattle.layout.specs.Layout.{levels, leaves, atQ, workLength, outputLength}
 use Rattle.exchange.specs.Sequences.Laws.{bytes-drop}
 use Rattle.exchange.specs.Reading.{bytesAt, value, _⊞_, _⊠_}
 use Rattle.exchange.specs.Reading.Laws.{length-bytesAt}

@@ -5,7 +5,7 @@ use native.Mathlib.Nat.{zero-mul}
 use native.Mathlib.Omega.{arith}
 use borrow.Author.Needs.{needs}
 use lib.ListN.{length, take, drop}
-use Rattle.exchange.specs.Layout.{shareLength}
+use Rattle.layout.specs.Layout.{shareLength}
 use Rattle.exchange.specs.Values.{keyOf}
 use Rattle.encoding.specs.Written.{middle-kept}
 use Rattle.encoding.specs.Blocks.{Blocks, length-block, blocks-none, blocks-more, blocks-end}

@@ -10,7 +10,7 @@ use Rattle.shake256.specs.Stream.{absorbed}
 use Rattle.shake256.specs.Fips.{SHAKE256}
 use Rattle.exchange.specs.Strings.{string5}
 use Rattle.strings.specs.Digest.{digest}
-use Rattle.leaves.specs.Shapes.Laws.{leaves-most}
+use Rattle.layout.specs.Layout.Bounds.{leaves-most}
 use Rattle.commitments.specs.Commitments.{commitmentsOf, committed}
 use Rattle.commitments.specs.Commitments.Laws.{commitments-begun, committed-none, committed-more, committed-digest}
 use Rattle.commitments.proofs.digest_commitments.Statement.{statement}

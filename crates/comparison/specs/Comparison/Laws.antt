@@ -19,8 +19,8 @@ use Rattle.shake256.specs.Fips.{SHAKE256}
 use Rattle.shake256.proofs.Laws.{length-SHAKE256}
 use Rattle.parameters.specs.declared.Parameters.{Parameters}
 use Rattle.parameters.specs.Limits.{Within}
-use Rattle.exchange.specs.Layout.{leaves, message5Length}
-use Rattle.exchange.specs.Layout.FirstAxis.{first-trailing}
+use Rattle.layout.specs.Layout.{leaves, message5Length}
+use Rattle.exchange.specs.FirstAxis.{first-trailing}
 use Rattle.exchange.specs.Sequences.{joined, least}
 use Rattle.exchange.specs.Sequences.Laws.{joined-ext, joined-inj, Least, least-is}
 use Rattle.exchange.specs.Strings.{string, string4, string5, string7}
@@ -84,18 +84,18 @@ pub record Shows (p : Parameters) (key : Key) (prefix : List ℕ) (e : Exchange)
   pub given : commitmentOf p e ≡ v .given
   pub aux : auxOf p e ≡ v .aux
   pub state : (i : ℕ) → i < leaves p → (i ≡ e .leaf → ⊥) → openedState SHAKE256 p e i ≡ stateAt (v .states) i
-  pub row : (j : ℕ) → j < p .d → axisString p (e .prefix) j (announced SHAKE256 p e key j) ≡ string 6 (e .prefix) ((j + 1) ∷ rowAt p (v .rows) j)
+  pub row : (j : ℕ) → j < p .axes → axisString p (e .prefix) j (announced SHAKE256 p e key j) ≡ string 6 (e .prefix) ((j + 1) ∷ rowAt p (v .rows) j)
   pub sent : length (e .message5) ≡ message5Length p (e .leaf)
 
 module _ (p : Parameters) (key : Key) (prefix : List ℕ) (e : Exchange) (v : View) (s : Shows p key prefix e v) where
-  row-string : (j : ℕ) → j < p .d → axisString p (e .prefix) j (announced SHAKE256 p e key j) ≡ string 6 prefix ((j + 1) ∷ rowAt p (v .rows) j)
+  row-string : (j : ℕ) → j < p .axes → axisString p (e .prefix) j (announced SHAKE256 p e key j) ≡ string 6 prefix ((j + 1) ∷ rowAt p (v .rows) j)
   row-string j l = s .row j l ∙ ap (λ (q : List ℕ). string 6 q ((j + 1) ∷ rowAt p (v .rows) j)) (s .salt)
 
-  response-string : responseString SHAKE256 p e key ≡ string 7 prefix (joined (digestAt p prefix (v .rows)) (p .d))
+  response-string : responseString SHAKE256 p e key ≡ string 7 prefix (joined (digestAt p prefix (v .rows)) (p .axes))
   unfolding responseString string7 digestAt
   response-string =
       ap₂ (string 7) (s .salt)
-      (joined-ext (λ j. SHAKE256 (axisString p (e .prefix) j (announced SHAKE256 p e key j)) 32) (digestAt p prefix (v .rows)) (p .d)
+      (joined-ext (λ j. SHAKE256 (axisString p (e .prefix) j (announced SHAKE256 p e key j)) 32) (digestAt p prefix (v .rows)) (p .axes)
       (λ j l. ap (λ (x : List ℕ). SHAKE256 x 32) (row-string j l)))
 
   commitment-at : (i : ℕ) → i < leaves p → leafCommitment SHAKE256 p e i ≡ commitments p prefix v i
@@ -125,18 +125,18 @@ module _ (p : Parameters) (key : Key) (prefix : List ℕ) (e : Exchange) (v : Vi
 
 module _ (p : Parameters) (within : Within p) (key : Key) (prefix : List ℕ) (e e′ : Exchange) (v v′ : View) (s : Shows p key prefix e v)
     (s′ : Shows p key prefix e′ v′) (inside : e .leaf < leaves p) (inside′ : e′ .leaf < leaves p) (other : e .leaf ≡ e′ .leaf → ⊥) where
-  at-7 : differsAt SHAKE256 p key e e′ 7 0 ≡ ltb (firstApart (digestAt p prefix (v .rows)) (digestAt p prefix (v′ .rows)) (p .d)) (p .d)
+  at-7 : differsAt SHAKE256 p key e e′ 7 0 ≡ ltb (firstApart (digestAt p prefix (v .rows)) (digestAt p prefix (v′ .rows)) (p .axes)) (p .axes)
   unfolding differsAt firstApart
   at-7 =
       ap₂ (λ (a b : List ℕ). not (eqList a b)) (string-7 SHAKE256 p key e ∙ response-string p key prefix e v s)
       (string-7 SHAKE256 p key e′ ∙ response-string p key prefix e′ v′ s′)
-      ∙ sym (joined-apart (digestAt p prefix (v .rows)) (digestAt p prefix (v′ .rows)) (p .d) 32 7 prefix
+      ∙ sym (joined-apart (digestAt p prefix (v .rows)) (digestAt p prefix (v′ .rows)) (p .axes) 32 7 prefix
       (λ j l. unfold digestAt in length-SHAKE256 _ 32) (λ j l. unfold digestAt in length-SHAKE256 _ 32))
 
-  at-6 : least (λ j. differsAt SHAKE256 p key e e′ 6 (j + 1)) (p .d) ≡ firstApart (rowAt p (v .rows)) (rowAt p (v′ .rows)) (p .d)
+  at-6 : least (λ j. differsAt SHAKE256 p key e e′ 6 (j + 1)) (p .axes) ≡ firstApart (rowAt p (v .rows)) (rowAt p (v′ .rows)) (p .axes)
   unfolding differsAt firstApart apart
   at-6 =
-      least-ext (λ j. differsAt SHAKE256 p key e e′ 6 (j + 1)) (apart (rowAt p (v .rows)) (rowAt p (v′ .rows))) (p .d)
+      least-ext (λ j. differsAt SHAKE256 p key e e′ 6 (j + 1)) (apart (rowAt p (v .rows)) (rowAt p (v′ .rows))) (p .axes)
       (λ j l.
       ap₂ (λ (a b : List ℕ). not (eqList a b)) (string-6 SHAKE256 p key e j ∙ row-string p key prefix e v s j l)
       (string-6 SHAKE256 p key e′ j ∙ row-string p key prefix e′ v′ s′ j l)
@@ -184,7 +184,7 @@ module _ (p : Parameters) (within : Within p) (key : Key) (prefix : List ℕ) (e
   axis-same : axis p e e′ ≡ axisOf (v .leaf) (v′ .leaf)
   axis-same =
       axis-is p e e′
-      ∙ ap (λ (n : ℕ). n + 1) (first-trailing p (e .leaf) (e′ .leaf) inside inside′ other 8 (within .d-most))
+      ∙ ap (λ (n : ℕ). n + 1) (first-trailing p (e .leaf) (e′ .leaf) inside inside′ other 8 (within .axes-most))
       ∙ ap₂ axisOf (s .leaf) (s′ .leaf)
 
   state-same : (i : ℕ) → i < leaves p → stateFrom SHAKE256 p e e′ i ≡ stateOf (v .leaf) (v .states) (v′ .states) i

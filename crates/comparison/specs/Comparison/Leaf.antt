@@ -12,7 +12,7 @@ use lib.ListN.{length}
 use Rattle.lists.specs.Part.Laws.{length-part}
 use Rattle.lists.specs.Equal.{eqList}
 use Rattle.parameters.specs.declared.Parameters.{Parameters}
-use Rattle.exchange.specs.Layout.{isLast}
+use Rattle.layout.specs.Layout.{isLast}
 use Rattle.comparison.specs.Comparison.{stateAt, leafAt}
 
 pub eqList-append : (a b x y : List ℕ) → length a ≡ length b → eqList (a ++ x) (b ++ y) ≡ (eqList a b && eqList x y)

@@ -9,26 +9,26 @@ use Prim.Native.Nat.{ℕ, _+_, _≤_, _<_}
 use borrow.Author.Tests.{lt-ltb, le-ltb}
 use lib.Dec.{ltb}
 use Rattle.parameters.specs.declared.Parameters.{Parameters}
-use Rattle.exchange.specs.Layout.{leaves}
+use Rattle.layout.specs.Layout.{leaves}
 use Rattle.exchange.specs.Extractor.{unequal, states as extracted}
 use Rattle.comparison.specs.Chain.{chain-7, chain-6, chain-5, chain-4, chain-rest}
 use Rattle.comparison.specs.Comparison.{View, rowAt, digestAt, commitments, leafAt, firstApart, firstOpened, outputOf, axisOf, comparison}
 
 module _ (p : Parameters) (prefix : List ℕ) (v v′ : View) (a : ℕ)
-    (ea : a ≡ firstApart (digestAt p prefix (v .rows)) (digestAt p prefix (v′ .rows)) (p .d)) where
-  pub response-apart : a < p .d → comparison p prefix v v′ ≡ unequal 7 0
+    (ea : a ≡ firstApart (digestAt p prefix (v .rows)) (digestAt p prefix (v′ .rows)) (p .axes)) where
+  pub response-apart : a < p .axes → comparison p prefix v v′ ≡ unequal 7 0
   unfolding comparison
-  response-apart l = chain-7 _ _ _ _ _ _ _ (ap (λ (x : ℕ). ltb x (p .d)) (sym ea) ∙ lt-ltb a (p .d) l)
+  response-apart l = chain-7 _ _ _ _ _ _ _ (ap (λ (x : ℕ). ltb x (p .axes)) (sym ea) ∙ lt-ltb a (p .axes) l)
 
-  module _ (la : p .d ≤ a) (b : ℕ) (eb : b ≡ firstApart (rowAt p (v .rows)) (rowAt p (v′ .rows)) (p .d)) where
-    responses : ltb (firstApart (digestAt p prefix (v .rows)) (digestAt p prefix (v′ .rows)) (p .d)) (p .d) ≡ false
-    responses = ap (λ (x : ℕ). ltb x (p .d)) (sym ea) ∙ le-ltb a (p .d) la
+  module _ (la : p .axes ≤ a) (b : ℕ) (eb : b ≡ firstApart (rowAt p (v .rows)) (rowAt p (v′ .rows)) (p .axes)) where
+    responses : ltb (firstApart (digestAt p prefix (v .rows)) (digestAt p prefix (v′ .rows)) (p .axes)) (p .axes) ≡ false
+    responses = ap (λ (x : ℕ). ltb x (p .axes)) (sym ea) ∙ le-ltb a (p .axes) la
 
-    pub row-apart : b < p .d → comparison p prefix v v′ ≡ unequal 6 (b + 1)
+    pub row-apart : b < p .axes → comparison p prefix v v′ ≡ unequal 6 (b + 1)
     unfolding comparison
     row-apart l = rw (← eb) (chain-6 _ _ _ _ _ _ _ responses l)
 
-    module _ (lb : p .d ≤ b) (c : ℕ) (ec : c ≡ firstApart (commitments p prefix v) (commitments p prefix v′) (leaves p)) where
+    module _ (lb : p .axes ≤ b) (c : ℕ) (ec : c ≡ firstApart (commitments p prefix v) (commitments p prefix v′) (leaves p)) where
       pub commitment-apart : c < leaves p → comparison p prefix v v′ ≡ unequal 5 0
       unfolding comparison
       commitment-apart l = rw (← eb, ← ec) (chain-5 _ _ _ _ _ _ _ responses lb (lt-ltb c (leaves p) l))

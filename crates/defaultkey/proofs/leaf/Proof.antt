@@ -5,7 +5,7 @@ use Prim.Native.Nat.{ℕ, _%_}
 use native.Mathlib.Omega.{arith}
 use borrow.Author.Needs.{needs}
 use lib.ListN.{getD}
-use Rattle.exchange.specs.Layout.Laws.{leaves-pos, leaves-is}
+use Rattle.layout.specs.Layout.Laws.{leaves-pos, leaves-is}
 use Rattle.defaultkey.specs.Expanded.{leafLabel}
 use Rattle.defaultkey.proofs.leaf.Statement.{statement}
 use Rattle.defaultkey.proofs.leaf.Tie as tie

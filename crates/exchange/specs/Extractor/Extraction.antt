@@ -20,9 +20,9 @@ use native.Mathlib.Omega.{arith}
 use lib.Dec.{eqb}
 use lib.ListN.{length, take, drop, length-append, length-drop}
 use Rattle.parameters.specs.declared.Parameters.{Parameters}
-use Rattle.exchange.specs.Layout.{leaves, digit, isLast, auxLength, message5Length, outputLength}
-use Rattle.exchange.specs.Layout.Laws.{leaves-pos, isLast-true, isLast-false, message5-other}
-use Rattle.exchange.specs.Layout.FirstAxis.{firstAxis, first-inside, first-apart}
+use Rattle.layout.specs.Layout.{leaves, digit, isLast, auxLength, message5Length, outputLength}
+use Rattle.layout.specs.Layout.Laws.{leaves-pos, isLast-true, isLast-false, message5-other}
+use Rattle.exchange.specs.FirstAxis.{firstAxis, first-inside, first-apart}
 use Rattle.exchange.specs.Sequences.{joined}
 use Rattle.exchange.specs.Sequences.Laws.{joined-inj, joined-at, joined-rest, length-joined}
 use Rattle.exchange.specs.Strings.{string, string4, string5, string7}
@@ -57,12 +57,12 @@ module _ (hash : List ℕ → ℕ → List ℕ) (hash-length : (s : List ℕ) (n
       (λ i l. length-commitments hash p e hash-length long i) (λ i l. length-commitments hash p e′ hash-length long′ i)
       (string-inj 5 prefix _ _ q)
 
-  pub axis-digests : (key : Key) → responseString hash p e key ≡ responseString hash p e′ key → (j : ℕ) → j < p .d
+  pub axis-digests : (key : Key) → responseString hash p e key ≡ responseString hash p e′ key → (j : ℕ) → j < p .axes
       → hash (axisString p prefix j (announced hash p e key j)) 32 ≡ hash (axisString p prefix j (announced hash p e′ key j)) 32
   unfolding responseString string7
   axis-digests key q =
       joined-inj (λ j. hash (axisString p prefix j (announced hash p e key j)) 32) (λ j. hash (axisString p prefix j (announced hash p e′ key j)) 32)
-      (p .d) 32 (λ j l. hash-length _ 32) (λ j l. hash-length _ 32) (string-inj 7 prefix _ _ q)
+      (p .axes) 32 (λ j l. hash-length _ 32) (λ j l. hash-length _ 32) (string-inj 7 prefix _ _ q)
 
   -- ---- the first unequal pair
 
@@ -125,7 +125,7 @@ module _ (hash : List ℕ → ℕ → List ℕ) (hash-length : (s : List ℕ) (n
 
   -- ---- the axis
 
-  pub axis-inside : firstAxis p u u′ < p .d
+  pub axis-inside : firstAxis p u u′ < p .axes
   axis-inside = first-inside p u u′ inside inside′ other
 
   pub axis-apart : digit p (firstAxis p u u′) u ≡ digit p (firstAxis p u u′) u′ → ⊥
@@ -177,7 +177,7 @@ module _ (hash : List ℕ → ℕ → List ℕ) (hash-length : (s : List ℕ) (n
       commitments-second i l = commitments-first i l ∙ commitments-same same i l
 
     pub relation-of-states : (key : Key)
-        → ((j : ℕ) → j < p .d → axisString p prefix j (announced hash p e key j) ≡ axisString p prefix j (announced hash p e′ key j))
+        → ((j : ℕ) → j < p .axes → axisString p prefix j (announced hash p e key j) ≡ axisString p prefix j (announced hash p e′ key j))
         → (l : ℕ) → l < p .t → Relation p key m2 (sumFrom hash p prefix h m2 m3 u u′ m5 m5′) l
     relation-of-states key strings l hl =
         relation-holds hash p prefix h m2 m3 u u′ m5 m5′ hash-length agree key inside inside′ (firstAxis p u u′) axis-apart

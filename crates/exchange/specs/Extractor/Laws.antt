@@ -21,8 +21,8 @@ use Rattle.lists.specs.Checks.{and-left, and-right}
 use Rattle.lists.specs.Equal.{eqList}
 use Rattle.lists.specs.Equal.Laws.{eqList-true, eqList-false, eqList-of}
 use Rattle.parameters.specs.declared.Parameters.{Parameters}
-use Rattle.exchange.specs.Layout.{leaves}
-use Rattle.exchange.specs.Layout.FirstAxis.{firstAxis}
+use Rattle.layout.specs.Layout.{leaves}
+use Rattle.exchange.specs.FirstAxis.{firstAxis}
 use Rattle.exchange.specs.Sequences.{listed, those}
 use Rattle.exchange.specs.Sequences.Laws.{mem-listed, listed-mem, mem-those, those-mem, those-none, none-those, First, those-first, before-mem}
 use Rattle.exchange.specs.Values.{Key}
@@ -35,7 +35,7 @@ use Rattle.exchange.specs.Extractor.{unequal, states, openedInBoth, comp
 module _ (p : Parameters) (e e′ : Exchange) where
   pub data Compared : ℕ → ℕ → Type 0 where
     atResponse : Compared 7 0
-    atAxis : (j : ℕ) → j < p .d → Compared 6 (j + 1)
+    atAxis : (j : ℕ) → j < p .axes → Compared 6 (j + 1)
     atCommitment : Compared 5 0
     atLeaf : (i : ℕ) → i < leaves p → (i ≡ e .leaf → ⊥) → (i ≡ e′ .leaf → ⊥) → Compared 4 i
 
@@ -51,7 +51,7 @@ module _ (p : Parameters) (e e′ : Exchange) where
   )
 
   abbrev axes : List (ℕ × ℕ)
-  axes = (7, 0) ∷ listed (λ j. (6, j + 1)) (p .d)
+  axes = (7, 0) ∷ listed (λ j. (6, j + 1)) (p .axes)
 
   abbrev opened : List (ℕ × ℕ)
   opened = those (λ n. openedInBoth p e e′ (n .1)) (listed (λ i. (4, i)) (leaves p))
@@ -59,7 +59,7 @@ module _ (p : Parameters) (e e′ : Exchange) where
   pub mem-compared : (l n : ℕ) → Compared l n → List·Memᴰ (l, n) (compared p e e′)
   unfolding compared
   mem-compared l n atResponse = List·Memᴰ·head refl
-  mem-compared l n (atAxis j h) = List·Memᴰ·tail (Memᴰ·append-left ((5, 0) ∷ opened) (mem-listed (λ j. (6, j + 1)) (p .d) j h))
+  mem-compared l n (atAxis j h) = List·Memᴰ·tail (Memᴰ·append-left ((5, 0) ∷ opened) (mem-listed (λ j. (6, j + 1)) (p .axes) j h))
   mem-compared l n atCommitment = Memᴰ·append-right axes (List·Memᴰ·head refl)
   mem-compared l n (atLeaf i h m m′) =
       Memᴰ·append-right axes
@@ -75,7 +75,7 @@ module _ (p : Parameters) (e e′ : Exchange) where
       first : List·Memᴰ (l, n) axes → Compared l n
       first k =
           ⊎-elim (λ q. at l n 7 0 q atResponse)
-          (λ k. let j = listed-mem (λ j. (6, j + 1)) (p .d) (l, n) k in at l n 6 (j .0 + 1) (j .2) (atAxis (j .0) (j .1)))
+          (λ k. let j = listed-mem (λ j. (6, j + 1)) (p .axes) (l, n) k in at l n 6 (j .0 + 1) (j .2) (atAxis (j .0) (j .1)))
           (List·Memᴰ·cases-cons k)
 
       second : List·Memᴰ (l, n) ((5, 0) ∷ opened) → Compared l n
@@ -169,7 +169,7 @@ module _ (hash : List ℕ → ℕ → List ℕ) (p : Parameters) (key : Key) whe
         not-axis : n .0 ≡ 4 → List·Memᴰ n (axes p e e′) → ⊥
         not-axis q m =
             ⊎-elim (λ z. let y : n .0 ≡ 7 = ap (λ (m : ℕ × ℕ). m .0) z in omega arith)
-            (λ k. let j = listed-mem (λ j. (6, j + 1)) (p .d) n k in let y : n .0 ≡ 6 = ap (λ (m : ℕ × ℕ). m .0) (j .2) in omega arith)
+            (λ k. let j = listed-mem (λ j. (6, j + 1)) (p .axes) n k in let y : n .0 ≡ 6 = ap (λ (m : ℕ × ℕ). m .0) (j .2) in omega arith)
             (List·Memᴰ·cases-cons m)
 
     -- either all compared strings are equal, or the first unequal pair is answered

@@ -22,8 +22,8 @@ use Rattle.cube.specs.Opening as cube
 use Rattle.cube.specs.Opening.Laws.{totals-all, extraction}
 use Rattle.tower.specs.Field.{Point}
 use Rattle.parameters.specs.declared.Parameters.{Parameters}
-use Rattle.exchange.specs.Layout.{side, leaves, digit, isLast, shareLength}
-use Rattle.exchange.specs.Layout.Laws.{isLast-false}
+use Rattle.layout.specs.Layout.{side, leaves, digit, isLast, shareLength}
+use Rattle.layout.specs.Layout.Laws.{isLast-false}
 use Rattle.exchange.specs.Sequences.Laws.{append-inj}
 use Rattle.exchange.specs.Strings.{string3, string4}
 use Rattle.exchange.specs.Leaf.{share}

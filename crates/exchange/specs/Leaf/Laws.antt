@@ -14,8 +14,8 @@ use native.Mathlib.Omega.{arith}
 use lib.ListN.{length, take, length-append}
 use Rattle.polynomial.specs.Bytes.{Bytes, bytes-append}
 use Rattle.parameters.specs.declared.Parameters.{Parameters}
-use Rattle.exchange.specs.Layout.{leaves, isLast, auxLength, shareLength}
-use Rattle.exchange.specs.Layout.Laws.{isLast-true, isLast-false}
+use Rattle.layout.specs.Layout.{leaves, isLast, auxLength, shareLength}
+use Rattle.layout.specs.Layout.Laws.{isLast-true, isLast-false}
 use Rattle.exchange.specs.Strings.{string3}
 use Rattle.exchange.specs.Leaf.{state, share, commitment}
 

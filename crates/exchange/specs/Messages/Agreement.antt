@@ -23,7 +23,7 @@ use Rattle.tower.specs.Field.{Point}
 use Rattle.answers.specs.declared.Answer.the-variants.{Done}
 use Rattle.parameters.specs.declared.Parameters.{Parameters}
 use Rattle.relation.specs.Key.{vectorOf}
-use Rattle.exchange.specs.Layout.{side, leaves}
+use Rattle.layout.specs.Layout.{side, leaves}
 use Rattle.exchange.specs.Sequences.Laws.{joined-ext}
 use Rattle.exchange.specs.Strings.{string, string6, string7}
 use Rattle.exchange.specs.Reading.{_⊞_, 𝟎}
@@ -157,12 +157,12 @@ module _ (hash : List ℕ → ℕ → List ℕ) (hash-length : (s : List ℕ) (n
       (joined-ext (announcedBytes p (announced hash p e key j)) (announcedBytes p (ownAnnounced hash p x salt root key m2 j)) (side p) (announced-same j))
 
   pub responseString-is : responseString hash p e key
-      ≡ string7 salt (λ j. hash (axisString p salt j (ownAnnounced hash p x salt root key m2 j)) 32) (p .d)
+      ≡ string7 salt (λ j. hash (axisString p salt j (ownAnnounced hash p x salt root key m2 j)) 32) (p .axes)
   unfolding responseString string7
   responseString-is =
       ap (string 7 salt)
       (joined-ext (λ j. hash (axisString p salt j (announced hash p e key j)) 32)
-      (λ j. hash (axisString p salt j (ownAnnounced hash p x salt root key m2 j)) 32) (p .d)
+      (λ j. hash (axisString p salt j (ownAnnounced hash p x salt root key m2 j)) 32) (p .axes)
       (λ j h. ap (λ (s : List ℕ). hash s 32) (axisString-is j)))
 
   response-is : hash (responseString hash p e key) 32 ≡ message3 hash p x salt root key m2

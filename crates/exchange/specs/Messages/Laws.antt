@@ -19,7 +19,7 @@ use Rattle.parameters.specs.Limits.{Within}
 use Rattle.polynomial.specs.Bytes.{Bytes, bytes-take, bytes-append, bytes-xorList}
 use Rattle.relation.specs.Key.{weightOf, locatorOf, quotientOf}
 use Rattle.relation.specs.Key.Polynomials.{length-locator, length-quotient, bytes-locator, bytes-quotient}
-use Rattle.exchange.specs.Layout.{levels, leaves, isLast, auxLength, shareLength, message5Length}
+use Rattle.layout.specs.Layout.{levels, leaves, isLast, auxLength, shareLength, message5Length}
 use Rattle.exchange.specs.Sequences.Laws.{bytes-drop}
 use Rattle.exchange.specs.Tree.{siblingSeeds}
 use Rattle.exchange.specs.Tree.Laws.{length-siblingSeeds, bytes-siblingSeeds}

@@ -17,8 +17,8 @@ use lib.Dec.{eqb}
 use lib.ListN.{length, getD, take, drop, length-append}
 use lib.Seq.{take-at, drop-at}
 use Rattle.parameters.specs.declared.Parameters.{Parameters}
-use Rattle.exchange.specs.Layout.{levels, leaves, isLast}
-use Rattle.exchange.specs.Layout.Laws.{isLast-false}
+use Rattle.layout.specs.Layout.{levels, leaves, isLast}
+use Rattle.layout.specs.Layout.Laws.{isLast-false}
 use Rattle.exchange.specs.Sequences.Laws.{joined-ext}
 use Rattle.exchange.specs.Strings.{string, string4, string5}
 use Rattle.exchange.specs.Tree.{siblingSeeds, openedSeeds}

@@ -21,8 +21,8 @@ use Rattle.parameters.specs.declared.Parameters.{Parameters}
 use Rattle.polynomial.specs.Interpolant.{interpolantOf, vanishingOf}
 use Rattle.relation.specs.Key.{rows, vectorOf, locatorOf, quotientOf}
 use Rattle.relation.specs.Key.Polynomials.{locator-monic, key-relation}
-use Rattle.exchange.specs.Layout.{leaves, atB, atQ, atP, atC}
-use Rattle.exchange.specs.Layout.Laws.{leaves-pos}
+use Rattle.layout.specs.Layout.{leaves, atB, atQ, atP, atC}
+use Rattle.layout.specs.Layout.Laws.{leaves-pos}
 use Rattle.exchange.specs.Strings.{string3}
 use Rattle.exchange.specs.Leaf.{share}
 use Rattle.exchange.specs.Leaf.Laws.{share-last, share-other}

@@ -21,8 +21,8 @@ use Rattle.cube.specs.Party.Laws.{party-pairs, disclosed-replaced, disclosed-al
 use Rattle.cube.specs.Opening as cube
 use Rattle.tower.specs.Field.{Point}
 use Rattle.parameters.specs.declared.Parameters.{Parameters}
-use Rattle.exchange.specs.Layout.{side, leaves, digit}
-use Rattle.exchange.specs.Layout.Laws.{digit-lt}
+use Rattle.layout.specs.Layout.{side, leaves, digit}
+use Rattle.layout.specs.Layout.Laws.{digit-lt}
 use Rattle.exchange.specs.Reading.{points, _⊞_, 𝟎}
 use Rattle.exchange.specs.Values.{Key}
 use Rattle.exchange.specs.Parties.{partyOf, sums}

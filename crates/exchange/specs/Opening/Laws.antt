@@ -18,7 +18,7 @@ use Rattle.tower.specs.Field.{Point}
 use Rattle.answers.specs.declared.Answer.the-variants.{Done}
 use Rattle.answers.specs.Checks.Laws.{check-true, check-rest}
 use Rattle.parameters.specs.declared.Parameters.{Parameters}
-use Rattle.exchange.specs.Layout.{message5Length}
+use Rattle.layout.specs.Layout.{message5Length}
 use Rattle.exchange.specs.Reading.Laws.{encode-ext}
 use Rattle.exchange.specs.Values.{Key}
 use Rattle.exchange.specs.Parties.{sumsOf}

@@ -22,8 +22,8 @@ use Rattle.cube.specs.Party.Laws.{party-pairs}
 use Rattle.cube.specs.Opening.{announced, formula, totals}
 use Rattle.tower.specs.Field.{Point}
 use Rattle.parameters.specs.declared.Parameters.{Parameters}
-use Rattle.exchange.specs.Layout.{side, leaves, digit, shareLength}
-use Rattle.exchange.specs.Layout.Laws.{side-pos, digit-lt}
+use Rattle.layout.specs.Layout.{side, leaves, digit, shareLength}
+use Rattle.layout.specs.Layout.Laws.{side-pos, digit-lt}
 use Rattle.exchange.specs.Reading.{points, _⊞_, _⊠_, 𝟎}
 use Rattle.exchange.specs.Values.{Key, alpha, beta, partV}
 use Rattle.exchange.specs.Values.Laws.{alphaConstant, betaConstant, alpha-xor, alpha-first, beta-xor, beta-first, partV-xor, partV-first}

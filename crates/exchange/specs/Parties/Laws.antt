@@ -20,7 +20,7 @@ use Rattle.lists.specs.Sum.{xorList}
 use Rattle.lists.specs.Sum.Laws.{length-xorList, xorList-comm, xorList-assoc, xorList-self, xorList-zeros}
 use Rattle.polynomial.specs.Bytes.{Bytes, bytes-xorList}
 use Rattle.parameters.specs.declared.Parameters.{Parameters}
-use Rattle.exchange.specs.Layout.{side, shareLength}
+use Rattle.layout.specs.Layout.{side, shareLength}
 use Rattle.exchange.specs.Sequences.Laws.{append-inj, joined-inj}
 use Rattle.exchange.specs.Strings.{string, string6}
 use Rattle.exchange.specs.Reading.{encode}

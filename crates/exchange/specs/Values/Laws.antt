@@ -26,7 +26,7 @@ use Rattle.parameters.specs.declared.Parameters.{Parameters}
 use Rattle.polynomial.specs.Interpolant.{interpolantOf}
 use Rattle.polynomial.specs.Interpolant.Laws.{length-interpolant, interpolant-xor}
 use Rattle.relation.specs.Key.Vector.{length-rows, rows-xor}
-use Rattle.exchange.specs.Layout.{atB, atX, atQ, atP, atC}
+use Rattle.layout.specs.Layout.{atB, atX, atQ, atP, atC}
 use Rattle.exchange.specs.Reading.{points, bytesAt, value, _⊞_, _⊠_}
 use Rattle.exchange.specs.Reading.Laws.{length-bytesAt, bytesAt-xor, pointAt-xor, value-xor}
 use Rattle.exchange.specs.Values.{Key, xAOf, QOf, POf, aOf, bOf, cOf, pointOf, multiplierOf, imageOf, xOf, SOf, alpha, beta, partV}

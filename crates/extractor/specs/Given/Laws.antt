@@ -16,7 +16,7 @@ use Rattle.answers.specs.declared.Answer.the-variants.{Done}
 use Rattle.answers.specs.declared.Answer.the-variants.{Refused as Not}
 use Rattle.answers.specs.declared.Refusal.{Refusal}
 use Rattle.parameters.specs.declared.Parameters.{Parameters}
-use Rattle.exchange.specs.Layout.{workLength}
+use Rattle.layout.specs.Layout.{workLength}
 use Rattle.exchange.specs.Values.{Key}
 use Rattle.exchange.specs.Opening.{verdict}
 use Rattle.exchange.specs.Extractor.{Finding, unequal, states, extract}

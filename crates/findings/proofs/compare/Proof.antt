@@ -3,8 +3,8 @@ use mathlib.Core.Path.{sym, _∙_}
 use Prim.Native.Nat.{_-_}
 use native.Mathlib.Omega.{arith}
 use borrow.Author.Needs.{needs}
-use Rattle.exchange.specs.Layout.Laws.{isLast-last, isLast-false}
-use Rattle.layout.specs.Lent.Laws.{leaves-most}
+use Rattle.layout.specs.Layout.Laws.{isLast-last, isLast-false}
+use Rattle.layout.specs.Layout.Bounds.{leaves-most}
 use Rattle.comparison.specs.Comparison.Steps.{response-apart, row-apart, commitment-apart, leaf-apart, all-equal}
 use Rattle.findings.specs.Found.{named, filled}
 use Rattle.findings.proofs.compare.Statement.{statement}

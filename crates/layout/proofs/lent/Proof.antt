@@ -4,7 +4,8 @@ use borrow.Author.Tests.{eq-eqb}
 use native.Mathlib.Omega.{arith}
 use Rattle.lists.specs.Checks.{not-so}
 use Rattle.layout.specs.Lent.{lent}
-use Rattle.layout.specs.Lent.Laws.{test-lent, matrix-most}
+use Rattle.layout.specs.Lent.Laws.{test-lent}
+use Rattle.layout.specs.Layout.Bounds.{matrix-most}
 use borrow.Author.Needs.{needs}
 use Rattle.layout.proofs.lent.Statement.{statement}
 use Rattle.layout.proofs.lent.Tie as tie

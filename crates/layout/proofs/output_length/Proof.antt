@@ -1,7 +1,7 @@
 -- There are at most 256 leaves, so the sum fits.
 use native.Mathlib.Omega.{arith}
-use Rattle.exchange.specs.Layout.{outputLength}
-use Rattle.layout.specs.Lent.Laws.{leaves-most}
+use Rattle.layout.specs.Layout.{outputLength}
+use Rattle.layout.specs.Layout.Bounds.{leaves-most}
 use borrow.Author.Needs.{needs}
 use Rattle.layout.proofs.output_length.Statement.{statement}
 use Rattle.layout.proofs.output_length.Tie as tie

@@ -14,7 +14,7 @@ use Rattle.lists.specs.Part.Laws.{tail-back}
 use Rattle.shake256.specs.Fips.{SHAKE256}
 use Rattle.shake256.proofs.Laws.{length-SHAKE256}
 use Rattle.parameters.specs.declared.Parameters.{Parameters}
-use Rattle.exchange.specs.Layout.{bits, levels, leaves}
+use Rattle.layout.specs.Layout.{bits, levels, leaves}
 use Rattle.exchange.specs.Tree.{leafSeeds, openedSeeds}
 use Rattle.exchange.specs.Leaf.{state}
 use Rattle.exchange.specs.Messages.{ownState}
@@ -29,9 +29,9 @@ use Rattle.leafstates.specs.States.Laws.{stateAt-statesOf}
 pub half-back : (w seeds : List ℕ) (a : ℕ) → a ≤ length w → drop a (take a w ++ (seeds ++ drop (length w - a) (drop a w))) ≡ seeds
 half-back w seeds a h = ap (drop a) (tail-back w seeds a h) ∙ drop-at (take a w) seeds a (length-take-le a w h)
 
-pub levels-is : (p : Parameters) → levels p ≡ p .d
+pub levels-is : (p : Parameters) → levels p ≡ p .axes
 unfolding bits
-levels-is p = one-mul (p .d)
+levels-is p = one-mul (p .axes)
 
 module _ (p : Parameters) (x salt root : List ℕ) (sixteen : length root ≡ 16) where
   at-levels : (i : ℕ) → i < leaves p → stateAt (statesOf salt (laid (leafSeeds SHAKE256 salt (levels p) 1 root)) (leaves p)) i ≡ ownState SHAKE256 p x salt root i
@@ -40,7 +40,7 @@ module _ (p : Parameters) (x salt root : List ℕ) (sixteen : length root ≡ 16
       stateAt-statesOf salt (laid (leafSeeds SHAKE256 salt (levels p) 1 root)) (leaves p) i h
       ∙ ap (state SHAKE256 salt i) (leafSeeds-part SHAKE256 salt length-SHAKE256 (levels p) 1 root sixteen i h)
 
-  pub own-states : (i : ℕ) → i < leaves p → stateAt (statesOf salt (laid (leafSeeds SHAKE256 salt (p .d) 1 root)) (leaves p)) i ≡ ownState SHAKE256 p x salt root i
+  pub own-states : (i : ℕ) → i < leaves p → stateAt (statesOf salt (laid (leafSeeds SHAKE256 salt (p .axes) 1 root)) (leaves p)) i ≡ ownState SHAKE256 p x salt root i
   own-states i h =
       ap (λ (l : ℕ). stateAt (statesOf salt (laid (leafSeeds SHAKE256 salt l 1 root)) (leaves p)) i) (sym (levels-is p)) ∙ at-levels i h
 
@@ -57,7 +57,7 @@ module _ (p : Parameters) (e : Exchange) (is-leaf : e .leaf < leaves p) (long : 
       ∙ ap (state SHAKE256 (e .prefix) i) (openedSeeds-part SHAKE256 (e .prefix) length-SHAKE256 (levels p) 1 (e .leaf) i (pathOf p e) path is-leaf h other)
 
   pub opened-states : (i : ℕ) → i < leaves p → (i ≡ e .leaf → ⊥)
-      → stateAt (statesOf (e .prefix) (laid (openedSeeds SHAKE256 (e .prefix) (p .d) 1 (e .leaf) (pathOf p e))) (leaves p)) i ≡ openedState SHAKE256 p e i
+      → stateAt (statesOf (e .prefix) (laid (openedSeeds SHAKE256 (e .prefix) (p .axes) 1 (e .leaf) (pathOf p e))) (leaves p)) i ≡ openedState SHAKE256 p e i
   opened-states i h other =
       ap (λ (l : ℕ). stateAt (statesOf (e .prefix) (laid (openedSeeds SHAKE256 (e .prefix) l 1 (e .leaf) (pathOf p e))) (leaves p)) i) (sym (levels-is p))
       ∙ opened-at-levels i h other

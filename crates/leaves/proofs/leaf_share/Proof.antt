@@ -7,7 +7,7 @@ use native.Mathlib.Omega.{arith}
 use borrow.Author.Needs.{needs}
 use lib.ListN.{length, take, length-append, length-drop}
 use lib.Seq.{length-take-le}
-use Rattle.exchange.specs.Layout.{shareLength}
+use Rattle.layout.specs.Layout.{shareLength}
 use Rattle.leaves.specs.After.{bytesAfter, shareAfter}
 use Rattle.leaves.proofs.LastShare.{putAt-last}
 use Rattle.leaves.proofs.leaf_share.Statement.{statement}

@@ -12,7 +12,7 @@ use Rattle.shake256.specs.declared.Sponge.{Sponge}
 use Rattle.shake256.specs.Stream.{absorbed}
 use Rattle.shake256.specs.Fips.{SHAKE256}
 use Rattle.parameters.specs.declared.Parameters.{Parameters}
-use Rattle.exchange.specs.Layout.{isLast, shareLength}
+use Rattle.layout.specs.Layout.{isLast, shareLength}
 use Rattle.exchange.specs.Strings.{string, string2, string3, string4}
 use Rattle.exchange.specs.Leaf.{state, share, commitment}
 use Rattle.strings.specs.Digest.{begun}

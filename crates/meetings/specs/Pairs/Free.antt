@@ -17,7 +17,7 @@ use native.Mathlib.Decide.{ℕ-discrete}
 use native.Mathlib.Omega.{arith}
 use lib.Dec.{eqb}
 use Rattle.algebra.specs.Each.{Each}
-use Rattle.exchange.specs.Layout.{leaves}
+use Rattle.layout.specs.Layout.{leaves}
 use Rattle.exchange.specs.Strings.{string4, string5, string7}
 use Rattle.exchange.specs.Parties.{axisString}
 use Rattle.exchange.specs.Messages.{ownState, ownAux, ownCommitment, ownAnnounced}

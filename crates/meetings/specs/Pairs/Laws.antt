@@ -19,7 +19,7 @@ use Rattle.tower.specs.Point.{lone}
 use Rattle.tower.specs.Field.{Point, point}
 use Rattle.answers.specs.declared.Answer.the-variants.{Done}
 use Rattle.parameters.specs.Limits.{Within}
-use Rattle.exchange.specs.Layout.{leaves}
+use Rattle.layout.specs.Layout.{leaves}
 use Rattle.exchange.specs.Reading.{bytesAt, pointAt}
 use Rattle.exchange.specs.Values.{pointOf, multiplierOf}
 use Rattle.exchange.specs.Messages.Laws.{Secret, length-message1, length-message3, length-message5, bytes-message5}
@@ -46,8 +46,8 @@ module _ (d : ℕ) (axes : Axes d) where
     k-most = omega arith;
     w-least = omega arith;
     w-most = omega arith;
-    d-least = axes .0;
-    d-most = axes .1;
+    axes-least = axes .0;
+    axes-most = axes .1;
     t-least = omega arith;
     t-most = omega arith;
   }

@@ -4,7 +4,7 @@ use Prim.Native.Nat.{ℕ, _*_}
 use native.Mathlib.Omega.{arith}
 use borrow.Author.Needs.{needs}
 use Rattle.encoding.specs.Written.{front-length}
-use Rattle.leaves.specs.Shapes.Laws.{leaves-most}
+use Rattle.layout.specs.Layout.Bounds.{leaves-most}
 use Rattle.ownleaves.specs.Own.Laws.{aux-most}
 use Rattle.messages.proofs.message1.Statement.{statement}
 use Rattle.messages.proofs.message1.Tie as tie

@@ -19,7 +19,7 @@ use Rattle.shake256.specs.Fips.{SHAKE256}
 use Rattle.lists.specs.Part.{putAt}
 use Rattle.lists.specs.Part.Laws.{tail-back}
 use Rattle.parameters.specs.declared.Parameters.{Parameters}
-use Rattle.exchange.specs.Layout.{bits, isLast, auxLength, message5Length}
+use Rattle.layout.specs.Layout.{bits, isLast, auxLength, message5Length}
 use Rattle.exchange.specs.Tree.{siblingSeeds}
 use Rattle.exchange.specs.Leaf.{share, commitment}
 use Rattle.exchange.specs.Reading.{encode}
@@ -35,7 +35,7 @@ pub opening-any : (p : Parameters) (x salt root : List ℕ) (key : Key) (m2 : Li
     → openingOf p salt root m2 leaf (key .matrix) state aux ≡ message5 SHAKE256 p x salt root key m2 leaf
 unfolding openingOf leafBytes message5 ownCommitment ownShare
 opening-any p x salt root key m2 leaf state aux es ea =
-    ap₂ (λ (st u : List ℕ). siblingSeeds SHAKE256 salt (p .d) 1 root leaf
+    ap₂ (λ (st u : List ℕ). siblingSeeds SHAKE256 salt (p .axes) 1 root leaf
     ++ ((commitment SHAKE256 p salt leaf st u ++ leafValues p (key .matrix) m2 (share SHAKE256 p salt leaf st u)) ++ cond (isLast p leaf) [] u)) es ea
     ∙ ap₂ _++_ (ap (λ (l : ℕ). siblingSeeds SHAKE256 salt l 1 root leaf) (sym (levels-is p)))
     (append-assoc own _ rest
@@ -55,7 +55,7 @@ pub message5-any : (p : Parameters) (x salt root matrix y m2 : List ℕ) (leaf :
 unfolding message5 alpha beta SOf xOf imageOf
 message5-any p x salt root matrix y m2 leaf = refl
 
-pub opening-length : (p : Parameters) (leaf : ℕ) → message5Length p leaf ≡ 16 * p .d + (32 + 8 * p .t) + cond (isLast p leaf) 0 (auxLength p)
+pub opening-length : (p : Parameters) (leaf : ℕ) → message5Length p leaf ≡ 16 * p .axes + (32 + 8 * p .t) + cond (isLast p leaf) 0 (auxLength p)
 unfolding message5Length bits
 opening-length p leaf = omega arith
 

@@ -7,7 +7,7 @@ use borrow.Author.Needs.{needs}
 use lib.ListN.{length, take, drop}
 use Rattle.lists.specs.Part.{putAt}
 use Rattle.lists.specs.Part.Laws.{tail-part}
-use Rattle.exchange.specs.Layout.{levels, auxLength}
+use Rattle.layout.specs.Layout.{levels, auxLength}
 use Rattle.reader.specs.Message5.{auxPlace, siblingsIn, valuesIn, auxIn}
 use Rattle.reader.specs.Message5.Laws.{siblings-end, aux-inside, length-siblingsIn, length-valuesIn, aux-short}
 use Rattle.reader.specs.Opening.Laws.{room-asked, siblings-front, values-front, rest-inside, rest-is}
@@ -16,7 +16,7 @@ use Rattle.openings.proofs.check_opening.Statement.{statement}
 use Rattle.openings.proofs.check_opening.Tie as tie
 
 module _ (start : tie.Start) where
-  seeds-length : (w : List ℕ) {w′ : List ℕ} → w′ ≡ putAt w 0 (siblingsIn (start .args .p) (start .args .m5 .now)) → length (take (16 * start .args .p .d) w′) ≡ 16 * levels (start .args .p)
+  seeds-length : (w : List ℕ) {w′ : List ℕ} → w′ ≡ putAt w 0 (siblingsIn (start .args .p) (start .args .m5 .now)) → length (take (16 * start .args .p .axes) w′) ≡ 16 * levels (start .args .p)
   seeds-length w e =
       ap length (siblings-front (start .args .p) (start .args .leaf) (start .args .m5 .now) (start .pre .message5) w e)
       ∙ length-siblingsIn (start .args .p) (start .args .leaf) (start .args .m5 .now) (start .pre .message5)

@@ -8,11 +8,11 @@ use native.Mathlib.Numerals.{add-one}
 use native.Mathlib.Omega.{arith}
 use Rattle.parameters.specs.declared.Parameters.{Parameters}
 use Rattle.parameters.specs.Limits.{Within}
-use Rattle.exchange.specs.Layout.{shareLength, workLength}
+use Rattle.layout.specs.Layout.{shareLength, workLength}
 use Rattle.parties.specs.Sums.Laws.{second-fits}
 
-pub front-fits : (p : Parameters) → Within p → (p .d + 1) * shareLength p ≤ workLength p
+pub front-fits : (p : Parameters) → Within p → (p .axes + 1) * shareLength p ≤ workLength p
 front-fits p within =
-    let e : (p .d + 1) * shareLength p ≡ p .d * shareLength p + shareLength p = ap (λ (n : ℕ). n * shareLength p) (add-one (p .d)) ∙ suc-mul (p .d) (shareLength p) in
+    let e : (p .axes + 1) * shareLength p ≡ p .axes * shareLength p + shareLength p = ap (λ (n : ℕ). n * shareLength p) (add-one (p .axes)) ∙ suc-mul (p .axes) (shareLength p) in
     let h = second-fits p within in
     omega arith

@@ -12,7 +12,7 @@ use Rattle.lists.specs.Part.{part}
 use Rattle.answers.specs.declared.Answer.{Answer}
 use Rattle.parameters.specs.declared.Parameters.{Parameters}
 use Rattle.parameters.specs.Limits.{Within}
-use Rattle.exchange.specs.Layout.{leaves, message5Length}
+use Rattle.layout.specs.Layout.{leaves, message5Length}
 use Rattle.exchange.specs.Strings.{string}
 use Rattle.exchange.specs.Values.{Key}
 use Rattle.exchange.specs.Parties.{axisString}
@@ -54,7 +54,7 @@ module _ {p : Parameters} {m1 m2 m3 : List ℕ} {leaf : ℕ} {m5 : List ℕ} {ke
   checked-state below long i h other =
       sym (ap (λ (st : List ℕ). part st (32 * i) 32) (checked .states-are) ∙ opened-state p (exchange m1 m2 m3 leaf m5) below long i h other)
 
-  pub checked-row : (j : ℕ) → j < p .d
+  pub checked-row : (j : ℕ) → j < p .axes
       → axisString p (exchange m1 m2 m3 leaf m5 .prefix) j (announced SHAKE256 p (exchange m1 m2 m3 leaf m5) key j)
       ≡ string 6 (exchange m1 m2 m3 leaf m5 .prefix) ((j + 1) ∷ part rows (j * (24 * p .t)) (24 * p .t))
   checked-row j h =

@@ -12,8 +12,8 @@ use lib.ListN.{length}
 use Rattle.shake256.specs.Fips.{SHAKE256}
 use Rattle.lists.specs.Part.{part}
 use Rattle.parameters.specs.declared.Parameters.{Parameters}
-use Rattle.exchange.specs.Layout.{side, leaves, message5Length}
-use Rattle.exchange.specs.Layout.Laws.{side-is}
+use Rattle.layout.specs.Layout.{side, leaves, message5Length}
+use Rattle.layout.specs.Layout.Laws.{side-is}
 use Rattle.exchange.specs.Sequences.Laws.{joined-ext, length-joined}
 use Rattle.exchange.specs.Strings.{string, string6, string7}
 use Rattle.exchange.specs.Values.{Key}
@@ -42,13 +42,13 @@ module _ (p : Parameters) (e : Exchange) (key : Key) where
       length-joined (announcedBytes p (announced SHAKE256 p e key j)) (side p) (12 * p .t) (λ c h. length-announcedBytes p _ c)
       ∙ ap (λ (n : ℕ). n * (12 * p .t)) (side-is p) ∙ omega arith
 
-  pub length-openedRows : length (openedRows p e key) ≡ p .d * (24 * p .t)
+  pub length-openedRows : length (openedRows p e key) ≡ p .axes * (24 * p .t)
   unfolding openedRows
-  length-openedRows = length-joined (openedRow p e key) (p .d) (24 * p .t) (λ j h. length-openedRow j)
+  length-openedRows = length-joined (openedRow p e key) (p .axes) (24 * p .t) (λ j h. length-openedRow j)
 
-  pub row-opened : (j : ℕ) → j < p .d → part (openedRows p e key) (j * (24 * p .t)) (24 * p .t) ≡ openedRow p e key j
+  pub row-opened : (j : ℕ) → j < p .axes → part (openedRows p e key) (j * (24 * p .t)) (24 * p .t) ≡ openedRow p e key j
   unfolding openedRows
-  row-opened j h = part-joined (openedRow p e key) (24 * p .t) (p .d) (λ j h. length-openedRow j) j h
+  row-opened j h = part-joined (openedRow p e key) (24 * p .t) (p .axes) (λ j h. length-openedRow j) j h
 
   pub row-string : (j : ℕ) → string 6 (e .prefix) ((j + 1) ∷ openedRow p e key j) ≡ axisString p (e .prefix) j (announced SHAKE256 p e key j)
   unfolding openedRow axisString string6
@@ -58,5 +58,5 @@ module _ (p : Parameters) (e : Exchange) (key : Key) where
   unfolding responseString string7
   rows-string =
       ap (string 7 (e .prefix))
-      (joined-ext (λ j. SHAKE256 (rowString p (e .prefix) (openedRows p e key) j) 32) (λ j. SHAKE256 (axisString p (e .prefix) j (announced SHAKE256 p e key j)) 32) (p .d)
+      (joined-ext (λ j. SHAKE256 (rowString p (e .prefix) (openedRows p e key) j) 32) (λ j. SHAKE256 (axisString p (e .prefix) j (announced SHAKE256 p e key j)) 32) (p .axes)
       (λ j h. ap (λ (s : List ℕ). SHAKE256 s 32) (ap (λ (r : List ℕ). string 6 (e .prefix) ((j + 1) ∷ r)) (row-opened j h) ∙ row-string j)))

@@ -24,7 +24,7 @@ use Rattle.answers.specs.declared.Refusal.the-variants.{Commitment, Response}
 use Rattle.answers.specs.Checks.{checks}
 use Rattle.parameters.specs.declared.Parameters.{Parameters}
 use Rattle.parameters.specs.Limits.{Within}
-use Rattle.exchange.specs.Layout.{bits, side, levels, leaves, shareLength, message5Length}
+use Rattle.layout.specs.Layout.{bits, side, levels, leaves, shareLength, message5Length}
 use Rattle.exchange.specs.Sequences.Laws.{joined-ext}
 use Rattle.exchange.specs.Leaf.{share}
 use Rattle.exchange.specs.Values.{Key}
@@ -72,11 +72,11 @@ module _ (p : Parameters) (m1 m2 m3 : List ℕ) (leaf : ℕ) (m5 : List ℕ) whe
     area = filled p (take 32 m1) (openedStates p e) leaf (auxIn p m5)
 
     front : List ℕ
-    front = take ((p .d + 1) * shareLength p) area
+    front = take ((p .axes + 1) * shareLength p) area
 
-    in-front : (j : ℕ) → j < p .d + 1 → part front (j * shareLength p) (shareLength p) ≡ part area (j * shareLength p) (shareLength p)
+    in-front : (j : ℕ) → j < p .axes + 1 → part front (j * shareLength p) (shareLength p) ≡ part area (j * shareLength p) (shareLength p)
     unfolding front
-    in-front j h = part-front area ((p .d + 1) * shareLength p) (j * shareLength p) (shareLength p) (part-fits j (p .d + 1) (shareLength p) h)
+    in-front j h = part-front area ((p .axes + 1) * shareLength p) (j * shareLength p) (shareLength p) (part-fits j (p .axes + 1) (shareLength p) h)
 
     -- the shares of disclosed leaves
     shares-are : (j c : ℕ)
@@ -87,12 +87,12 @@ module _ (p : Parameters) (m1 m2 m3 : List ℕ) (leaf : ℕ) (m5 : List ℕ) whe
         (λ i l picked. ap (λ (st : List ℕ). share SHAKE256 p (take 32 m1) i st (auxIn p m5))
         (state-is i l (eqb-false i leaf (not-true (eqb i leaf) (and-right (partyOf p j c i) (not (eqb i leaf)) picked)))))
 
-    made-parties : (j c : ℕ) → j < p .d → c < side p → partyFrom p front j c ≡ disclosed SHAKE256 p e j c
+    made-parties : (j c : ℕ) → j < p .axes → c < side p → partyFrom p front j c ≡ disclosed SHAKE256 p e j c
     unfolding partyFrom bits area
     made-parties j zero hj hc =
         in-front j (omega arith) ∙ front-first p within (take 32 m1) (openedStates p e) leaf (auxIn p m5) known j hj ∙ shares-are j 0
     made-parties j (suc zero) hj hc =
-        ap₂ xorList (in-front (p .d) (omega arith)) (in-front j (omega arith))
+        ap₂ xorList (in-front (p .axes) (omega arith)) (in-front j (omega arith))
         ∙ front-second p within (take 32 m1) (openedStates p e) leaf (auxIn p m5) known j hj ∙ shares-are j 1
     made-parties j (suc (suc c)) hj hc = absurd (omega arith)
 
@@ -100,7 +100,7 @@ module _ (p : Parameters) (m1 m2 m3 : List ℕ) (leaf : ℕ) (m5 : List ℕ) whe
       pub made-rows : rowsFrom p key (take 32 m1) m2 (openedStates p (exchange m1 m2 m3 leaf m5)) leaf (valuesIn p m5) (auxIn p m5) ≡ openedRows p (exchange m1 m2 m3 leaf m5) key
       unfolding rowsFrom announcedFrom openedRows openedRow front area exchange
       made-rows =
-          joined-ext (rowOf p key m2 front leaf (valuesIn p m5)) (openedRow p e key) (p .d)
+          joined-ext (rowOf p key m2 front leaf (valuesIn p m5)) (openedRow p e key) (p .axes)
           (opened-row SHAKE256 p e key front (valuesIn p m5) below values made-parties)
         where
           values : valuesIn p m5 ≡ part m5 (16 * levels p + 32) (8 * p .t)

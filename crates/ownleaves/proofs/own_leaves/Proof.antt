@@ -6,7 +6,7 @@ use lib.ListN.{length, drop}
 use native.Mathlib.Omega.{arith}
 use borrow.Author.Needs.{needs}
 use Rattle.encoding.specs.Written.{front-length, front-kept}
-use Rattle.exchange.specs.Layout.{workLength}
+use Rattle.layout.specs.Layout.{workLength}
 use Rattle.auxiliary.specs.Auxiliary.{auxFor}
 use Rattle.ownleaves.specs.Own.{sumOf}
 use Rattle.ownleaves.specs.Own.Laws.{share-fits, aux-made, zeroed-whole}

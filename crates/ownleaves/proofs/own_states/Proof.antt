@@ -4,8 +4,8 @@ use Prim.Native.Nat.{_*_}
 use native.Mathlib.Omega.{arith}
 use borrow.Author.Needs.{needs}
 use lib.ListN.{length-take, length-drop}
-use Rattle.exchange.specs.Layout.Laws.{leaves-is}
-use Rattle.leaves.specs.Shapes.Laws.{leaves-most}
+use Rattle.layout.specs.Layout.Laws.{leaves-is}
+use Rattle.layout.specs.Layout.Bounds.{leaves-most}
 use Rattle.leafstates.specs.States.{statesOf}
 use Rattle.leafstates.specs.States.Seeds.{half-back}
 use Rattle.ownleaves.specs.Own.{ownStates}
@@ -16,7 +16,7 @@ leaf-seeds-requires : tie.Need-leaf-seeds-requires
 leaf-seeds-requires c κs =
     let s : tie.Start = search in
     let n = leaves-is (s .args .p) in
-    record { levels = s .pre .within .d-most; seed = s .pre .root-is; size = simp (length-take, length-drop) (omega arith) }
+    record { levels = s .pre .within .axes-most; seed = s .pre .root-is; size = simp (length-take, length-drop) (omega arith) }
 
 returns : tie.Need-returns
 unfolding ownStates

@@ -17,7 +17,7 @@ use Rattle.lists.specs.Zeroed.Laws.{zeroed-all}
 use Rattle.shake256.specs.Fips.{SHAKE256}
 use Rattle.parameters.specs.declared.Parameters.{Parameters}
 use Rattle.parameters.specs.Limits.{Within}
-use Rattle.exchange.specs.Layout.{leaves, auxLength, shareLength, workLength}
+use Rattle.layout.specs.Layout.{leaves, auxLength, shareLength, workLength}
 use Rattle.exchange.specs.Leaf.{share}
 use Rattle.exchange.specs.Parties.Laws.{total-ext}
 use Rattle.exchange.specs.Messages.{ownState, drawn, ownAux}

@@ -45,8 +45,8 @@ returns-11 c =
       k-most = omega arith;
       w-least = omega arith;
       w-most = omega arith;
-      d-least = omega arith;
-      d-most = omega arith;
+      axes-least = omega arith;
+      axes-most = omega arith;
       t-least = omega arith;
       t-most = omega arith;
     }))

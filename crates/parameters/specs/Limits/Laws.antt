@@ -19,8 +19,8 @@ within-test p h =
       lt-ltb _ _ (h .k-most),
       le-leb _ _ (h .w-least),
       le-leb _ _ (h .w-most),
-      le-leb _ _ (h .d-least),
-      le-leb _ _ (h .d-most),
+      le-leb _ _ (h .axes-least),
+      le-leb _ _ (h .axes-most),
       le-leb _ _ (h .t-least),
       le-leb _ _ (h .t-most),
     )
@@ -36,8 +36,8 @@ test-within p e =
       k-most = ltb-true (p .k) (p .m) (so 3);
       w-least = leb-true 1 (p .w) (so 4);
       w-most = leb-true (p .w) (p .m) (so 5);
-      d-least = leb-true 1 (p .d) (so 6);
-      d-most = leb-true (p .d) 8 (so 7);
+      axes-least = leb-true 1 (p .axes) (so 6);
+      axes-most = leb-true (p .axes) 8 (so 7);
       t-least = leb-true 1 (p .t) (so 8);
       t-most = leb-true (p .t) 8 (so 9);
     }

@@ -5,17 +5,17 @@ use Prim.Native.Nat.{ℕ, _-_, _≤_}
 use native.Mathlib.Omega.{arith}
 use lib.ListN.{length}
 use Rattle.lists.specs.Sum.{xorAt}
-use Rattle.exchange.specs.Layout.{digit}
+use Rattle.layout.specs.Layout.{digit}
 use Rattle.parties.specs.Sums.{place}
 use Rattle.parties.specs.Sums.Adding.{addedTo, added-none, added-more, added-all}
 use Rattle.parties.proofs.add_leaf.Statement.{statement}
 use Rattle.parties.proofs.add_leaf.Tie as tie
 
 abbrev Inv-loop : tie.InvT-loop
-Inv-loop p leaf share parts₀ axis₀ parts axis = (axis ≤ p .d) × (parts ≡ addedTo p leaf share parts₀ axis) × (length parts ≡ length parts₀)
+Inv-loop p leaf share parts₀ axis₀ parts axis = (axis ≤ p .axes) × (parts ≡ addedTo p leaf share parts₀ axis) × (length parts ≡ length parts₀)
 
 abbrev μ-loop : tie.MeasureT-loop
-μ-loop p leaf share parts₀ axis₀ parts axis = p .d - axis
+μ-loop p leaf share parts₀ axis₀ parts axis = p .axes - axis
 
 loop-holds : tie.Need-loop-holds Inv-loop μ-loop
 loop-holds c =
@@ -38,7 +38,7 @@ add-to-party-requires c κs =
 add-axis : tie.Need-add-axis Inv-loop μ-loop
 add-axis c =
     let start = c .before .before .before .before .before .before .before .before .before in
-    omega (arith, start .pre .area .within .d-most, c .before .before .before .before .if1 .taken)
+    omega (arith, start .pre .area .within .axes-most, c .before .before .before .before .if1 .taken)
 
 loop-less : tie.Need-loop-less Inv-loop μ-loop
 loop-less c = omega (arith, c .before .before .before .before .if1 .taken)
@@ -67,7 +67,7 @@ returns : tie.Need-returns Inv-loop μ-loop
 returns c =
     let head = c .before .before .loop in
     let args = c .before .before .before .before .before .args in
-    let last : head .axis ≡ args .p .d = omega (arith, c .if1 .left, head .inv .0) in
+    let last : head .axis ≡ args .p .axes = omega (arith, c .if1 .left, head .inv .0) in
     head .inv .1 ∙ ap (addedTo (args .p) (args .leaf) (args .share .now) (args .parts .now)) last
     ∙ added-all (args .p) (args .leaf) (args .share .now) (args .parts .now)
 

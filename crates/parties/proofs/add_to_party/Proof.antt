@@ -7,8 +7,8 @@ use lib.ListN.{length}
 use Rattle.lists.specs.Part.{part, putAt}
 use Rattle.lists.specs.Part.Laws.{lent-back}
 use Rattle.lists.specs.Sum.{xorList, xorAt}
-use Rattle.exchange.specs.Layout.{digit}
-use Rattle.exchange.specs.Layout.Laws.{digit-lt}
+use Rattle.layout.specs.Layout.{digit}
+use Rattle.layout.specs.Layout.Laws.{digit-lt}
 use Rattle.parties.specs.Sums.{place}
 use Rattle.parties.specs.Sums.Laws.{party-fits}
 use Rattle.parties.proofs.add_to_party.Statement.{statement}

@@ -2,7 +2,7 @@
 use mathlib.Core.Path.{sym, _∙_}
 use borrow.Author.Needs.{needs}
 use lib.Bits.{and-mask}
-use Rattle.exchange.specs.Layout.Laws.{digit-bit}
+use Rattle.layout.specs.Layout.Laws.{digit-bit}
 use Rattle.parties.proofs.coordinate.Statement.{statement}
 use Rattle.parties.proofs.coordinate.Tie as tie
 

@@ -9,7 +9,7 @@ use lib.Dec.{eqb}
 use lib.ListN.{length, replicate, length-replicate}
 use Rattle.lists.specs.Zeroed.Laws.{zeroed-all}
 use Rattle.parameters.specs.declared.Parameters.{Parameters}
-use Rattle.exchange.specs.Layout.{leaves, workLength}
+use Rattle.layout.specs.Layout.{leaves, workLength}
 use Rattle.parties.specs.Sums.{addedLeaf}
 use Rattle.parties.specs.Sums.Leaves.{sumsTo, sums-none, sums-more, sums-all}
 use Rattle.parties.specs.Drawn.{drawnShare}

@@ -8,12 +8,12 @@ use Rattle.parties.specs.Sums.Laws.{index-small, party-fits, work-small}
 use Rattle.parties.proofs.place.Statement.{statement}
 use Rattle.parties.proofs.place.Tie as tie
 
-index : (start : tie.Start) → start .args .party * start .args .p .d + start .args .axis < 16
+index : (start : tie.Start) → start .args .party * start .args .p .axes + start .args .axis < 16
 index start = index-small (start .args .p) (start .pre .within) (start .args .axis) (start .args .party) (start .pre .axis) (start .pre .party)
 
 returns : tie.Need-returns
 unfolding place
-returns c = let args = c .before .before .args in ap (_*_ (args .party * args .p .d + args .axis)) (c .share-length .ensures)
+returns c = let args = c .before .before .args in ap (_*_ (args .party * args .p .axes + args .axis)) (c .share-length .ensures)
 
 mul-result-2 : tie.Need-mul-result-2
 unfolding place

@@ -9,7 +9,7 @@ use lib.Seq.{length-take-le}
 use Rattle.lists.specs.Part.{part, putAt}
 use Rattle.lists.specs.Part.Laws.{part-putAt-same}
 use Rattle.lists.specs.Sum.{xorAt}
-use Rattle.exchange.specs.Layout.{shareLength}
+use Rattle.layout.specs.Layout.{shareLength}
 use Rattle.parties.specs.Sums.Laws.{second-fits, work-small}
 use Rattle.parties.proofs.put_total.Statement.{statement}
 use Rattle.parties.proofs.put_total.Tie as tie
@@ -40,7 +40,7 @@ mul-xor-at c =
     let sized = c .before .before .before .before .before .before in
     let start = sized .before .before in
     let p = start .args .p in
-    omega (arith, ap (_*_ (p .d)) (sized .share-length .ensures), second-fits p (start .pre .within), work-small p (start .pre .within))
+    omega (arith, ap (_*_ (p .axes)) (sized .share-length .ensures), second-fits p (start .pre .within), work-small p (start .pre .within))
 
 copy-length : (c : tie.After-first3) → let n = c .before .before .before .before .before .before .before .share-length .result in length (take n (c .before .before .before .before .put-at .last .0)) ≡ n
 copy-length c =
@@ -53,7 +53,7 @@ xor-at-requires c κs =
     let sized = c .before .before .before .before .before .before .before in
     let start = sized .before .before in
     let p = start .args .p in
-    omega (arith, copy-length c, sized .share-length .ensures, ap (_*_ (p .d)) (sized .share-length .ensures), second-fits p (start .pre .within), start .pre .room)
+    omega (arith, copy-length c, sized .share-length .ensures, ap (_*_ (p .axes)) (sized .share-length .ensures), second-fits p (start .pre .within), start .pre .room)
 
 returns : tie.Need-returns
 returns c =
@@ -65,7 +65,7 @@ returns c =
     let n = sized .share-length .result in
     let is : n ≡ shareLength p = sized .share-length .ensures in
     c .before .before .xor-at .ensures
-    ∙ ap₂ (xorAt d) (ap (_*_ (p .d)) is)
+    ∙ ap₂ (xorAt d) (ap (_*_ (p .axes)) is)
     (ap (take n) (put .put-at .ensures) ∙ copied _ d n (there sized) (room sized) ∙ ap (part d 0) is)
 
 pub put-total-spec : {M : Type 1} → statement M

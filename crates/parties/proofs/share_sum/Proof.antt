@@ -10,7 +10,7 @@ use lib.ListN.{length, replicate, length-replicate}
 use Rattle.lists.specs.Sum.{xorList}
 use Rattle.lists.specs.Zeroed.Laws.{zeroed-all}
 use Rattle.parameters.specs.declared.Parameters.{Parameters}
-use Rattle.exchange.specs.Layout.{leaves, shareLength}
+use Rattle.layout.specs.Layout.{leaves, shareLength}
 use Rattle.exchange.specs.Parties.{total}
 use Rattle.exchange.specs.Parties.Laws.{total-yes}
 use Rattle.parties.specs.Drawn.{drawnShare}

@@ -17,15 +17,15 @@ use Rattle.shake256.specs.Fips.{SHAKE256}
 use Rattle.shake256.proofs.Laws.{length-SHAKE256}
 use Rattle.parameters.specs.declared.Parameters.{Parameters}
 use Rattle.parameters.specs.Limits.{Within}
-use Rattle.exchange.specs.Layout.{leaves, isLast, shareLength}
-use Rattle.exchange.specs.Layout.Laws.{leaves-is}
+use Rattle.layout.specs.Layout.{leaves, isLast, shareLength}
+use Rattle.layout.specs.Layout.Bounds.{leaves-most}
 use Rattle.exchange.specs.Strings.{string3}
 use Rattle.exchange.specs.Leaf.{share}
 use Rattle.leaves.specs.States.{stateAt}
 use Rattle.parties.specs.Drawn.{drawnLength, drawnShare}
 
 pub leaves-small : (p : Parameters) → Within p → leaves p ≤ 256
-leaves-small p h = rw (leaves-is p) (pow-mono (h .d-most))
+leaves-small p h = leaves-most p h
 
 pub drawnLength-le : (p : Parameters) (i : ℕ) → drawnLength p i ≤ shareLength p
 unfolding drawnLength

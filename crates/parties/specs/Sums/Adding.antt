@@ -16,8 +16,8 @@ use Rattle.lists.specs.Part.Laws.{length-part}
 use Rattle.lists.specs.Sum.{xorList, xorAt}
 use Rattle.lists.specs.Sum.Laws.{length-xorList}
 use Rattle.parameters.specs.declared.Parameters.{Parameters}
-use Rattle.exchange.specs.Layout.{side, digit, shareLength, workLength}
-use Rattle.exchange.specs.Layout.Laws.{digit-lt}
+use Rattle.layout.specs.Layout.{side, digit, shareLength, workLength}
+use Rattle.layout.specs.Layout.Laws.{digit-lt}
 use Rattle.exchange.specs.Parties.{partyOf}
 use Rattle.parties.specs.Sums.{place, partyAt, allParties, addedLeaf}
 use Rattle.parties.specs.Sums.Laws.{party-fits, parties-ext, parties-parts, parties-added}
@@ -35,11 +35,11 @@ module _ (p : Parameters) (i : ℕ) (s d : List ℕ) where
   unfoldable pub addedTo : ℕ → List ℕ
   addedTo a = allParties p (λ j c. cond (ltb j a && partyOf p j c i) (xorList (partyAt p d j c) s) (partyAt p d j c))
 
-  pub added-all : addedTo (p .d) ≡ addedLeaf p i s d
+  pub added-all : addedTo (p .axes) ≡ addedLeaf p i s d
   unfolding addedTo addedLeaf
   added-all =
       parties-ext p _ _
-      (λ j c hj hc. ap (λ (t : Bool). picked (t && partyOf p j c i) (partyAt p d j c) s) (lt-ltb j (p .d) hj))
+      (λ j c hj hc. ap (λ (t : Bool). picked (t && partyOf p j c i) (partyAt p d j c) s) (lt-ltb j (p .axes) hj))
 
   module _ (area : length d ≡ workLength p) where
     pub added-none : d ≡ addedTo 0
@@ -49,14 +49,14 @@ module _ (p : Parameters) (i : ℕ) (s d : List ℕ) where
         ∙ parties-ext p _ _
         (λ j c hj hc. ap (λ (t : Bool). picked (t && partyOf p j c i) (partyAt p d j c) s) (sym (le-ltb j 0 (omega arith))))
 
-    sized : (a j c : ℕ) → j < p .d → c < side p → length s ≤ shareLength p
+    sized : (a j c : ℕ) → j < p .axes → c < side p → length s ≤ shareLength p
         → length (cond (ltb j a && partyOf p j c i) (xorList (partyAt p d j c) s) (partyAt p d j c)) ≡ shareLength p
     unfolding partyAt
     sized a j c hj hc h =
         let e : length (partyAt p d j c) ≡ shareLength p = length-part d (place p j c) (shareLength p) (omega (arith, party-fits p j c hj hc)) in
         length-picked (ltb j a && partyOf p j c i) (partyAt p d j c) s (omega arith) ∙ e
 
-    pub added-more : (a : ℕ) → a < p .d → length s ≤ shareLength p → xorAt (addedTo a) (place p a (digit p a i)) s ≡ addedTo (a + 1)
+    pub added-more : (a : ℕ) → a < p .axes → length s ≤ shareLength p → xorAt (addedTo a) (place p a (digit p a i)) s ≡ addedTo (a + 1)
     unfolding addedTo partyOf
     added-more a l h =
         parties-added p _ (λ j c hj hc. sized a j c hj hc h) s a (digit p a i) h l (digit-lt p a i)

@@ -26,8 +26,8 @@ use Rattle.shake256.specs.Fips.{SHAKE256}
 use Rattle.shake256.proofs.Laws.{length-SHAKE256}
 use Rattle.parameters.specs.declared.Parameters.{Parameters}
 use Rattle.parameters.specs.Limits.{Within}
-use Rattle.exchange.specs.Layout.{bits, side, leaves, auxLength, shareLength, workLength}
-use Rattle.exchange.specs.Layout.Laws.{side-pos}
+use Rattle.layout.specs.Layout.{bits, side, leaves, auxLength, shareLength, workLength}
+use Rattle.layout.specs.Layout.Laws.{side-pos}
 use Rattle.exchange.specs.Leaf.{share}
 use Rattle.exchange.specs.Leaf.Laws.{length-share-le}
 use Rattle.exchange.specs.Parties.{total}
@@ -48,28 +48,28 @@ part-front w m at n h = part-part w 0 m at n h ∙ ap (λ (k : ℕ). part w k n)
 -- ---- what is added
 
 module _ (p : Parameters) (within : Within p) (d : List ℕ) (area : length d ≡ workLength p) where
-  blocks : length d ≡ side p * p .d * shareLength p
+  blocks : length d ≡ side p * p .axes * shareLength p
   blocks = area ∙ work-is p
 
-  second-lt : p .d < side p * p .d
+  second-lt : p .axes < side p * p .axes
   unfolding bits
-  second-lt = let h = within .d-least in omega arith
+  second-lt = let h = within .axes-least in omega arith
 
-  first-lt : (j : ℕ) → j < p .d → j < side p * p .d
+  first-lt : (j : ℕ) → j < p .axes → j < side p * p .axes
   first-lt j h = let k = second-lt in omega arith
 
   first-length : length (part d 0 (shareLength p)) ≡ shareLength p
   first-length = length-part d 0 (shareLength p) (omega (arith, second-fits p within))
 
-  pub total-first : (j : ℕ) → j < p .d → part (withTotal p d) (j * shareLength p) (shareLength p) ≡ part d (j * shareLength p) (shareLength p)
+  pub total-first : (j : ℕ) → j < p .axes → part (withTotal p d) (j * shareLength p) (shareLength p) ≡ part d (j * shareLength p) (shareLength p)
   total-first j h =
-      part-kept d (part d 0 (shareLength p)) (shareLength p) (side p * p .d) (p .d) j (omega (arith, first-length)) blocks second-lt (first-lt j h) (λ e. omega arith)
+      part-kept d (part d 0 (shareLength p)) (shareLength p) (side p * p .axes) (p .axes) j (omega (arith, first-length)) blocks second-lt (first-lt j h) (λ e. omega arith)
 
-  pub total-second : part (withTotal p d) (p .d * shareLength p) (shareLength p) ≡ xorList (part d (p .d * shareLength p) (shareLength p)) (part d 0 (shareLength p))
-  total-second = part-added d (p .d * shareLength p) (part d 0 (shareLength p)) (shareLength p) (omega (arith, first-length)) (omega (arith, second-fits p within))
+  pub total-second : part (withTotal p d) (p .axes * shareLength p) (shareLength p) ≡ xorList (part d (p .axes * shareLength p) (shareLength p)) (part d 0 (shareLength p))
+  total-second = part-added d (p .axes * shareLength p) (part d 0 (shareLength p)) (shareLength p) (omega (arith, first-length)) (omega (arith, second-fits p within))
 
   pub length-withTotal : length (withTotal p d) ≡ workLength p
-  length-withTotal = length-xorAt d (p .d * shareLength p) (part d 0 (shareLength p)) (omega (arith, first-length, second-fits p within)) ∙ area
+  length-withTotal = length-xorAt d (p .axes * shareLength p) (part d 0 (shareLength p)) (omega (arith, first-length, second-fits p within)) ∙ area
 
   module _ (aux : List ℕ) (short : length aux ≤ auxLength p) where
     padded : List ℕ
@@ -79,22 +79,22 @@ module _ (p : Parameters) (within : Within p) (d : List ℕ) (area : length d �
     unfolding padded
     length-padded = length-append (replicate (8 * p .t) 0) aux ∙ ap (λ (n : ℕ). n + length aux) (length-replicate (8 * p .t) 0)
 
-    inner : withAux p d aux ≡ xorAt d (p .d * shareLength p) padded
+    inner : withAux p d aux ≡ xorAt d (p .axes * shareLength p) padded
     unfolding padded
-    inner = xorAt-inner d (p .d * shareLength p) (8 * p .t) aux (omega (arith, second-fits p within))
+    inner = xorAt-inner d (p .axes * shareLength p) (8 * p .t) aux (omega (arith, second-fits p within))
 
-    pub aux-first : (j : ℕ) → j < p .d → part (withAux p d aux) (j * shareLength p) (shareLength p) ≡ part d (j * shareLength p) (shareLength p)
+    pub aux-first : (j : ℕ) → j < p .axes → part (withAux p d aux) (j * shareLength p) (shareLength p) ≡ part d (j * shareLength p) (shareLength p)
     aux-first j h =
         ap (λ (l : List ℕ). part l (j * shareLength p) (shareLength p)) inner
-        ∙ part-kept d padded (shareLength p) (side p * p .d) (p .d) j (omega (arith, length-padded)) blocks second-lt (first-lt j h) (λ e. omega arith)
+        ∙ part-kept d padded (shareLength p) (side p * p .axes) (p .axes) j (omega (arith, length-padded)) blocks second-lt (first-lt j h) (λ e. omega arith)
 
-    pub aux-second : part (withAux p d aux) (p .d * shareLength p) (shareLength p) ≡ xorAt (part d (p .d * shareLength p) (shareLength p)) (8 * p .t) aux
+    pub aux-second : part (withAux p d aux) (p .axes * shareLength p) (shareLength p) ≡ xorAt (part d (p .axes * shareLength p) (shareLength p)) (8 * p .t) aux
     unfolding padded
     aux-second =
-        let size : length (part d (p .d * shareLength p) (shareLength p)) ≡ shareLength p = length-part d (p .d * shareLength p) (shareLength p) (omega (arith, second-fits p within)) in
-        ap (λ (l : List ℕ). part l (p .d * shareLength p) (shareLength p)) inner
-        ∙ part-added d (p .d * shareLength p) padded (shareLength p) (omega (arith, length-padded)) (omega (arith, second-fits p within))
-        ∙ sym (xorAt-zeros (part d (p .d * shareLength p) (shareLength p)) (8 * p .t) aux (omega arith))
+        let size : length (part d (p .axes * shareLength p) (shareLength p)) ≡ shareLength p = length-part d (p .axes * shareLength p) (shareLength p) (omega (arith, second-fits p within)) in
+        ap (λ (l : List ℕ). part l (p .axes * shareLength p) (shareLength p)) inner
+        ∙ part-added d (p .axes * shareLength p) padded (shareLength p) (omega (arith, length-padded)) (omega (arith, second-fits p within))
+        ∙ sym (xorAt-zeros (part d (p .axes * shareLength p) (shareLength p)) (8 * p .t) aux (omega arith))
 
 -- ---- the sums
 
@@ -103,7 +103,7 @@ module _ (p : Parameters) (s : ℕ → List ℕ) (hidden : ℕ) (short : (i : �
   unfolding partySums
   length-sums = length-parties p _ (λ j c hj hc. length-party p s hidden short (leaves p) j c)
 
-  pub sums-party : (j c : ℕ) → j < p .d → c < side p
+  pub sums-party : (j c : ℕ) → j < p .axes → c < side p
       → part (partySums p s hidden) (place p j c) (shareLength p) ≡ total p (disclosedOf p hidden j c) s (leaves p)
   unfolding partySums partyAt
   sums-party j c hj hc = part-parties p _ (λ j c hj hc. length-party p s hidden short (leaves p) j c) j c hj hc
@@ -139,12 +139,12 @@ module _ (p : Parameters) (within : Within p) (prefix states : List ℕ) (hidden
   long : length (withTotal p sums) ≡ workLength p
   long = length-withTotal p within sums (length-sums p drawn hidden short)
 
-  first : (j : ℕ) → j < p .d → part sums (j * shareLength p) (shareLength p) ≡ total p (disclosedOf p hidden j 0) drawn (leaves p)
+  first : (j : ℕ) → j < p .axes → part sums (j * shareLength p) (shareLength p) ≡ total p (disclosedOf p hidden j 0) drawn (leaves p)
   first j h = ap (λ (n : ℕ). part sums n (shareLength p)) (sym (first-place p j)) ∙ sums-party p drawn hidden short j 0 h (side-pos p)
 
-  second : part sums (p .d * shareLength p) (shareLength p) ≡ total p (disclosedOf p hidden 0 1) drawn (leaves p)
+  second : part sums (p .axes * shareLength p) (shareLength p) ≡ total p (disclosedOf p hidden 0 1) drawn (leaves p)
   unfolding bits
-  second = ap (λ (n : ℕ). part sums n (shareLength p)) (sym (second-place p)) ∙ sums-party p drawn hidden short 0 1 (within .d-least) (lit< tt)
+  second = ap (λ (n : ℕ). part sums n (shareLength p)) (sym (second-place p)) ∙ sums-party p drawn hidden short 0 1 (within .axes-least) (lit< tt)
 
   -- aux in the sum of all disclosed leaves
   with-aux : Dec (hidden ≡ leaves p - 1)
@@ -157,7 +157,7 @@ module _ (p : Parameters) (within : Within p) (prefix states : List ℕ) (hidden
       ∙ total-without-aux SHAKE256 p prefix (stateAt states) [] aux hidden e
   with-aux (no e) = sym (total-with-aux SHAKE256 p prefix (stateAt states) length-SHAKE256 aux hidden e (known .short))
 
-  pub front-first : (j : ℕ) → j < p .d
+  pub front-first : (j : ℕ) → j < p .axes
       → part (filled p prefix states hidden aux) (j * shareLength p) (shareLength p) ≡ total p (disclosedOf p hidden j 0) (λ i. share SHAKE256 p prefix i (stateAt states i) aux) (leaves p)
   unfolding drawnShare
   front-first j h =
@@ -166,18 +166,18 @@ module _ (p : Parameters) (within : Within p) (prefix states : List ℕ) (hidden
       ∙ first j h
       ∙ first-without-aux SHAKE256 p prefix (stateAt states) [] aux hidden j h
 
-  pub front-total : part (filled p prefix states hidden aux) (p .d * shareLength p) (shareLength p) ≡ total p (λ i. not (eqb i hidden)) (λ i. share SHAKE256 p prefix i (stateAt states i) aux) (leaves p)
+  pub front-total : part (filled p prefix states hidden aux) (p .axes * shareLength p) (shareLength p) ≡ total p (λ i. not (eqb i hidden)) (λ i. share SHAKE256 p prefix i (stateAt states i) aux) (leaves p)
   front-total =
       aux-second p within (withTotal p sums) long aux (known .short)
       ∙ ap (λ (l : List ℕ). xorAt l (8 * p .t) aux)
       (total-second p within sums (length-sums p drawn hidden short)
-      ∙ ap₂ xorList second (ap (λ (n : ℕ). part sums n (shareLength p)) (sym (zero-mul (shareLength p))) ∙ first 0 (within .d-least))
+      ∙ ap₂ xorList second (ap (λ (n : ℕ). part sums n (shareLength p)) (sym (zero-mul (shareLength p))) ∙ first 0 (within .axes-least))
       ∙ xorList-comm (total p (disclosedOf p hidden 0 1) drawn (leaves p)) (total p (disclosedOf p hidden 0 0) drawn (leaves p))
       ∙ both-parties p drawn hidden 0 (leaves p))
       ∙ with-aux (ℕ-discrete hidden (leaves p - 1))
 
-  pub front-second : (j : ℕ) → j < p .d
-      → xorList (part (filled p prefix states hidden aux) (p .d * shareLength p) (shareLength p)) (part (filled p prefix states hidden aux) (j * shareLength p) (shareLength p))
+  pub front-second : (j : ℕ) → j < p .axes
+      → xorList (part (filled p prefix states hidden aux) (p .axes * shareLength p) (shareLength p)) (part (filled p prefix states hidden aux) (j * shareLength p) (shareLength p))
       ≡ total p (disclosedOf p hidden j 1) (λ i. share SHAKE256 p prefix i (stateAt states i) aux) (leaves p)
   front-second j h =
       ap₂ xorList (front-total ∙ sym (both-parties p shares hidden j (leaves p))) (front-first j h)

@@ -12,7 +12,7 @@ use lib.Dec.{eqb}
 use lib.ListN.{length, replicate}
 use Rattle.lists.specs.Sum.{xorList}
 use Rattle.parameters.specs.declared.Parameters.{Parameters}
-use Rattle.exchange.specs.Layout.{leaves, shareLength, workLength}
+use Rattle.layout.specs.Layout.{leaves, shareLength, workLength}
 use Rattle.exchange.specs.Parties.{total, partyOf}
 use Rattle.exchange.specs.Parties.Laws.{total-no, length-total}
 use Rattle.parties.specs.Totals.{disclosedOf}

@@ -17,7 +17,7 @@ use Rattle.lists.specs.Sum.{xorList}
 use Rattle.lists.specs.Sum.Laws.{xorList-nil}
 use Rattle.tower.specs.Field.{Point, point, bytesOf, point-bytesOf}
 use Rattle.parameters.specs.declared.Parameters.{Parameters}
-use Rattle.exchange.specs.Layout.{side, leaves, digit}
+use Rattle.layout.specs.Layout.{side, leaves, digit}
 use Rattle.exchange.specs.Reading.{points, pointAt, encode, _⊞_}
 use Rattle.exchange.specs.Reading.Laws.{length-encode, encode-ext, pointAt-encode}
 use Rattle.exchange.specs.Values.{Key, alpha, beta, partV}

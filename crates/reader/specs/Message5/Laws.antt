@@ -15,13 +15,13 @@ use lib.ListN.{length, length-drop, drop-of-length-le}
 use lib.Seq.{length-take-le}
 use Rattle.lists.specs.Part.Laws.{length-part}
 use Rattle.parameters.specs.declared.Parameters.{Parameters}
-use Rattle.exchange.specs.Layout.{bits, levels, leaves, isLast, auxLength, message5Length}
-use Rattle.exchange.specs.Layout.Laws.{isLast-true}
+use Rattle.layout.specs.Layout.{bits, levels, leaves, isLast, auxLength, message5Length}
+use Rattle.layout.specs.Layout.Laws.{isLast-true}
 use Rattle.reader.specs.Message5.{commitmentPlace, valuesPlace, auxPlace, siblingsIn, commitmentIn, valuesIn, auxIn}
 
-pub siblings-end : (p : Parameters) → commitmentPlace p ≡ 16 * p .d
+pub siblings-end : (p : Parameters) → commitmentPlace p ≡ 16 * p .axes
 unfolding bits
-siblings-end p = ap (λ (n : ℕ). 16 * n) (one-mul (p .d))
+siblings-end p = ap (λ (n : ℕ). 16 * n) (one-mul (p .axes))
 
 module _ (p : Parameters) (leaf : ℕ) (m5 : List ℕ) (long : length m5 ≡ message5Length p leaf) where
   whole : length m5 ≡ auxPlace p + cond (isLast p leaf) 0 (auxLength p)

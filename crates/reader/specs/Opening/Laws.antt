@@ -18,7 +18,7 @@ use Rattle.lists.specs.Part.{part, putAt}
 use Rattle.lists.specs.Part.Laws.{length-part}
 use Rattle.parameters.specs.declared.Parameters.{Parameters}
 use Rattle.parameters.specs.Limits.{Within}
-use Rattle.exchange.specs.Layout.{message5Length}
+use Rattle.layout.specs.Layout.{message5Length}
 use Rattle.reader.specs.Message5.{commitmentPlace, valuesPlace, auxPlace, siblingsIn, commitmentIn, valuesIn, auxIn}
 use Rattle.reader.specs.Message5.Laws.{siblings-end, length-siblingsIn, length-valuesIn}
 use Rattle.reader.specs.Taken.{taken, behind}
@@ -40,8 +40,8 @@ room-asked p within m5 s c v long in-s in-c in-v = record {
 
 -- what is read stands in the fronts, where message 5 has its length
 module _ (p : Parameters) (leaf : ℕ) (m5 : List ℕ) (long : length m5 ≡ message5Length p leaf) where
-  pub siblings-front : (w : List ℕ) {w′ : List ℕ} → w′ ≡ putAt w 0 (siblingsIn p m5) → take (16 * p .d) w′ ≡ siblingsIn p m5
-  siblings-front w e = ap (take (16 * p .d)) e ∙ front-is w (siblingsIn p m5) (16 * p .d) (length-siblingsIn p leaf m5 long ∙ siblings-end p)
+  pub siblings-front : (w : List ℕ) {w′ : List ℕ} → w′ ≡ putAt w 0 (siblingsIn p m5) → take (16 * p .axes) w′ ≡ siblingsIn p m5
+  siblings-front w e = ap (take (16 * p .axes)) e ∙ front-is w (siblingsIn p m5) (16 * p .axes) (length-siblingsIn p leaf m5 long ∙ siblings-end p)
 
   pub values-front : (w : List ℕ) {w′ : List ℕ} → w′ ≡ putAt w 0 (valuesIn p m5) → take (8 * p .t) w′ ≡ valuesIn p m5
   values-front w e = ap (take (8 * p .t)) e ∙ front-is w (valuesIn p m5) (8 * p .t) (length-valuesIn p leaf m5 long)
@@ -68,13 +68,13 @@ front-read m at n w fits long =
 module _ (p : Parameters) (m5 s c v : List ℕ) (asked : Asked p m5 s c v) where
   -- the fronts that are lent
   abbrev seeds : List ℕ
-  seeds = take (16 * p .d) s
+  seeds = take (16 * p .axes) s
 
   abbrev points : List ℕ
   points = take (8 * p .t) v
 
-  pub seeds-length : length seeds ≡ 16 * p .d
-  seeds-length = let e = siblings-end p in length-take-le (16 * p .d) s (omega (arith, asked .siblings-fit))
+  pub seeds-length : length seeds ≡ 16 * p .axes
+  seeds-length = let e = siblings-end p in length-take-le (16 * p .axes) s (omega (arith, asked .siblings-fit))
 
   pub points-length : length points ≡ 8 * p .t
   points-length = length-take-le (8 * p .t) v (asked .values-fit)
@@ -96,12 +96,12 @@ module _ (p : Parameters) (m5 s c v : List ℕ) (asked : Asked p m5 s c v) where
       ap (λ (n : ℕ). behind m5 n points) third-is ∙ behind-whole m5 (valuesPlace p) points (omega (arith, asked .long)) ∙ ap (λ (n : ℕ). valuesPlace p + n) l
 
   module _ {n : ℕ} {s′ c′ v′ : List ℕ} (parts : Parts m5 seeds c points n s′ c′ v′) where
-    pub siblings-read : s′ ++ drop (16 * p .d) s ≡ putAt s 0 (siblingsIn p m5)
+    pub siblings-read : s′ ++ drop (16 * p .axes) s ≡ putAt s 0 (siblingsIn p m5)
     unfolding siblingsIn part
     siblings-read =
         let e = siblings-end p in
-        ap (λ (l : List ℕ). l ++ drop (16 * p .d) s) (parts .siblings-are)
-        ∙ front-read m5 0 (16 * p .d) s (omega (arith, asked .siblings-fit)) (omega (arith, asked .long)) ∙ ap (λ (k : ℕ). putAt s 0 (take k m5)) (sym e)
+        ap (λ (l : List ℕ). l ++ drop (16 * p .axes) s) (parts .siblings-are)
+        ∙ front-read m5 0 (16 * p .axes) s (omega (arith, asked .siblings-fit)) (omega (arith, asked .long)) ∙ ap (λ (k : ℕ). putAt s 0 (take k m5)) (sym e)
 
     pub commitment-read : c′ ≡ commitmentIn p m5
     unfolding commitmentIn

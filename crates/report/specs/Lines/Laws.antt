@@ -48,7 +48,7 @@ regrouped a b c d e f g = simp append-assoc
 
 pub set-written : (d : List ℕ) (p : Parameters) {d₁ d₂ d₃ d₄ d₅ d₆ d₇ : List ℕ} {a b c e f g r : ℕ} → r ≤ length d → Written d 0 setWord a d₁
     → Written d₁ a (numberField (p .m)) b d₂ → Written d₂ b (numberField (p .k)) c d₃ → Written d₃ c (numberField (p .w)) e d₄
-    → Written d₄ e (numberField (p .d)) f d₅ → Written d₅ f (numberField (p .t)) g d₆ → Written d₆ g (10 ∷ []) r d₇ → Written d 0 (setLine p) r d₇
+    → Written d₄ e (numberField (p .axes)) f d₅ → Written d₅ f (numberField (p .t)) g d₆ → Written d₆ g (10 ∷ []) r d₇ → Written d 0 (setLine p) r d₇
 unfolding setLine
 set-written d p {a = a} {b = b} {c = c} {e = e} {f = f} {g = g} {r = r} h v₁ v₂ v₃ v₄ v₅ v₆ v₇ =
     let n₂ = v₂ .next in
@@ -59,7 +59,7 @@ set-written d p {a = a} {b = b} {c = c} {e = e} {f = f} {g = g} {r = r} h v₁ v
     let n₇ = v₇ .next in
     let v = lines-written (omega arith) (lines-written (omega arith) (lines-written (omega arith) v₁ v₂) v₃) v₄ in
     let all = lines-written h (lines-written (omega arith) (lines-written (omega arith) v v₅) v₆) v₇ in
-    written-as (regrouped setWord (numberField (p .m)) (numberField (p .k)) (numberField (p .w)) (numberField (p .d)) (numberField (p .t)) (10 ∷ [])) all
+    written-as (regrouped setWord (numberField (p .m)) (numberField (p .k)) (numberField (p .w)) (numberField (p .axes)) (numberField (p .t)) (10 ∷ [])) all
 
 pub message-written : (d name s : List ℕ) {d₁ d₂ d₃ : List ℕ} {a b r : ℕ} → r ≤ length d → Written d 0 name a d₁
     → Written d₁ a (numberField (length s)) b d₂ → Written d₂ b (resultLine [] (SHAKE256 s 32)) r d₃ → Written d 0 (messageLine name s) r d₃

@@ -4,7 +4,7 @@ use Prim.Native.Nat.{ℕ, _+_, _*_}
 use native.Mathlib.Omega.{arith}
 use lib.ListN.{take}
 use borrow.Author.Needs.{needs}
-use Rattle.exchange.specs.Layout.{workLength}
+use Rattle.layout.specs.Layout.{workLength}
 use Rattle.encoding.specs.Written.{front-length}
 use Rattle.exchange.specs.Values.{keyOf}
 use Rattle.ownleaves.specs.Own.Laws.{zeroed-whole}
@@ -41,7 +41,7 @@ respond-requires c κs =
         parts-are =
             sym (front-length _ (c .before .before .before .before .before .before .before .before .before .fill .last .1 .1 .1 .1 .0)
             (omega (arith, front-fits (s .args .p) (h .within) _ e, c .before .before .before .before .before .before .before .before .before .fill .kept .1 .1 .1 .1 .0, h .area-is)))
-            ∙ ap (λ (n : ℕ). (s .args .p .d + 1) * n) e;
+            ∙ ap (λ (n : ℕ). (s .args .p .axes + 1) * n) e;
         hidden-is = s .pre .2;
         rows-are = s .pre .3;
       },
@@ -58,7 +58,7 @@ returns c =
     let filled = c .before .before .before .before .before .before .before .before .before .before .before .before .before .before .before .before .before .before .fill in
     let key = keyOf (a .matrix .now) (a .y .now) in (
       c .before .before .before .before .before .before .before .before .respond .ensures
-          ∙ ap (λ (n : ℕ). responseOf (a .p) (a .salt .now) key (a .m2 .now) (take ((a .p .d + 1) * n) (filled .last .1 .1 .1 .1 .0)) (a .hidden .now))
+          ∙ ap (λ (n : ℕ). responseOf (a .p) (a .salt .now) key (a .m2 .now) (take ((a .p .axes + 1) * n) (filled .last .1 .1 .1 .1 .0)) (a .hidden .now))
           (c .before .before .before .before .before .before .before .before .before .before .before .before .before .before .share-length .ensures)
           ∙ response-made (a .p) (h .within) (a .x .now) (a .salt .now) (a .root .now) (h .root-is) (filled .last .1 .1 .1 .1 .0) (filled .ensures) key (a .m2 .now)
           (a .hidden .now),

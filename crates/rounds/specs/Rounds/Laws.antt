@@ -14,7 +14,7 @@ use Rattle.lists.specs.Zeroed.Laws.{zeroed-front}
 use Rattle.parameters.specs.declared.Parameters.{Parameters}
 use Rattle.parameters.specs.Limits.{Within}
 use Rattle.relation.specs.Light.{Light}
-use Rattle.exchange.specs.Layout.{message2Length, workLength}
+use Rattle.layout.specs.Layout.{message2Length, workLength}
 use Rattle.ownleaves.specs.Asked.{Held}
 use Rattle.rounds.specs.Rounds.{Arrays}
 

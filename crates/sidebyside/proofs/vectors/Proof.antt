@@ -5,7 +5,7 @@ use Prim.Native.Nat.{_-_, _≤_}
 use native.Mathlib.Omega.{arith}
 use borrow.Author.Needs.{needs}
 use lib.ListN.{length, take, drop, replicate}
-use Rattle.exchange.specs.Layout.{atX}
+use Rattle.layout.specs.Layout.{atX}
 use Rattle.exchange.specs.Reading.{bytesAt}
 use Rattle.encoding.specs.Written.{front-length}
 use Rattle.sidebyside.specs.Shares.{shareOf}

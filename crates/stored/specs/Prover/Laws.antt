@@ -46,4 +46,4 @@ prover-back s h = λ i. record {
 
 pub fresh-small : (s : Prover) → s ≡ fresh → Small (s .parameters)
 unfolding fresh
-fresh-small s e = rw (ap (λ (z : Prover). z .parameters) e) record { m = omega arith; k = omega arith; w = omega arith; d = omega arith; t = omega arith }
+fresh-small s e = rw (ap (λ (z : Prover). z .parameters) e) record { m = omega arith; k = omega arith; w = omega arith; axes = omega arith; t = omega arith }

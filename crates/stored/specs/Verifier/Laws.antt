@@ -49,4 +49,4 @@ verifier-back s h = λ i. record {
 
 pub fresh-small : (s : Verifier) → s ≡ fresh → Small (s .parameters)
 unfolding fresh
-fresh-small s e = rw (ap (λ (z : Verifier). z .parameters) e) record { m = omega arith; k = omega arith; w = omega arith; d = omega arith; t = omega arith }
+fresh-small s e = rw (ap (λ (z : Verifier). z .parameters) e) record { m = omega arith; k = omega arith; w = omega arith; axes = omega arith; t = omega arith }

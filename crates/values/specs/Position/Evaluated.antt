@@ -24,7 +24,7 @@ use Rattle.tower.specs.Field.{Point, point, bytesOf, point-bytesOf}
 use Rattle.polynomial.specs.Interpolant.{vanishingOf}
 use Rattle.polynomial.specs.Interpolant.Laws.{length-vanishing, vanishing-monic}
 use Rattle.parameters.specs.declared.Parameters.{Parameters}
-use Rattle.exchange.specs.Layout.{shareLength, atQ, atP}
+use Rattle.layout.specs.Layout.{shareLength, atQ, atP}
 use Rattle.exchange.specs.Sequences.{joined}
 use Rattle.exchange.specs.Sequences.Laws.{getD-listed, length-joined}
 use Rattle.exchange.specs.Reading.{points, bytesAt, value, _⊞_, _⊠_, 𝟎}

@@ -5,7 +5,7 @@ use Prim.Native.Nat.{ℕ, _+_, _*_, _≤_}
 use native.Mathlib.Omega.{arith}
 use borrow.Author.Needs.{needs}
 use lib.ListN.{length}
-use Rattle.exchange.specs.Layout.{shareLength}
+use Rattle.layout.specs.Layout.{shareLength}
 use Rattle.sidebyside.specs.Shares.{shareOf}
 use Rattle.values.specs.Shares.{blockOf}
 use Rattle.partyrows.specs.Row.{axisBy}

@@ -16,7 +16,7 @@ total-row-requires : tie.Need-total-row-requires
 total-row-requires c κs =
     let made : tie.After-evaluate = search in
     let s : tie.Start = search back-to-start in
-    let b : length (made .evaluate .last .1 .1 .1 .1 .1 .0) ≡ (s .args .p .d + 1) * (12 * s .args .p .t) = omega (arith, made .evaluate, s .pre .1 .sized-blocks) in
+    let b : length (made .evaluate .last .1 .1 .1 .1 .1 .0) ≡ (s .args .p .axes + 1) * (12 * s .args .p .t) = omega (arith, made .evaluate, s .pre .1 .sized-blocks) in
     search needs
 
 put-rows-requires : tie.Need-put-rows-requires

@@ -19,17 +19,17 @@ rowAt p parts blocks sums total leaf hidden j = axisBy p (shareOf p parts j) (bl
 
 abbrev Inv-loop : tie.InvT-loop
 Inv-loop p parts blocks sums total leaf hidden rows₀ log pow width b₀ j₀ rows b j =
-    (j ≤ p .d) × (b ≡ j * (24 * p .t)) × Blocks (rowAt p parts blocks sums total leaf hidden) (24 * p .t) rows₀ rows j × (length rows ≡ length rows₀)
+    (j ≤ p .axes) × (b ≡ j * (24 * p .t)) × Blocks (rowAt p parts blocks sums total leaf hidden) (24 * p .t) rows₀ rows j × (length rows ≡ length rows₀)
 
 abbrev μ-loop : tie.MeasureT-loop
-μ-loop p parts blocks sums total leaf hidden rows₀ log pow width b₀ j₀ rows b j = p .d - j
+μ-loop p parts blocks sums total leaf hidden rows₀ log pow width b₀ j₀ rows b j = p .axes - j
 
 -- row j lies within the slice
 abbrev start : tie.At-loop Inv-loop μ-loop → tie.Start Inv-loop μ-loop
 start q = search
 
-inside : (q : tie.At-loop Inv-loop μ-loop) → q .loop .j < start q .args .p .d → q .loop .b + 24 * start q .args .p .t ≤ length (q .loop .rows)
-inside q h = within-blocks (q .loop .j) (start q .args .p .d) _ (q .loop .b) _ h (q .loop .inv .1) (q .loop .inv .3 ∙ start q .pre .1)
+inside : (q : tie.At-loop Inv-loop μ-loop) → q .loop .j < start q .args .p .axes → q .loop .b + 24 * start q .args .p .t ≤ length (q .loop .rows)
+inside q h = within-blocks (q .loop .j) (start q .args .p .axes) _ (q .loop .b) _ h (q .loop .inv .1) (q .loop .inv .3 ∙ start q .pre .1)
 
 loop-holds : tie.Need-loop-holds Inv-loop μ-loop
 loop-holds c = (omega arith, omega arith, blocks-none _ _ _, refl)
@@ -53,7 +53,7 @@ loop-again c =
     let eu : length u ≡ 24 * a .p .t = c .before .before .put-axis .kept .1 .1 .1 .1 .1 .1 .1 .1 .0 ∙ length-block (q .loop .b) (24 * a .p .t) (q .loop .rows) fits in (
       omega (arith, h),
       next-block (q .loop .j) _ (q .loop .b) (q .loop .inv .1),
-      blocks-turn (rowAt (a .p) (a .parts .now) (a .blocks .now) (a .sums .now) (a .total .now) (a .leaf) (a .hidden .now)) (24 * a .p .t) (a .p .d) (a .rows .now) (s .pre .1)
+      blocks-turn (rowAt (a .p) (a .parts .now) (a .blocks .now) (a .sums .now) (a .total .now) (a .leaf) (a .hidden .now)) (24 * a .p .t) (a .p .axes) (a .rows .now) (s .pre .1)
           (q .loop .rows) u (q .loop .j) (q .loop .b) h (q .loop .inv .1) eu (c .before .before .put-axis .ensures) (q .loop .inv .2),
       middle-kept (q .loop .b) (q .loop .b + 24 * a .p .t - q .loop .b) u (q .loop .rows) (eu ∙ omega arith) (omega (arith, fits)) ∙ q .loop .inv .3,
     )
@@ -63,7 +63,7 @@ returns c =
     let s : tie.Start Inv-loop μ-loop = search in
     let a = s .args in
     let q = c .before .before .loop in
-    blocks-end (rowAt (a .p) (a .parts .now) (a .blocks .now) (a .sums .now) (a .total .now) (a .leaf) (a .hidden .now)) (24 * a .p .t) (a .p .d) (a .rows .now) (s .pre .1)
+    blocks-end (rowAt (a .p) (a .parts .now) (a .blocks .now) (a .sums .now) (a .total .now) (a .leaf) (a .hidden .now)) (24 * a .p .t) (a .p .axes) (a .rows .now) (s .pre .1)
     (q .rows) (q .j) (omega (arith, c .if1 .left)) (q .inv .2)
 
 pub put-rows-spec : {M : Type 1} → statement M

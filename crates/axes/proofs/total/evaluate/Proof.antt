@@ -9,10 +9,10 @@ use Rattle.axes.proofs.total.evaluate.Statement.{statement}
 use Rattle.axes.proofs.total.evaluate.Tie as tie
 
 -- the D + 2 polynomials have at most 255 coefficients each
-rows-fit : (s : tie.Start) → (s .args .p .d + 2) * s .args .p .m ≤ 10 * 255
+rows-fit : (s : tie.Start) → (s .args .p .axes + 2) * s .args .p .m ≤ 10 * 255
 rows-fit s =
     let w = s .pre .0 .within in
-    let a : s .args .p .d + 2 ≤ 10 = omega (arith, w .d-most) in
+    let a : s .args .p .axes + 2 ≤ 10 = omega (arith, w .axes-most) in
     mul-le-mul a (w .m-most)
 
 pub evaluate-spec : {M : Type 1} → statement M

@@ -5,7 +5,7 @@ use Prim.Native.Nat.{ℕ, _+_, _*_, _≤_}
 use native.Mathlib.Omega.{arith}
 use borrow.Author.Needs.{needs}
 use lib.ListN.{length}
-use Rattle.exchange.specs.Layout.{shareLength}
+use Rattle.layout.specs.Layout.{shareLength}
 use Rattle.partyrows.specs.Row.{rowBy, sumsBy}
 use Rattle.axes.specs.Asked.Laws.{share-fits, row-asked}
 use Rattle.axes.specs.Slices.{middle-part}
@@ -16,23 +16,23 @@ abbrev back-to-start : tie.After-struct-known → tie.Start
 back-to-start c = search
 
 inside : (s : tie.Start)
-    → (s .args .p .d * shareLength (s .args .p) + shareLength (s .args .p) ≤ length (s .args .parts .now))
-    × (s .args .p .d * (12 * s .args .p .t) + 12 * s .args .p .t ≤ length (s .args .blocks .now))
-inside s = share-fits _ _ _ _ _ _ (s .pre .0) (s .args .p .d) (omega arith)
+    → (s .args .p .axes * shareLength (s .args .p) + shareLength (s .args .p) ≤ length (s .args .parts .now))
+    × (s .args .p .axes * (12 * s .args .p .t) + 12 * s .args .p .t ≤ length (s .args .blocks .now))
+inside s = share-fits _ _ _ _ _ _ (s .pre .0) (s .args .p .axes) (omega arith)
 
 total-row-with-requires : tie.Need-total-row-with-requires
 total-row-with-requires c κs =
     let s : tie.Start = search back-to-start in
     let (f, l, p) = s .pre in
-    (row-asked (s .args .p) _ _ _ (s .args .total .now) (s .args .hidden .now) f (s .args .p .d) (omega arith), f .of .sized-hidden, f .sized-total, l, p)
+    (row-asked (s .args .p) _ _ _ (s .args .total .now) (s .args .hidden .now) f (s .args .p .axes) (omega arith), f .of .sized-hidden, f .sized-total, l, p)
 
 returns : tie.Need-returns
 returns c =
     let given : tie.After-total-row-with = search in
     let start : tie.Start = search back-to-start in
     let a = start .args in
-    let share = middle-part (a .parts .now) (a .p .d * shareLength (a .p)) (shareLength (a .p)) in
-    let block = middle-part (a .blocks .now) (a .p .d * (12 * a .p .t)) (12 * a .p .t) in (
+    let share = middle-part (a .parts .now) (a .p .axes * shareLength (a .p)) (shareLength (a .p)) in
+    let block = middle-part (a .blocks .now) (a .p .axes * (12 * a .p .t)) (12 * a .p .t) in (
       given .total-row-with .ensures .0 ∙ ap (λ (z : List ℕ). sumsBy (a .p) (a .leaf) z (a .hidden .now)) block,
       given .total-row-with .ensures .1 ∙ ap₂ (λ (x z : List ℕ). rowBy (a .p) x z (given .total-row-with .last .1 .1 .1 .1 .1 .0)) share block,
     )

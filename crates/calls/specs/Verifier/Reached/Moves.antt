@@ -21,8 +21,8 @@ use Rattle.lists.specs.Checks.{allTrue}
 use Rattle.answers.specs.Number.{answerNumber}
 use Rattle.answers.specs.Order.{holds, firstOf, answerOf}
 use Rattle.parameters.specs.Limits.{withinLimits}
-use Rattle.exchange.specs.Layout.{leaves, message2Length, workLength}
-use Rattle.exchange.specs.Layout.Laws.{leaves-pos}
+use Rattle.layout.specs.Layout.{leaves, message2Length, workLength}
+use Rattle.layout.specs.Layout.Laws.{leaves-pos}
 use Rattle.exchange.specs.Values.{Key}
 use Rattle.exchange.specs.Opening.{Exchange, exchange, verdict}
 use Rattle.calls.specs.Held.{isSome}

@@ -8,7 +8,7 @@ use Rattle.lists.specs.Part.{part}
 use Rattle.shake256.specs.Fips.{SHAKE256}
 use Rattle.exchange.specs.Leaf.{commitment}
 use Rattle.leaves.specs.After.Laws.{commitment-begun}
-use Rattle.layout.specs.Lent.Laws.{leaves-most}
+use Rattle.layout.specs.Layout.Bounds.{leaves-most}
 use Rattle.comparison.specs.Comparison.{commitmentAt}
 use Rattle.comparison.proofs.commitments.commitment_at.Statement.{statement}
 use Rattle.comparison.proofs.commitments.commitment_at.Tie as tie

@@ -7,7 +7,7 @@ use native.Mathlib.Omega.{arith}
 use borrow.Author.Needs.{needs}
 use lib.ListN.{length}
 use Rattle.lists.specs.Part.{putAt}
-use Rattle.exchange.specs.Layout.{leaves, isLast, outputLength, auxLength}
+use Rattle.layout.specs.Layout.{leaves, isLast, outputLength, auxLength}
 use Rattle.exchange.specs.Sequences.{joined}
 use Rattle.comparison.specs.Comparison.{stateOf, outputOf}
 use Rattle.comparison.specs.Output.{written-is}

@@ -15,7 +15,7 @@ area-size c = length-take-le _ _ (omega (arith, c .before .work-length .ensures,
 states-size : (c : tie.After-leaf-count) → length (take (32 * c .leaf-count .result) (c .before .before .before .before .before .before .before .before .before .before .before .args .states .now)) ≡ 32 * c .leaf-count .result
 states-size c = length-take-le _ _ (omega (arith, c .leaf-count .ensures, c .before .before .before .before .before .before .before .before .before .before .before .pre .states-fit))
 
-rows-size : (c : tie.After-leaf-count) → length (take (c .before .before .before .before .before .before .before .before .before .before .before .args .p .d * (24 * c .before .before .before .before .before .before .before .before .before .before .before .args .p .t)) (c .before .before .before .before .before .before .before .before .before .before .before .args .rows .now)) ≡ c .before .before .before .before .before .before .before .before .before .before .before .args .p .d * (24 * c .before .before .before .before .before .before .before .before .before .before .before .args .p .t)
+rows-size : (c : tie.After-leaf-count) → length (take (c .before .before .before .before .before .before .before .before .before .before .before .args .p .axes * (24 * c .before .before .before .before .before .before .before .before .before .before .before .args .p .t)) (c .before .before .before .before .before .before .before .before .before .before .before .args .rows .now)) ≡ c .before .before .before .before .before .before .before .before .before .before .before .args .p .axes * (24 * c .before .before .before .before .before .before .before .before .before .before .before .args .p .t)
 rows-size c = length-take-le _ _ (c .before .before .before .before .before .before .before .before .before .before .before .pre .rows-fit)
 
 slice-aggregate-check-opening : tie.Need-slice-aggregate-check-opening

@@ -44,8 +44,8 @@ returns-2 : tie.Need-returns-2 Inv-loop μ-loop
 unfolding firstApart
 returns-2 c =
     let p = c .before .before .before .before .before .args .p in
-    let e : c .before .loop .axis ≡ p .d = omega (arith, c .before .loop .inv .0) in
-    e ∙ least-none _ (p .d) (λ k l. c .before .loop .inv .1 k (omega arith))
+    let e : c .before .loop .axis ≡ p .axes = omega (arith, c .before .loop .inv .0) in
+    e ∙ least-none _ (p .axes) (λ k l. c .before .loop .inv .1 k (omega arith))
 
 pub first-digest-spec : {M : Type 1} → statement M
 first-digest-spec =

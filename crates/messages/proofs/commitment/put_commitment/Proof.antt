@@ -7,7 +7,7 @@ use native.Mathlib.Omega.{arith}
 use borrow.Author.Needs.{needs}
 use Rattle.shake256.specs.Fips.{SHAKE256}
 use Rattle.lists.specs.Part.Laws.{tail-back}
-use Rattle.exchange.specs.Layout.{leaves}
+use Rattle.layout.specs.Layout.{leaves}
 use Rattle.exchange.specs.Strings.{string5}
 use Rattle.commitments.specs.Commitments.{commitmentsOf}
 use Rattle.messages.specs.Commitment.{front-behind}

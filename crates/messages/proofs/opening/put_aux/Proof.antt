@@ -1,7 +1,7 @@
 -- For leaf n−1 nothing is left to write; for any other aux fills the rest.
 use mathlib.Core.Path.{sym, _∙_}
 use borrow.Author.Needs.{needs}
-use Rattle.exchange.specs.Layout.{isLast}
+use Rattle.layout.specs.Layout.{isLast}
 use Rattle.messages.specs.Opening.Laws.{aux-none, aux-fits, aux-put}
 use Rattle.messages.proofs.opening.put_aux.Statement.{statement}
 use Rattle.messages.proofs.opening.put_aux.Tie as tie

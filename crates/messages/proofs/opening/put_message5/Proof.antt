@@ -6,7 +6,7 @@ use native.Mathlib.Omega.{arith}
 use borrow.Author.Needs.{needs}
 use Rattle.seedtree.proofs.Lent.{lent-part, lent-length}
 use Rattle.leaves.specs.States.{stateAt}
-use Rattle.leaves.specs.Shapes.Laws.{leaves-most}
+use Rattle.layout.specs.Layout.Bounds.{leaves-most}
 use Rattle.exchange.specs.Values.{keyOf}
 use Rattle.ownleaves.specs.Own.Laws.{ownStates-at}
 use Rattle.messages.specs.Opening.Laws.{opening-any}

@@ -6,8 +6,8 @@ use Prim.Native.Nat.{ℕ, _+_, _*_, _≤_}
 use native.Mathlib.Omega.{arith}
 use lib.ListN.{length}
 use borrow.Author.Needs.{needs}
-use Rattle.exchange.specs.Layout.{isLast}
-use Rattle.exchange.specs.Layout.Laws.{leaves-is}
+use Rattle.layout.specs.Layout.{isLast}
+use Rattle.layout.specs.Layout.Laws.{leaves-is}
 use Rattle.encoding.specs.Written.{front-length}
 use Rattle.messages.specs.Opening.{openingOf}
 use Rattle.messages.specs.Opening.Laws.{opening-length, left-first, room-second, left-second, pieces-made}
@@ -25,7 +25,7 @@ sibling-seeds-requires : tie.Need-sibling-seeds-requires
 sibling-seeds-requires c κs =
     let s = c .before .before .before .before .before .before .before .before .before in
     record {
-      levels = s .pre .0 .of .within .d-most;
+      levels = s .pre .0 .of .within .axes-most;
       is-leaf = rw leaves-is at (s .pre .0 .is-leaf);
       seed = s .pre .0 .root-is;
       size = sym (front-length _ _ (omega (arith, s .pre .0 .out-is, opening-length (s .args .p) (s .args .leaf))));
@@ -35,18 +35,18 @@ part-put-leaf-end : tie.Need-part-put-leaf-end
 part-put-leaf-end c =
     let s = c .before .before .before .before .before .before .before .before .before .before .before .before in
     let p = s .args .p in
-    let l : 16 * p .d + (32 + 8 * p .t) ≤ length (s .args .out .now) = omega (arith, s .pre .0 .out-is, opening-length p (s .args .leaf)) in
+    let l : 16 * p .axes + (32 + 8 * p .t) ≤ length (s .args .out .now) = omega (arith, s .pre .0 .out-is, opening-length p (s .args .leaf)) in
     let first = c .before .before .sibling-seeds in
-    omega (arith, l, left-first (16 * p .d) (32 + 8 * p .t) (s .args .out .now) (first .last .1 .1 .1 .1 .0) [] l (first .kept .1 .1 .1 .1 .0))
+    omega (arith, l, left-first (16 * p .axes) (32 + 8 * p .t) (s .args .out .now) (first .last .1 .1 .1 .1 .0) [] l (first .kept .1 .1 .1 .1 .0))
 
 put-leaf-requires : tie.Need-put-leaf-requires
 put-leaf-requires c κs =
     let s = c .before .before .before .before .before .before .before .before .before .before .before .before .before in
     let p = s .args .p in
-    let l : 16 * p .d + (32 + 8 * p .t) ≤ length (s .args .out .now) = omega (arith, s .pre .0 .out-is, opening-length p (s .args .leaf)) in
+    let l : 16 * p .axes + (32 + 8 * p .t) ≤ length (s .args .out .now) = omega (arith, s .pre .0 .out-is, opening-length p (s .args .leaf)) in
     let first = c .before .before .before .sibling-seeds in (
       s .pre .0 .of,
-      room-second (16 * p .d) (32 + 8 * p .t) (s .args .out .now) (first .last .1 .1 .1 .1 .0) [] l (first .kept .1 .1 .1 .1 .0),
+      room-second (16 * p .axes) (32 + 8 * p .t) (s .args .out .now) (first .last .1 .1 .1 .1 .0) [] l (first .kept .1 .1 .1 .1 .0),
       s .pre .1,
       s .pre .2,
     )
@@ -56,13 +56,13 @@ put-aux-requires c κs =
     let s = c .before .before .before .before .before .before .before .before .before .before .before .before .before .before .before .before .before in
     let p = s .args .p in
     let n = opening-length p (s .args .leaf) in
-    let l : 16 * p .d + (32 + 8 * p .t) ≤ length (s .args .out .now) = omega (arith, s .pre .0 .out-is, n) in
+    let l : 16 * p .axes + (32 + 8 * p .t) ≤ length (s .args .out .now) = omega (arith, s .pre .0 .out-is, n) in
     let first = c .before .before .before .before .before .before .before .sibling-seeds in
     let second = c .before .before .before .put-leaf in (
       s .pre .0 .of .within,
-      left-second (16 * p .d) (32 + 8 * p .t) (s .args .out .now) (first .last .1 .1 .1 .1 .0) (second .last .1 .1 .1 .1 .1 .1 .1 .0) l (first .kept .1 .1 .1 .1 .0)
+      left-second (16 * p .axes) (32 + 8 * p .t) (s .args .out .now) (first .last .1 .1 .1 .1 .0) (second .last .1 .1 .1 .1 .1 .1 .1 .0) l (first .kept .1 .1 .1 .1 .0)
           (second .kept .1 .1 .1 .1 .1 .1 .1 .0)
-          ∙ s .pre .0 .out-is ∙ n ∙ ap (λ (k : ℕ). 16 * p .d + (32 + 8 * p .t) + cond (isLast p (s .args .leaf)) 0 k) (sym (s .pre .0 .of .aux-is)),
+          ∙ s .pre .0 .out-is ∙ n ∙ ap (λ (k : ℕ). 16 * p .axes + (32 + 8 * p .t) + cond (isLast p (s .args .leaf)) 0 k) (sym (s .pre .0 .of .aux-is)),
     )
 
 returns : tie.Need-returns
@@ -71,11 +71,11 @@ returns c =
     let s = c .before .before .before .before .before .before .before .before .before .before .before .before .before .before .before .before .before .before .before .before in
     let p = s .args .p in
     let n = opening-length p (s .args .leaf) in
-    let l : 16 * p .d + (32 + 8 * p .t) ≤ length (s .args .out .now) = omega (arith, s .pre .0 .out-is, n) in
+    let l : 16 * p .axes + (32 + 8 * p .t) ≤ length (s .args .out .now) = omega (arith, s .pre .0 .out-is, n) in
     let first = c .before .before .before .before .before .before .before .before .before .before .sibling-seeds in
     let second = c .before .before .before .before .before .before .put-leaf in
     let rest : List ℕ = cond (isLast p (s .args .leaf)) [] (s .args .aux .now) in
-    pieces-made (16 * p .d) (32 + 8 * p .t) (s .args .out .now) (first .last .1 .1 .1 .1 .0) (second .last .1 .1 .1 .1 .1 .1 .1 .0) l (first .kept .1 .1 .1 .1 .0)
+    pieces-made (16 * p .axes) (32 + 8 * p .t) (s .args .out .now) (first .last .1 .1 .1 .1 .0) (second .last .1 .1 .1 .1 .1 .1 .1 .0) l (first .kept .1 .1 .1 .1 .0)
     (second .kept .1 .1 .1 .1 .1 .1 .1 .0) rest _ (c .before .before .put-aux .ensures)
     ∙ ap₂ (λ (y z : List ℕ). y ++ (z ++ rest)) (first .ensures) (second .ensures)
 

@@ -4,8 +4,8 @@ use Prim.Native.Nat.{_*_}
 use native.Mathlib.Omega.{arith}
 use borrow.Author.Needs.{needs}
 use lib.ListN.{length-take, length-drop}
-use Rattle.exchange.specs.Layout.Laws.{leaves-is}
-use Rattle.leaves.specs.Shapes.Laws.{leaves-most}
+use Rattle.layout.specs.Layout.Laws.{leaves-is}
+use Rattle.layout.specs.Layout.Bounds.{leaves-most}
 use Rattle.leafstates.specs.States.{statesOf}
 use Rattle.leafstates.specs.States.Seeds.{half-back, levels-is}
 use Rattle.openings.specs.From.{statesFrom}
@@ -17,7 +17,7 @@ opened-seeds-requires c κs =
     let s : tie.Start = search in
     let n = leaves-is (s .args .p) in
     let l = levels-is (s .args .p) in
-    record { levels = s .pre .within .d-most; is-leaf = omega arith; siblings = omega arith; size = simp (length-take, length-drop) (omega arith) }
+    record { levels = s .pre .within .axes-most; is-leaf = omega arith; siblings = omega arith; size = simp (length-take, length-drop) (omega arith) }
 
 returns : tie.Need-returns
 unfolding statesFrom

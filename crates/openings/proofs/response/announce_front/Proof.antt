@@ -6,7 +6,7 @@ use native.Mathlib.Omega.{arith}
 use borrow.Author.Needs.{needs}
 use lib.ListN.{length, take}
 use lib.Seq.{length-take-le}
-use Rattle.exchange.specs.Layout.{shareLength}
+use Rattle.layout.specs.Layout.{shareLength}
 use Rattle.exchange.specs.Sequences.{joined}
 use Rattle.exchange.specs.Values.{keyOf}
 use Rattle.axes.specs.Announcing.{rowOf}
@@ -16,7 +16,7 @@ use Rattle.openings.proofs.response.announce_front.Statement.{statement
 use Rattle.openings.proofs.response.announce_front.Tie as tie
 
 -- the front is lent
-front-length : (start : tie.Start) (n : ℕ) → n ≡ (start .args .p .d + 1) * shareLength (start .args .p) → length (take n (start .args .area .now)) ≡ n
+front-length : (start : tie.Start) (n : ℕ) → n ≡ (start .args .p .axes + 1) * shareLength (start .args .p) → length (take n (start .args .area .now)) ≡ n
 front-length start n e =
     length-take-le n (start .args .area .now) (omega (arith, front-fits (start .args .p) (start .pre .within), start .pre .sized-area))
 
@@ -45,7 +45,7 @@ unfolding announcedFrom
 returns c =
     let sized = c .before .before .before .before .before in
     let args = sized .before .before .before .before .before .before .before .before .args in
-    let rows : List ℕ → List ℕ = λ sums. joined (rowOf (args .p) (keyOf (args .matrix .now) (args .y .now)) (args .m2 .now) sums (args .leaf) (args .values .now)) (args .p .d) in
+    let rows : List ℕ → List ℕ = λ sums. joined (rowOf (args .p) (keyOf (args .matrix .now) (args .y .now)) (args .m2 .now) sums (args .leaf) (args .values .now)) (args .p .axes) in
     c .before .before .announce .ensures ∙ ap (λ (n : ℕ). rows (take n (args .area .now))) (sized .shares-length .ensures)
 
 pub announce-front-spec : {M : Type 1} → statement M

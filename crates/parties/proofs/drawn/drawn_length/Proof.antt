@@ -3,7 +3,7 @@ use mathlib.Core.Path.{sym, ap, _∙_}
 use mathlib.Core.Bool.{Bool, cond}
 use Prim.Native.Nat.{_*_}
 use borrow.Author.Needs.{needs}
-use Rattle.exchange.specs.Layout.{shareLength}
+use Rattle.layout.specs.Layout.{shareLength}
 use Rattle.parties.specs.Drawn.{drawnLength}
 use Rattle.parties.proofs.drawn.drawn_length.Statement.{statement}
 use Rattle.parties.proofs.drawn.drawn_length.Tie as tie

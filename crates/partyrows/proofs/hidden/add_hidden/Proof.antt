@@ -3,7 +3,7 @@ use mathlib.Core.Path.{refl}
 use native.Mathlib.Omega.{arith}
 use borrow.Author.Needs.{needs}
 use borrow.Author.Tests.{lt-ltb, le-ltb}
-use Rattle.exchange.specs.Layout.{leaves}
+use Rattle.layout.specs.Layout.{leaves}
 use Rattle.partyrows.specs.Row.{withHidden}
 use Rattle.partyrows.proofs.hidden.add_hidden.Statement.{statement}
 use Rattle.partyrows.proofs.hidden.add_hidden.Tie as tie

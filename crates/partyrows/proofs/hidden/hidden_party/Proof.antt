@@ -2,13 +2,13 @@
 use mathlib.Core.Path.{sym, _∙_}
 use native.Mathlib.Omega.{arith}
 use borrow.Author.Needs.{needs}
-use Rattle.exchange.specs.Layout.{bits}
+use Rattle.layout.specs.Layout.{bits}
 use Rattle.partyrows.specs.Row.Laws.{hidden-inside, hidden-outside}
 use Rattle.partyrows.proofs.hidden.hidden_party.Statement.{statement}
 use Rattle.partyrows.proofs.hidden.hidden_party.Tie as tie
 
 coordinate-requires : tie.Need-coordinate-requires
-coordinate-requires c κs = omega (arith, c .before .before .pre .1, c .before .before .pre .0 .d-most)
+coordinate-requires c κs = omega (arith, c .before .before .pre .1, c .before .before .pre .0 .axes-most)
 
 returns : tie.Need-returns
 returns c =

@@ -44,8 +44,8 @@ returns c =
     let e = c .before .before .before .before .before .before .before .before .before .before .before .before .before .share-length .ensures in
     let size : ℕ = c .before .before .before .before .before .before .before .before .before .before .before .before .before .share-length .result in (
       c .before .before .before .before .before .before .before .before .aux .ensures
-          ∙ ap (auxFor (a .p) (a .x .now)) (lent-part (a .area .now) (a .p .d * size) size ∙ ap (λ (n : ℕ). part (a .area .now) (a .p .d * n) n) e),
-      c .before .before .xor-at .ensures ∙ ap (λ (n : ℕ). xorAt (a .area .now) (a .p .d * n + 8 * a .p .t) (c .before .before .before .before .before .before .before .before .aux .last .1 .1 .1 .0)) e,
+          ∙ ap (auxFor (a .p) (a .x .now)) (lent-part (a .area .now) (a .p .axes * size) size ∙ ap (λ (n : ℕ). part (a .area .now) (a .p .axes * n) n) e),
+      c .before .before .xor-at .ensures ∙ ap (λ (n : ℕ). xorAt (a .area .now) (a .p .axes * n + 8 * a .p .t) (c .before .before .before .before .before .before .before .before .aux .last .1 .1 .1 .0)) e,
     )
 
 pub add-aux-spec : {M : Type 1} → statement M

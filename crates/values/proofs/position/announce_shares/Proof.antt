@@ -9,7 +9,7 @@ use borrow.Author.Needs.{needs}
 use lib.ListN.{length, take, drop}
 use Rattle.lists.specs.Xor.{_⊕_}
 use Rattle.lists.specs.Part.{part}
-use Rattle.exchange.specs.Layout.{shareLength}
+use Rattle.layout.specs.Layout.{shareLength}
 use Rattle.exchange.specs.Values.{Key, pointOf}
 use Rattle.encoding.specs.Blocks.{within-blocks, next-block, length-block}
 use Rattle.encoding.specs.Written.{middle-kept}

@@ -8,10 +8,10 @@ use lib.ListN.{length, take, drop, length-map}
 use lib.Seq.{length-take-le}
 use Rattle.lists.specs.Zeroed.Laws.{zeroed-front}
 use Rattle.shake256.specs.Fips.{SHAKE256}
-use Rattle.exchange.specs.Layout.{workLength}
+use Rattle.layout.specs.Layout.{workLength}
 use Rattle.exchange.specs.Opening.{exchange, verdict}
 use Rattle.exchange.specs.Values.{keyOf}
-use Rattle.layout.specs.Lent.Laws.{leaves-most}
+use Rattle.layout.specs.Layout.Bounds.{leaves-most}
 use Rattle.calls.specs.Verifier.{heldExchange}
 use Rattle.verifier.specs.Laws.{rows-most}
 use Rattle.verifier.proofs.judge.judge.Statement.{statement}

@@ -5,9 +5,9 @@ use native.Mathlib.Omega.{arith}
 use borrow.Author.Needs.{needs}
 use lib.Dec.{eqb}
 use lib.Pow.{pow-pos}
-use Rattle.exchange.specs.Layout.{levels, isLast}
-use Rattle.leaves.proofs.is_last.Statement.{statement}
-use Rattle.leaves.proofs.is_last.Tie as tie
+use Rattle.layout.specs.Layout.{levels, isLast}
+use Rattle.layout.proofs.is_last.Statement.{statement}
+use Rattle.layout.proofs.is_last.Tie as tie
 
 sub-result : tie.Need-sub-result
 sub-result c = omega (arith, c .leaf-count .ensures, pow-pos (levels (c .before .args .p)))

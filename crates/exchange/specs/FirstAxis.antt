@@ -18,26 +18,26 @@ use lib.Bits.{bitXor, xor-shr, xor-mod, xor-lt}
 use lib.Pow.{pow-mono, shr-shr}
 use lib.Count.{trailingZeros, under}
 use Rattle.parameters.specs.declared.Parameters.{Parameters}
-use Rattle.exchange.specs.Layout.{leaves, digit}
-use Rattle.exchange.specs.Layout.Laws.{digit-bit, leaves-is, digits-inj}
+use Rattle.layout.specs.Layout.{leaves, digit}
+use Rattle.layout.specs.Layout.Laws.{digit-bit, leaves-is, digits-inj}
 use Rattle.exchange.specs.Sequences.{least}
 use Rattle.exchange.specs.Sequences.Laws.{Least, least-is}
 
 abbrev pub firstAxis : Parameters → ℕ → ℕ → ℕ
-firstAxis p u u′ = least (λ j. not (eqb (digit p j u) (digit p j u′))) (p .d)
+firstAxis p u u′ = least (λ j. not (eqb (digit p j u) (digit p j u′))) (p .axes)
 
 module _ (p : Parameters) (u u′ : ℕ) where
-  first-least : Least (λ j. not (eqb (digit p j u) (digit p j u′))) (p .d) (firstAxis p u u′)
-  first-least = least-is (λ j. not (eqb (digit p j u) (digit p j u′))) (p .d)
+  first-least : Least (λ j. not (eqb (digit p j u) (digit p j u′))) (p .axes) (firstAxis p u u′)
+  first-least = least-is (λ j. not (eqb (digit p j u) (digit p j u′))) (p .axes)
 
   pub first-equal : (j : ℕ) → j < firstAxis p u u′ → digit p j u ≡ digit p j u′
   first-equal j l = eqb-true _ _ (not-false _ (first-least .before j l))
 
   module _ (inside : u < leaves p) (inside′ : u′ < leaves p) (other : u ≡ u′ → ⊥) where
-    pub first-inside : firstAxis p u u′ < p .d
-    first-inside = go (decLt (firstAxis p u u′) (p .d))
+    pub first-inside : firstAxis p u u′ < p .axes
+    first-inside = go (decLt (firstAxis p u u′) (p .axes))
       where
-        go : Dec (firstAxis p u u′ < p .d) → firstAxis p u u′ < p .d
+        go : Dec (firstAxis p u u′ < p .axes) → firstAxis p u u′ < p .axes
         go (yes l) = l
         go (no l) = absurd (other (digits-inj p u u′ inside inside′ (λ j h. first-equal j (omega arith))))
 
@@ -140,7 +140,7 @@ module _ (p : Parameters) (u u′ : ℕ) (inside : u < leaves p) (inside′ : u�
   xor-some q = apart (equal-of-xor (firstAxis p u u′) (ap (λ (n : ℕ). bit n (firstAxis p u u′)) q ∙ bit-of-zero (firstAxis p u u′)))
 
   -- k is the width in bits of the type in which the code counts
-  pub first-trailing : (k : ℕ) → p .d ≤ k → firstAxis p u u′ ≡ trailingZeros k (bitXor u u′)
+  pub first-trailing : (k : ℕ) → p .axes ≤ k → firstAxis p u u′ ≡ trailingZeros k (bitXor u u′)
   first-trailing k h = go (ℕ-discrete (firstAxis p u u′) (trailingZeros k (bitXor u u′)))
     where
       fits : (i : ℕ) → i < leaves p → i < 2 ^ k

@@ -8,20 +8,27 @@
 -- digit p j i        the party of leaf i on axis j: digit j of the leaf's number in base N, lowest first
 -- coordinate p j i   'Coordinate j (1 to D) of a leaf is bit j−1 of its number, plus 1'
 -- isLast p i         i is leaf n−1
+-- pointsLength p     a point of four bytes at each position: r, c, v
+-- factorLength p     the same of what is multiplied: ε, a, b, α, β
+-- valuesLength p     α and β
+-- rowLength p        what a party announces: α, β, v
+-- axisLength p       what the parties of an axis announce
 -- auxLength p        aux: x_A (k), Q (w), P (w), c (4t)
 -- shareLength p      a share: a (4t), b (4t), then as aux
 -- atB, atX, atQ, atP, atC   where b, x_A, Q, P, c start in a share; a starts it
+-- atV p              where v starts in a party's row: behind α and β
 -- message2Length p   't points r, t multipliers ε'
+-- siblingsLength p   'D sibling seeds'
 -- message5Length p i 'Length 5: 16D + 32 + 8t, plus k + 2w + 4t with aux', which is there 'unless i* = n−1';
 --                    'For a leaf not below n, message 5's longer length counts'
--- workLength p       'a work area may be longer, never shorter than 2·D·(k+2w+12t)'
+-- workLength p       a share for each party of every axis: 'a work area may be longer, never shorter than 2·D·(k+2w+12t)' (`work-is`)
 -- outputLength p     the extractor's 'output has 32n + k + 2w + 4t bytes'
 use mathlib.Core.Bool.{Bool, cond}
 use Prim.Native.Nat.{ℕ, _+_, _-_, _*_, _/_, _%_, _^_}
 use lib.Dec.{eqb}
 use Rattle.parameters.specs.declared.Parameters.{Parameters}
 pub mod Laws
-pub mod FirstAxis
+pub mod Bounds
 
 unfoldable pub bits : Parameters → ℕ
 bits p = 1
@@ -30,7 +37,7 @@ abbrev pub side : Parameters → ℕ
 side p = 2 ^ bits p
 
 abbrev pub levels : Parameters → ℕ
-levels p = bits p * p .d
+levels p = bits p * p .axes
 
 abbrev pub leaves : Parameters → ℕ
 leaves p = 2 ^ levels p
@@ -44,16 +51,36 @@ coordinate p j i = digit p (j - 1) i + 1
 unfoldable pub isLast : Parameters → ℕ → Bool
 isLast p i = eqb i (leaves p - 1)
 
+-- ---- points at all positions
+
+abbrev pub pointsLength : Parameters → ℕ
+pointsLength p = 4 * p .t
+
+abbrev pub factorLength : Parameters → ℕ
+factorLength p = 4 * p .t
+
+abbrev pub valuesLength : Parameters → ℕ
+valuesLength p = 8 * p .t
+
+abbrev pub rowLength : Parameters → ℕ
+rowLength p = 12 * p .t
+
+abbrev pub axisLength : Parameters → ℕ
+axisLength p = 24 * p .t
+
+abbrev pub atV : Parameters → ℕ
+atV p = valuesLength p
+
 -- ---- a share
 
 abbrev pub auxLength : Parameters → ℕ
-auxLength p = p .k + 2 * p .w + 4 * p .t
+auxLength p = p .k + 2 * p .w + pointsLength p
 
 abbrev pub shareLength : Parameters → ℕ
 shareLength p = 8 * p .t + auxLength p
 
 abbrev pub atB : Parameters → ℕ
-atB p = 4 * p .t
+atB p = factorLength p
 
 abbrev pub atX : Parameters → ℕ
 atX p = 8 * p .t
@@ -72,11 +99,14 @@ atC p = atP p + p .w
 abbrev pub message2Length : Parameters → ℕ
 message2Length p = 8 * p .t
 
+abbrev pub siblingsLength : Parameters → ℕ
+siblingsLength p = 16 * levels p
+
 unfoldable pub message5Length : Parameters → ℕ → ℕ
-message5Length p i = 16 * levels p + 32 + 8 * p .t + cond (isLast p i) 0 (auxLength p)
+message5Length p i = siblingsLength p + 32 + valuesLength p + cond (isLast p i) 0 (auxLength p)
 
 unfoldable pub workLength : Parameters → ℕ
-workLength p = side p * p .d * (p .k + 2 * p .w + 12 * p .t)
+workLength p = side p * p .axes * shareLength p
 
 unfoldable pub outputLength : Parameters → ℕ
 outputLength p = 32 * leaves p + auxLength p

@@ -2,21 +2,24 @@
 --
 -- side-pos, leaves-pos     there is a party on every axis, and a leaf
 -- side-is, leaves-is       'Side N = 2, n = 2^D leaves'
+-- bits-least               a party of an axis takes a bit or more
 -- digit-bit                at side 2 a digit is a bit of the leaf's number
 -- coordinate-bit           'Coordinate j (1 to D) of a leaf is bit j−1 of its number, plus 1'
 -- digit-lt                 a leaf's party on an axis is one of the side
 -- digits-inj               leaves with the same digit on every axis are the same
 -- isLast-true, isLast-false, isLast-last   the test for leaf n−1
+-- work-is                  'never shorter than 2·D·(k+2w+12t)'
 -- message5-last, message5-other   the length of message 5, without aux and with it
 use mathlib.Core.Path.{_≡_, refl, sym, ap, ap₂, _∙_}
 use mathlib.Core.Bool.{true, false}
-use Prim.Native.Nat.{ℕ, zero, suc, _+_, _-_, _*_, _/_, _%_, _^_, _<_}
+use Prim.Native.Nat.{ℕ, zero, suc, _+_, _-_, _*_, _/_, _%_, _^_, _<_, _≤_}
 use native.Mathlib.Nat.{mul-zero, mul-suc, one-mul, mod-lt}
 use native.Mathlib.Omega.{arith}
 use borrow.Author.Tests.{eqb-true, eq-eqb, ne-eqb}
+use lib.Dec.{lit<}
 use lib.Pow.{pow-pos, shr-lt, shr-shr, split}
 use Rattle.parameters.specs.declared.Parameters.{Parameters}
-use Rattle.exchange.specs.Layout.{bits, side, levels, leaves, digit, coordinate, isLast, auxLength, message5Length}
+use Rattle.layout.specs.Layout.{bits, side, levels, leaves, digit, coordinate, isLast, auxLength, shareLength, siblingsLength, valuesLength, message5Length, workLength}
 
 module _ (p : Parameters) where
   pub side-pos : 0 < side p
@@ -29,9 +32,13 @@ module _ (p : Parameters) where
   unfolding bits
   side-is = refl
 
-  pub leaves-is : leaves p ≡ 2 ^ p .d
+  pub leaves-is : leaves p ≡ 2 ^ p .axes
   unfolding bits
-  leaves-is = ap (λ (n : ℕ). 2 ^ n) (one-mul (p .d))
+  leaves-is = ap (λ (n : ℕ). 2 ^ n) (one-mul (p .axes))
+
+  pub bits-least : 1 ≤ bits p
+  unfolding bits
+  bits-least = lit< tt
 
   -- ---- digits
 
@@ -66,9 +73,9 @@ digits-same b (suc d) i i′ h h′ e =
     lowest i = rw mul-zero (let e : i / 1 ≡ i = omega arith in ap (λ (x : ℕ). x % 2 ^ b) e)
 
 module _ (p : Parameters) where
-  pub digits-inj : (i i′ : ℕ) → i < leaves p → i′ < leaves p → ((j : ℕ) → j < p .d → digit p j i ≡ digit p j i′) → i ≡ i′
+  pub digits-inj : (i i′ : ℕ) → i < leaves p → i′ < leaves p → ((j : ℕ) → j < p .axes → digit p j i ≡ digit p j i′) → i ≡ i′
   unfolding digit
-  digits-inj i i′ h h′ e = digits-same (bits p) (p .d) i i′ h h′ e
+  digits-inj i i′ h h′ e = digits-same (bits p) (p .axes) i i′ h h′ e
 
   -- ---- leaf n−1
 
@@ -84,10 +91,14 @@ module _ (p : Parameters) where
   unfolding isLast
   isLast-last i e = eqb-true i (leaves p - 1) e
 
-  pub message5-last : (i : ℕ) → i ≡ leaves p - 1 → message5Length p i ≡ 16 * levels p + 32 + 8 * p .t
+  pub message5-last : (i : ℕ) → i ≡ leaves p - 1 → message5Length p i ≡ siblingsLength p + 32 + valuesLength p
   unfolding message5Length
   message5-last i e = rw (isLast-true i e) (omega arith)
 
-  pub message5-other : (i : ℕ) → (i ≡ leaves p - 1 → ⊥) → message5Length p i ≡ 16 * levels p + 32 + 8 * p .t + auxLength p
+  pub message5-other : (i : ℕ) → (i ≡ leaves p - 1 → ⊥) → message5Length p i ≡ siblingsLength p + 32 + valuesLength p + auxLength p
   unfolding message5Length
   message5-other i e = rw (isLast-false i e)
+
+  pub work-is : workLength p ≡ 2 * p .axes * (p .k + 2 * p .w + 12 * p .t)
+  unfolding workLength bits
+  work-is = let e : shareLength p ≡ p .k + 2 * p .w + 12 * p .t = omega arith in ap (_*_ (2 * p .axes)) e
