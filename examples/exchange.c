@@ -11,9 +11,9 @@
 
 #include "unlock.h"
 
-/* The shipped set, as unlock.h takes it: m, k, w, D, t. */
+/* The shipped set. */
 enum { M = 230, K = 126, W = 79, AXES = 8, T = 3 };
-#define SET M, K, W, AXES, T
+static const uint64_t set[UNLOCK_SET_LENGTH] = { M, K, W, AXES, T };
 
 /* Public: the matrix H', row after row, expanded from a label, and y. */
 static uint8_t matrix[(M - K) * K];
@@ -48,7 +48,7 @@ static uint8_t message1[64], message2[8 * T], message3[32], leaf, message5[UNLOC
     } while (0)
 
 /* Stands in for a random source. */
-static void expand(const char *label, uint8_t *out, size_t length)
+static void expand(const char *label, uint8_t *out, uint64_t length)
 {
     char text[32] = "Risvatey unlock: ";
     strcat(text, label);
@@ -56,7 +56,7 @@ static void expand(const char *label, uint8_t *out, size_t length)
 }
 
 /* A message's name, its length and the digest of its bytes. */
-static void report(const char *name, const uint8_t *message, size_t length)
+static void report(const char *name, const uint8_t *message, uint64_t length)
 {
     uint8_t digest[32];
     unlock_shake256(message, length, digest, sizeof digest);
@@ -69,7 +69,7 @@ static void report(const char *name, const uint8_t *message, size_t length)
 static int storage_fits(void)
 {
     return unlock_prover_size() == sizeof prover && unlock_verifier_size() == sizeof verifier
-        && unlock_work_size(SET) == sizeof work && unlock_opening_size(SET, 0) == sizeof message5;
+        && unlock_work_size(set, UNLOCK_SET_LENGTH) == sizeof work && unlock_opening_size(set, UNLOCK_SET_LENGTH, 0) == sizeof message5;
 }
 
 /* Message 1: the probe commits to the shares of every leaf. */
@@ -78,11 +78,11 @@ static uint8_t commitment(void)
     expand("salt", salt, sizeof salt);
     expand("root", root, sizeof root);
     TRY(unlock_prover_new(prover, sizeof prover));
-    TRY(unlock_prover_begin(prover, sizeof prover, SET, x_a, sizeof x_a, salt, sizeof salt, root, sizeof root,
+    TRY(unlock_prover_begin(prover, sizeof prover, set, UNLOCK_SET_LENGTH, x_a, sizeof x_a, salt, sizeof salt, root, sizeof root,
                             matrix, sizeof matrix, y, sizeof y, work, sizeof work, message1, sizeof message1));
     report("1 commitment", message1, sizeof message1);
     TRY(unlock_verifier_new(verifier, sizeof verifier));
-    return unlock_verifier_begin(verifier, sizeof verifier, SET, message1, sizeof message1);
+    return unlock_verifier_begin(verifier, sizeof verifier, set, UNLOCK_SET_LENGTH, message1, sizeof message1);
 }
 
 /* Messages 2 and 3: the target asks for the values at its points, the probe answers with a digest. */
@@ -103,7 +103,7 @@ static uint8_t opening(void)
     expand("leaf", &leaf, 1); /* with D = 8 every byte is below n */
     TRY(unlock_verifier_leaf(verifier, sizeof verifier, leaf));
     report("4 leaf", &leaf, 1);
-    size_t length = unlock_opening_size(SET, leaf); /* shorter for the last leaf */
+    uint64_t length = unlock_opening_size(set, UNLOCK_SET_LENGTH, leaf); /* shorter for the last leaf */
     TRY(unlock_prover_leaf(prover, sizeof prover, leaf,
                            matrix, sizeof matrix, y, sizeof y, work, sizeof work, message5, length));
     report("5 opening", message5, length);
@@ -130,7 +130,7 @@ int main(void)
         return 2;
     }
     expand("matrix", matrix, sizeof matrix);
-    printf("set\t%d\t%d\t%d\t%d\t%d\n", SET);
+    printf("set\t%d\t%d\t%d\t%d\t%d\n", M, K, W, AXES, T);
     uint8_t answer = exchange();
     wipe(prover, sizeof prover); /* it holds x and root */
     wipe(root, sizeof root);

@@ -1,15 +1,15 @@
 /*
  * The hypercube unlock exchange (document 01): prover, verifier, extractor and SHAKE256.
  *
- * Slices. A slice is an address and a length in bytes. Slices that a call writes to (session, work, out) may not overlap any other
- * slice of the call. No address is null, not even that of an empty slice. No function allocates, and none keeps an address after it
- * returns.
+ * Slices. A slice is an address and a length, in bytes, or for a set in numbers; every length is a uint64_t, also where size_t is
+ * shorter. Slices that a call writes to (session, work, out) may not overlap any other slice of the call. No address is null, not
+ * even that of an empty slice. No function allocates, and none keeps an address after it returns.
  *
  * Sessions. A session lives in a buffer that the caller lends, of UNLOCK_PROVER_SIZE or UNLOCK_VERIFIER_SIZE bytes; a buffer of
- * another length gives UNLOCK_LENGTH. A refused call leaves the buffer as it was; of the
- * verifier's opening, UNLOCK_COMMITMENT and UNLOCK_RESPONSE close the exchange. Any bytes are some session, and a
- * damaged one is closed: it answers UNLOCK_CLOSED to every call but begin where its phase is none, or where it was begun and its
- * parameters are outside their limits, its x is too heavy or its leaf not below n. Its salt and root still give UNLOCK_REPEATED.
+ * another length gives UNLOCK_LENGTH. A refused call leaves the buffer as it was; of the verifier's opening, UNLOCK_COMMITMENT and
+ * UNLOCK_RESPONSE close the exchange. Any bytes are some session, and a damaged one is closed: it answers UNLOCK_CLOSED to every
+ * call but begin where its phase is none, or where it was begun and its parameters are outside their limits, its x is too heavy or
+ * its leaf not below n. Its salt and root still give UNLOCK_REPEATED.
  *
  * Wiping. A prover's session holds the secret x and root: overwrite the buffer when the exchange is over. Bytes that are all 00 or
  * all ff read as a closed session; unlock_prover_new makes it fresh again. Salt and root, which UNLOCK_REPEATED goes by, go with it.
@@ -17,8 +17,9 @@
  * Reentrancy. The functions keep no state of their own. Calls may run side by side, in interrupts, threads or on several cores, as
  * long as no slice that one of them writes to is used by another.
  *
- * Parameters. Length m (2 to 255), dimension k (1 to m - 1), weight w (1 to m), axes D (1 to 8), positions t (1 to 8); n = 2^D
- * leaves, numbered from 0. The shipped set is m 230, k 126, w 79, D 8, t 3.
+ * Parameters. A set is UNLOCK_SET_LENGTH numbers in this order: length m (2 to 255), dimension k (1 to m - 1), weight w (1 to m),
+ * axes D (1 to 8), positions t (1 to 8); n = 2^D leaves, numbered from 0. The shipped set is 230, 126, 79, 8, 3. A set of another
+ * length gives UNLOCK_LENGTH before everything else, and changes nothing.
  *
  * Lengths. x_a k, salt 32, root 16, matrix (m - k) k, row after row, y m - k; message 1 64, message 2 8t (t points, then t
  * multipliers, four bytes each), message 3 32, message 5 unlock_opening_size(). The work area has unlock_work_size() bytes or more;
@@ -28,7 +29,6 @@
 #ifndef UNLOCK_H
 #define UNLOCK_H
 
-#include <stddef.h>
 #include <stdint.h>
 
 #ifdef __cplusplus
@@ -37,8 +37,8 @@ extern "C" {
 
 /*
  * What a call answers. A call that several refusals would fit gives the first of 12, 11, 1, 2, 3, 4, 13, 8, 9, 5, 7. Without a
- * session 12 and 11 cannot be told: a session buffer of wrong length gives 2 before them, but at begin 1 before 2. No call answers
- * 6, nor 10, which is the programs'.
+ * session 12 and 11 cannot be told: a session buffer of wrong length gives 2 before them, but at begin 1 before 2. Without a set 1
+ * cannot be told: a set of wrong length gives 2 before it. No call answers 6, nor 10, which is the programs'.
  */
 enum {
     UNLOCK_DONE = 0,        /* carried out; of an opening: accepted */
@@ -58,84 +58,87 @@ enum {
 
 /* ---- lengths */
 
+/* The numbers of a set. */
+#define UNLOCK_SET_LENGTH 5
+
 /* The bytes of a session. */
 #define UNLOCK_PROVER_SIZE 373
 #define UNLOCK_VERIFIER_SIZE 167
-size_t unlock_prover_size(void);
-size_t unlock_verifier_size(void);
+uint64_t unlock_prover_size(void);
+uint64_t unlock_verifier_size(void);
 
-/* The length of the work area; a longer one is taken too. 0 where a parameter is outside its limits. */
+/* The length of the work area; a longer one is taken too. 0 where a parameter is outside its limits or the set has another
+   length. */
 #define UNLOCK_WORK_SIZE(k, w, D, t) (2 * (D) * ((k) + 2 * (w) + 12 * (t)))
-size_t unlock_work_size(size_t m, size_t k, size_t w, size_t D, size_t t);
+uint64_t unlock_work_size(const uint64_t *set, uint64_t set_length);
 
-/* The length of message 5 where the leaf is hidden: UNLOCK_OPENING_MAX, or less for leaf n - 1. 0 where a parameter is outside its
-   limits. */
+/* The length of message 5 where the leaf is hidden: UNLOCK_OPENING_MAX, or less for leaf n - 1. 0 as above. */
 #define UNLOCK_OPENING_MAX(k, w, D, t) (16 * (D) + 32 + 8 * (t) + (k) + 2 * (w) + 4 * (t))
-size_t unlock_opening_size(size_t m, size_t k, size_t w, size_t D, size_t t, uint8_t leaf);
+uint64_t unlock_opening_size(const uint64_t *set, uint64_t set_length, uint8_t leaf);
 
-/* The length of the extractor's output. 0 where a parameter is outside its limits. */
+/* The length of the extractor's output. 0 as above. */
 #define UNLOCK_EXTRACT_SIZE(k, w, D, t) ((32 << (D)) + (k) + 2 * (w) + 4 * (t))
-size_t unlock_extract_size(size_t m, size_t k, size_t w, size_t D, size_t t);
+uint64_t unlock_extract_size(const uint64_t *set, uint64_t set_length);
 
 /* ---- prover */
 
 /* A fresh session, before its first begin. */
-uint8_t unlock_prover_new(uint8_t *session, size_t session_length);
+uint8_t unlock_prover_new(uint8_t *session, uint64_t session_length);
 
 /* Begins an exchange, dropping the one held, and gives message 1. Salt and root have to be random and fresh. */
-uint8_t unlock_prover_begin(uint8_t *session, size_t session_length,
-                            size_t m, size_t k, size_t w, size_t D, size_t t,
-                            const uint8_t *x_a, size_t x_a_length,
-                            const uint8_t *salt, size_t salt_length,
-                            const uint8_t *root, size_t root_length,
-                            const uint8_t *matrix, size_t matrix_length,
-                            const uint8_t *y, size_t y_length,
-                            uint8_t *work, size_t work_length,
-                            uint8_t *out, size_t out_length);
+uint8_t unlock_prover_begin(uint8_t *session, uint64_t session_length,
+                            const uint64_t *set, uint64_t set_length,
+                            const uint8_t *x_a, uint64_t x_a_length,
+                            const uint8_t *salt, uint64_t salt_length,
+                            const uint8_t *root, uint64_t root_length,
+                            const uint8_t *matrix, uint64_t matrix_length,
+                            const uint8_t *y, uint64_t y_length,
+                            uint8_t *work, uint64_t work_length,
+                            uint8_t *out, uint64_t out_length);
 
 /* Takes message 2 and gives message 3. */
-uint8_t unlock_prover_points(uint8_t *session, size_t session_length,
-                             const uint8_t *message2, size_t message2_length,
-                             const uint8_t *matrix, size_t matrix_length,
-                             const uint8_t *y, size_t y_length,
-                             uint8_t *work, size_t work_length,
-                             uint8_t *out, size_t out_length);
+uint8_t unlock_prover_points(uint8_t *session, uint64_t session_length,
+                             const uint8_t *message2, uint64_t message2_length,
+                             const uint8_t *matrix, uint64_t matrix_length,
+                             const uint8_t *y, uint64_t y_length,
+                             uint8_t *work, uint64_t work_length,
+                             uint8_t *out, uint64_t out_length);
 
 /* Takes message 4, the leaf that stays hidden, gives message 5 and closes the exchange. */
-uint8_t unlock_prover_leaf(uint8_t *session, size_t session_length,
+uint8_t unlock_prover_leaf(uint8_t *session, uint64_t session_length,
                            uint8_t leaf,
-                           const uint8_t *matrix, size_t matrix_length,
-                           const uint8_t *y, size_t y_length,
-                           uint8_t *work, size_t work_length,
-                           uint8_t *out, size_t out_length);
+                           const uint8_t *matrix, uint64_t matrix_length,
+                           const uint8_t *y, uint64_t y_length,
+                           uint8_t *work, uint64_t work_length,
+                           uint8_t *out, uint64_t out_length);
 
 /* ---- verifier */
 
 /* A fresh session, before its first begin. */
-uint8_t unlock_verifier_new(uint8_t *session, size_t session_length);
+uint8_t unlock_verifier_new(uint8_t *session, uint64_t session_length);
 
 /* Begins an exchange with its parameters and message 1, dropping the one held. */
-uint8_t unlock_verifier_begin(uint8_t *session, size_t session_length,
-                              size_t m, size_t k, size_t w, size_t D, size_t t,
-                              const uint8_t *message1, size_t message1_length);
+uint8_t unlock_verifier_begin(uint8_t *session, uint64_t session_length,
+                              const uint64_t *set, uint64_t set_length,
+                              const uint8_t *message1, uint64_t message1_length);
 
 /* Takes message 2, which the verifier sends: points and multipliers have to be random. */
-uint8_t unlock_verifier_points(uint8_t *session, size_t session_length,
-                               const uint8_t *message2, size_t message2_length);
+uint8_t unlock_verifier_points(uint8_t *session, uint64_t session_length,
+                               const uint8_t *message2, uint64_t message2_length);
 
 /* Takes message 3. */
-uint8_t unlock_verifier_response(uint8_t *session, size_t session_length,
-                                 const uint8_t *message3, size_t message3_length);
+uint8_t unlock_verifier_response(uint8_t *session, uint64_t session_length,
+                                 const uint8_t *message3, uint64_t message3_length);
 
 /* Takes message 4, which the verifier sends: the leaf that stays hidden has to be random. */
-uint8_t unlock_verifier_leaf(uint8_t *session, size_t session_length, uint8_t leaf);
+uint8_t unlock_verifier_leaf(uint8_t *session, uint64_t session_length, uint8_t leaf);
 
 /* Judges message 5 and closes the exchange: UNLOCK_DONE where the opening is accepted. */
-uint8_t unlock_verifier_opening(uint8_t *session, size_t session_length,
-                                const uint8_t *message5, size_t message5_length,
-                                const uint8_t *matrix, size_t matrix_length,
-                                const uint8_t *y, size_t y_length,
-                                uint8_t *work, size_t work_length);
+uint8_t unlock_verifier_opening(uint8_t *session, uint64_t session_length,
+                                const uint8_t *message5, uint64_t message5_length,
+                                const uint8_t *matrix, uint64_t matrix_length,
+                                const uint8_t *y, uint64_t y_length,
+                                uint8_t *work, uint64_t work_length);
 
 /* ---- extractor */
 
@@ -143,26 +146,26 @@ uint8_t unlock_verifier_opening(uint8_t *session, size_t session_length,
  * From messages 1 to 5 of two exchanges. A refusal is its number; 256 + axis (from 1) where out is filled: seed and rho of every
  * leaf, then aux; 65536 * layer + number for two unequal strings of one layer (4 to 7) and number that have one digest.
  */
-uint32_t unlock_extract(size_t m, size_t k, size_t w, size_t D, size_t t,
-                        const uint8_t *first1, size_t first1_length,
-                        const uint8_t *first2, size_t first2_length,
-                        const uint8_t *first3, size_t first3_length,
+uint32_t unlock_extract(const uint64_t *set, uint64_t set_length,
+                        const uint8_t *first1, uint64_t first1_length,
+                        const uint8_t *first2, uint64_t first2_length,
+                        const uint8_t *first3, uint64_t first3_length,
                         uint8_t first4,
-                        const uint8_t *first5, size_t first5_length,
-                        const uint8_t *second1, size_t second1_length,
-                        const uint8_t *second2, size_t second2_length,
-                        const uint8_t *second3, size_t second3_length,
+                        const uint8_t *first5, uint64_t first5_length,
+                        const uint8_t *second1, uint64_t second1_length,
+                        const uint8_t *second2, uint64_t second2_length,
+                        const uint8_t *second3, uint64_t second3_length,
                         uint8_t second4,
-                        const uint8_t *second5, size_t second5_length,
-                        const uint8_t *matrix, size_t matrix_length,
-                        const uint8_t *y, size_t y_length,
-                        uint8_t *work, size_t work_length,
-                        uint8_t *out, size_t out_length);
+                        const uint8_t *second5, uint64_t second5_length,
+                        const uint8_t *matrix, uint64_t matrix_length,
+                        const uint8_t *y, uint64_t y_length,
+                        uint8_t *work, uint64_t work_length,
+                        uint8_t *out, uint64_t out_length);
 
 /* ---- hash */
 
 /* SHAKE256 of the message: fills out. */
-void unlock_shake256(const uint8_t *message, size_t message_length, uint8_t *out, size_t out_length);
+void unlock_shake256(const uint8_t *message, uint64_t message_length, uint8_t *out, uint64_t out_length);
 
 #ifdef __cplusplus
 }

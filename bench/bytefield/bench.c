@@ -7,7 +7,7 @@
 enum { LENGTH = 4096, CALLS = 200, ROUNDS = 300 };
 
 /* A slice argument is its address and its length. */
-uint8_t bytefield_c_dot(const uint8_t *a, size_t a_length, const uint8_t *b, size_t b_length);
+uint8_t bytefield_c_dot(const uint8_t *a, uint64_t a_length, const uint8_t *b, uint64_t b_length);
 
 static uint8_t powers[256];
 static uint8_t logs[256];
@@ -32,14 +32,14 @@ static inline uint8_t product(uint8_t a, uint8_t b, const uint8_t *log, const ui
     return pow[i < 255 ? i : i - 255];
 }
 
-__attribute__((noinline)) static uint8_t c_dot(const uint8_t *a, size_t a_length, const uint8_t *b, size_t b_length)
+__attribute__((noinline)) static uint8_t c_dot(const uint8_t *a, uint64_t a_length, const uint8_t *b, uint64_t b_length)
 {
     uint8_t total = 0;
     for (size_t i = 0; i < a_length && i < b_length; i++) total ^= product(a[i], b[i], logs, powers);
     return total;
 }
 
-typedef uint8_t dot_function(const uint8_t *, size_t, const uint8_t *, size_t);
+typedef uint8_t dot_function(const uint8_t *, uint64_t, const uint8_t *, uint64_t);
 
 static uint8_t a[LENGTH], b[LENGTH];
 static volatile uint8_t sink;

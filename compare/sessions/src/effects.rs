@@ -5,9 +5,9 @@ use reference::parameters::Parameters;
 use reference::sampling::calls::{Effect, ExtractorCall, ProverCall, ProverInput, VerifierCall};
 use reference::sampling::exchanges::Exchange;
 
-/// The parameters as the wrapper takes them.
-pub fn parameters(p: &Parameters) -> unlock::Parameters {
-    unlock::Parameters { m: p.m, k: p.k, w: p.w, d: p.axes, t: p.t }
+/// The parameters as the C interface takes them.
+pub fn set_of(p: &Parameters) -> [u64; unlock::SET_LENGTH] {
+    [p.m, p.k, p.w, p.axes, p.t].map(|number| number as u64)
 }
 
 /// Makes a prover's call.
@@ -16,7 +16,7 @@ pub fn make_prover(call: &ProverCall, prover: &mut unlock::prover::Prover) -> Ef
     let (matrix, y) = (&call.lent.matrix, &call.lent.y);
     let number = match &call.input {
         ProverInput::Begin { parameters: p, x_a, salt, root } => {
-            prover.begin(parameters(p), x_a, salt, root, matrix, y, &mut work, &mut output)
+            prover.begin(&set_of(p), x_a, salt, root, matrix, y, &mut work, &mut output)
         }
         ProverInput::Points { message_2 } => prover.points(message_2, matrix, y, &mut work, &mut output),
         ProverInput::Leaf { leaf } => prover.leaf(*leaf, matrix, y, &mut work, &mut output),
@@ -28,7 +28,7 @@ pub fn make_prover(call: &ProverCall, prover: &mut unlock::prover::Prover) -> Ef
 pub fn make_verifier(call: &VerifierCall, verifier: &mut unlock::verifier::Verifier) -> Effect {
     let mut work = Vec::new();
     let number = match call {
-        VerifierCall::Begin { parameters: p, message_1 } => verifier.begin(parameters(p), message_1),
+        VerifierCall::Begin { parameters: p, message_1 } => verifier.begin(&set_of(p), message_1),
         VerifierCall::Points { message_2 } => verifier.points(message_2),
         VerifierCall::Response { message_3 } => verifier.response(message_3),
         VerifierCall::Leaf { leaf } => verifier.leaf(*leaf),
@@ -40,7 +40,8 @@ pub fn make_verifier(call: &VerifierCall, verifier: &mut unlock::verifier::Verif
     Effect { number, work, output: Vec::new() }
 }
 
-fn messages(exchange: &Exchange) -> unlock::extractor::Messages<'_> {
+/// The messages as the wrapper takes them.
+pub fn messages(exchange: &Exchange) -> unlock::extractor::Messages<'_> {
     unlock::extractor::Messages {
         message_1: &exchange.message_1,
         message_2: &exchange.message_2,
@@ -55,8 +56,8 @@ pub fn make_extractor(call: &ExtractorCall) -> (u32, Vec<u8>, Vec<u8>) {
     let (mut work, mut output) = (call.lent.work.clone(), call.output.clone());
     let (first, second) = (messages(&call.first), messages(&call.second));
     let (matrix, y) = (&call.lent.matrix, &call.lent.y);
-    let p = parameters(&call.parameters);
-    let answer = unlock::extractor::extract(p, first, second, matrix, y, &mut work, &mut output);
+    let set = set_of(&call.parameters);
+    let answer = unlock::extractor::extract(&set, first, second, matrix, y, &mut work, &mut output);
     (answer, work, output)
 }
 

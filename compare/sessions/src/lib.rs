@@ -8,6 +8,7 @@ pub mod extractor;
 pub mod fixed;
 pub mod made_up;
 pub mod prover;
+pub mod sets;
 pub mod verifier;
 
 use reference::sampling::scripts::Size;

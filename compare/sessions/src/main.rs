@@ -3,7 +3,7 @@
 //! sessions_comparison SEED     what the gate runs; the last line is 'N passed, M failed'
 
 use sessions_comparison::count::Count;
-use sessions_comparison::{damaged, extractor, fixed, made_up, prover, verifier};
+use sessions_comparison::{damaged, extractor, fixed, made_up, prover, sets, verifier};
 
 fn main() {
     let seed = match std::env::args().nth(1).map(|word| word.parse()) {
@@ -27,6 +27,7 @@ fn main() {
     damaged::verifiers(seed, 6, &mut count);
     extractor::pairs(seed, 12, &mut count);
     extractor::calls(seed, 0..400, &mut count);
+    sets::of_other_lengths(seed, 6, &mut count);
     made_up::openings(seed, &mut count);
     made_up::pairs(seed, &mut count);
     count.settle_number_6();

@@ -9,7 +9,7 @@ use reference::tree::sibling_nodes;
 
 const USES: [(&str, &[&str]); 5] = [
     (
-        "Rattle.exchange.specs.Layout",
+        "Rattle.layout.specs.Layout",
         &["levels", "coordinate", "message2Length", "message5Length", "workLength", "outputLength"],
     ),
     ("Rattle.exchange.specs.Tree", &["siblings"]),

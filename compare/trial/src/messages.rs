@@ -5,9 +5,10 @@ use crate::sample::{changed, Part, Sample};
 use reference::key::KeyPolynomials;
 use reference::sampling::exchanges::{verdict, Exchange};
 
-const USES: [(&str, &[&str]); 5] = [
+const USES: [(&str, &[&str]); 6] = [
     ("Rattle.polynomial.specs.Interpolant", &["interpolantOf", "vanishingOf"]),
     ("Rattle.relation.specs.Key", &["vectorOf", "locatorOf", "quotientOf"]),
+    ("Rattle.exchange.specs.Run", &["runOf"]),
     ("Rattle.exchange.specs.Messages", &["message1", "message3", "message5"]),
     ("Rattle.exchange.specs.Opening", &["Exchange", "exchange", "verdict"]),
     ("Rattle.standin.specs.Definitions", &["definitions"]),
@@ -63,11 +64,11 @@ fn key_facts(module: &mut Module, sample: &Sample) {
 }
 
 fn message_facts(module: &mut Module, exchanges: &[Exchange; 2]) {
-    module.fact("message1-is", "message1 standIn p x salt root", &list(&exchanges[0].message_1));
-    module.fact("message3-is", "message3 standIn p x salt root key m2", &list(&exchanges[0].message_3));
+    module.fact("message1-is", "message1 standIn p x (runOf salt root)", &list(&exchanges[0].message_1));
+    module.fact("message3-is", "message3 standIn p x (runOf salt root) key m2", &list(&exchanges[0].message_3));
     for exchange in exchanges {
         let leaf = exchange.leaf;
-        let computed = format!("message5 standIn p x salt root key m2 {leaf}");
+        let computed = format!("message5 standIn p x (runOf salt root) key m2 {leaf}");
         module.fact(&format!("message5-of-{leaf}"), &computed, &list(&exchange.message_5));
     }
 }

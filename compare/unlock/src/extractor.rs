@@ -1,7 +1,6 @@
 //! The extractor.
 
 use crate::interface;
-use crate::Parameters;
 
 /// Messages 1 to 5 of an exchange.
 #[derive(Clone, Copy, Debug)]
@@ -17,7 +16,7 @@ pub struct Messages<'a> {
 /// What the extractor answers: the number of a refusal as it stands, 256 + axis where the output is filled,
 /// 65536·layer + number for an unequal pair.
 pub fn extract(
-    p: Parameters,
+    set: &[u64],
     first: Messages,
     second: Messages,
     matrix: &[u8],
@@ -28,37 +27,34 @@ pub fn extract(
     // SAFETY: each pointer stands with the length of its slice, and what is written overlaps nothing.
     unsafe {
         interface::unlock_extract(
-            p.m,
-            p.k,
-            p.w,
-            p.d,
-            p.t,
+            set.as_ptr(),
+            set.len() as u64,
             first.message_1.as_ptr(),
-            first.message_1.len(),
+            first.message_1.len() as u64,
             first.message_2.as_ptr(),
-            first.message_2.len(),
+            first.message_2.len() as u64,
             first.message_3.as_ptr(),
-            first.message_3.len(),
+            first.message_3.len() as u64,
             first.leaf,
             first.message_5.as_ptr(),
-            first.message_5.len(),
+            first.message_5.len() as u64,
             second.message_1.as_ptr(),
-            second.message_1.len(),
+            second.message_1.len() as u64,
             second.message_2.as_ptr(),
-            second.message_2.len(),
+            second.message_2.len() as u64,
             second.message_3.as_ptr(),
-            second.message_3.len(),
+            second.message_3.len() as u64,
             second.leaf,
             second.message_5.as_ptr(),
-            second.message_5.len(),
+            second.message_5.len() as u64,
             matrix.as_ptr(),
-            matrix.len(),
+            matrix.len() as u64,
             y.as_ptr(),
-            y.len(),
+            y.len() as u64,
             work.as_mut_ptr(),
-            work.len(),
+            work.len() as u64,
             out.as_mut_ptr(),
-            out.len(),
+            out.len() as u64,
         )
     }
 }

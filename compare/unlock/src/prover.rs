@@ -1,7 +1,6 @@
 //! The prover's session.
 
 use crate::interface;
-use crate::Parameters;
 
 /// A session, as the bytes that the library keeps in it.
 #[derive(Clone, Debug, PartialEq, Eq)]
@@ -20,7 +19,7 @@ impl Prover {
     pub fn new() -> Prover {
         let mut session = vec![0; Prover::size()];
         // SAFETY: the pointer stands with the length of its slice.
-        let number = unsafe { interface::unlock_prover_new(session.as_mut_ptr(), session.len()) };
+        let number = unsafe { interface::unlock_prover_new(session.as_mut_ptr(), session.len() as u64) };
         assert_eq!(number, 0);
         Prover { session }
     }
@@ -28,7 +27,7 @@ impl Prover {
     /// How many bytes a session has.
     pub fn size() -> usize {
         // SAFETY: no argument.
-        unsafe { interface::unlock_prover_size() }
+        unsafe { interface::unlock_prover_size() as usize }
     }
 
     /// Any bytes as a session.
@@ -45,7 +44,7 @@ impl Prover {
     #[allow(clippy::too_many_arguments)]
     pub fn begin(
         &mut self,
-        p: Parameters,
+        set: &[u64],
         x_a: &[u8],
         salt: &[u8],
         root: &[u8],
@@ -58,26 +57,23 @@ impl Prover {
         unsafe {
             interface::unlock_prover_begin(
                 self.session.as_mut_ptr(),
-                self.session.len(),
-                p.m,
-                p.k,
-                p.w,
-                p.d,
-                p.t,
+                self.session.len() as u64,
+                set.as_ptr(),
+                set.len() as u64,
                 x_a.as_ptr(),
-                x_a.len(),
+                x_a.len() as u64,
                 salt.as_ptr(),
-                salt.len(),
+                salt.len() as u64,
                 root.as_ptr(),
-                root.len(),
+                root.len() as u64,
                 matrix.as_ptr(),
-                matrix.len(),
+                matrix.len() as u64,
                 y.as_ptr(),
-                y.len(),
+                y.len() as u64,
                 work.as_mut_ptr(),
-                work.len(),
+                work.len() as u64,
                 out.as_mut_ptr(),
-                out.len(),
+                out.len() as u64,
             )
         }
     }
@@ -88,17 +84,17 @@ impl Prover {
         unsafe {
             interface::unlock_prover_points(
                 self.session.as_mut_ptr(),
-                self.session.len(),
+                self.session.len() as u64,
                 message_2.as_ptr(),
-                message_2.len(),
+                message_2.len() as u64,
                 matrix.as_ptr(),
-                matrix.len(),
+                matrix.len() as u64,
                 y.as_ptr(),
-                y.len(),
+                y.len() as u64,
                 work.as_mut_ptr(),
-                work.len(),
+                work.len() as u64,
                 out.as_mut_ptr(),
-                out.len(),
+                out.len() as u64,
             )
         }
     }
@@ -109,16 +105,16 @@ impl Prover {
         unsafe {
             interface::unlock_prover_leaf(
                 self.session.as_mut_ptr(),
-                self.session.len(),
+                self.session.len() as u64,
                 leaf,
                 matrix.as_ptr(),
-                matrix.len(),
+                matrix.len() as u64,
                 y.as_ptr(),
-                y.len(),
+                y.len() as u64,
                 work.as_mut_ptr(),
-                work.len(),
+                work.len() as u64,
                 out.as_mut_ptr(),
-                out.len(),
+                out.len() as u64,
             )
         }
     }

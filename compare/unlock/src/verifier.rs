@@ -1,7 +1,6 @@
 //! The verifier's session.
 
 use crate::interface;
-use crate::Parameters;
 
 /// A session, as the bytes that the library keeps in it.
 #[derive(Clone, Debug, PartialEq, Eq)]
@@ -20,7 +19,7 @@ impl Verifier {
     pub fn new() -> Verifier {
         let mut session = vec![0; Verifier::size()];
         // SAFETY: the pointer stands with the length of its slice.
-        let number = unsafe { interface::unlock_verifier_new(session.as_mut_ptr(), session.len()) };
+        let number = unsafe { interface::unlock_verifier_new(session.as_mut_ptr(), session.len() as u64) };
         assert_eq!(number, 0);
         Verifier { session }
     }
@@ -28,7 +27,7 @@ impl Verifier {
     /// How many bytes a session has.
     pub fn size() -> usize {
         // SAFETY: no argument.
-        unsafe { interface::unlock_verifier_size() }
+        unsafe { interface::unlock_verifier_size() as usize }
     }
 
     /// Any bytes as a session.
@@ -42,32 +41,39 @@ impl Verifier {
     }
 
     /// Starts an exchange with message 1.
-    pub fn begin(&mut self, p: Parameters, message_1: &[u8]) -> u8 {
-        let (session, len) = (self.session.as_mut_ptr(), self.session.len());
+    pub fn begin(&mut self, set: &[u64], message_1: &[u8]) -> u8 {
+        let (session, len) = (self.session.as_mut_ptr(), self.session.len() as u64);
         // SAFETY: each pointer stands with the length of its slice, and the session overlaps nothing.
         unsafe {
-            interface::unlock_verifier_begin(session, len, p.m, p.k, p.w, p.d, p.t, message_1.as_ptr(), message_1.len())
+            interface::unlock_verifier_begin(
+                session,
+                len,
+                set.as_ptr(),
+                set.len() as u64,
+                message_1.as_ptr(),
+                message_1.len() as u64,
+            )
         }
     }
 
     /// Takes message 2, which was sent.
     pub fn points(&mut self, message_2: &[u8]) -> u8 {
-        let (session, len) = (self.session.as_mut_ptr(), self.session.len());
+        let (session, len) = (self.session.as_mut_ptr(), self.session.len() as u64);
         // SAFETY: each pointer stands with the length of its slice, and the session overlaps nothing.
-        unsafe { interface::unlock_verifier_points(session, len, message_2.as_ptr(), message_2.len()) }
+        unsafe { interface::unlock_verifier_points(session, len, message_2.as_ptr(), message_2.len() as u64) }
     }
 
     /// Takes message 3.
     pub fn response(&mut self, message_3: &[u8]) -> u8 {
-        let (session, len) = (self.session.as_mut_ptr(), self.session.len());
+        let (session, len) = (self.session.as_mut_ptr(), self.session.len() as u64);
         // SAFETY: each pointer stands with the length of its slice, and the session overlaps nothing.
-        unsafe { interface::unlock_verifier_response(session, len, message_3.as_ptr(), message_3.len()) }
+        unsafe { interface::unlock_verifier_response(session, len, message_3.as_ptr(), message_3.len() as u64) }
     }
 
     /// Takes message 4, which was sent.
     pub fn leaf(&mut self, leaf: u8) -> u8 {
         // SAFETY: the pointer stands with the length of its slice.
-        unsafe { interface::unlock_verifier_leaf(self.session.as_mut_ptr(), self.session.len(), leaf) }
+        unsafe { interface::unlock_verifier_leaf(self.session.as_mut_ptr(), self.session.len() as u64, leaf) }
     }
 
     /// Takes message 5 and closes the exchange with the verdict.
@@ -76,15 +82,15 @@ impl Verifier {
         unsafe {
             interface::unlock_verifier_opening(
                 self.session.as_mut_ptr(),
-                self.session.len(),
+                self.session.len() as u64,
                 message_5.as_ptr(),
-                message_5.len(),
+                message_5.len() as u64,
                 matrix.as_ptr(),
-                matrix.len(),
+                matrix.len() as u64,
                 y.as_ptr(),
-                y.len(),
+                y.len() as u64,
                 work.as_mut_ptr(),
-                work.len(),
+                work.len() as u64,
             )
         }
     }

@@ -1,5 +1,7 @@
 // Aux: what leaf n−1 is given so that the sums over all leaves come right (document 01, "Strings hashed").
 // The tables of the byte field are made once a call and lent down.
+use layout::at_x;
+use layout::factor_length;
 use parameters::Parameters;
 ghost use mathlib.Core.Path.{_≡_};
 ghost use Prim.Native.Nat.{_*_};
@@ -15,10 +17,11 @@ fn products(p: Parameters, drawn: &[u8], out: &mut [u8], log: &[u8; 256], pow: &
     requires { ⌜ ProductsAsked p (now drawn) (now out) × (now log ≡ logs) × (now pow ≡ powers) ⌝ }
     ensures { λ _. ⌜ now (out .exit) ≡ encode (productsOf p (now (drawn .entry))) (p .t) ⌝ }
 {
+    let at_b = factor_length(p);
     let mut l = 0;
     while l < p.t {
         let a = encoding::point_at(drawn, 4 * l);
-        let b = encoding::point_at(drawn, 4 * p.t + 4 * l);
+        let b = encoding::point_at(drawn, at_b + 4 * l);
         let c = points::product(a, b, log, pow);
         encoding::put_point(out, 4 * l, c);
         l += 1;
@@ -56,7 +59,7 @@ pub fn aux(p: Parameters, x: &[u8], drawn: &[u8], out: &mut [u8], log: &[u8; 256
 {
     let mut work = [0u8; 255];
     let m = p.m;
-    let a = 8 * p.t;
+    let a = at_x(p);
     wanted(p, x, drawn, &mut work[..m], out, log, pow);
     lists::xor_into(out, &drawn[a..]);
 }

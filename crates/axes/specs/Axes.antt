@@ -1,25 +1,30 @@
 -- What the code makes of all axes is what their parties announce.
 --
--- Evaluated p key m2 parts blocks   the blocks of the D + 1 shares, with the constants
+-- Evaluated p key m2 parts blocks   the blocks of all sums: with the constants those of the first parties and of all leaves, the others without
+-- partyRow p parts blocks sums j c   the row of party c on axis j by the formula, for all but the last one
+-- formulaRows p parts blocks sums total j   the rows of all parties of axis j by the formula
+-- productsMade p             how many products of the points field the blocks take
 -- points-of                  bytes are the points that are read from them
 -- hidden-some                a party holds the hidden leaf exactly where one is hidden
 -- axis-made                  an axis
 -- rows-made                  all axes
-use mathlib.Core.Path.{_≡_, refl, sym, ap, ap₂, _∙_}
+use mathlib.Core.Path.{_≡_, sym, ap, ap₂, _∙_}
 use mathlib.Core.Bool.{Bool, true, false, cond}
-use mathlib.Core.List.{List, _++_}
-use Prim.Native.Nat.{ℕ, suc, _+_, _*_, _≤_, _<_}
+use mathlib.Core.List.{List, _++_, append-assoc}
+use Prim.Native.Nat.{ℕ, zero, suc, _+_, _-_, _*_, _≤_, _<_}
+use native.Mathlib.Nat.{zero-mul, mul-le-mul-right}
+use native.Mathlib.Decide.{decLt}
 use native.Mathlib.Omega.{arith}
-use borrow.Author.Tests.{lt-ltb}
-use lib.Dec.{ltb}
+use borrow.Author.Tests.{ne-eqb, lt-ltb, le-ltb}
+use lib.Dec.{eqb, ltb}
 use lib.ListN.{length, getD, take, drop, take-append-drop, length-drop}
 use lib.Seq.{take-all}
 use Rattle.lists.specs.Part.{part}
 use Rattle.lists.specs.Sum.{xorList}
 use Rattle.tower.specs.Field.{Point, bytesOf, bytesOf-point}
 use Rattle.parameters.specs.declared.Parameters.{Parameters}
-use Rattle.layout.specs.Layout.{bits, leaves, digit}
-use Rattle.layout.specs.Layout.Laws.{digit-lt}
+use Rattle.layout.specs.Layout.{side, others, sumCount, sumIndex, leaves, digit, factorLength, valuesLength, atV}
+use Rattle.layout.specs.Layout.Laws.{digit-lt, side-others, index-lt}
 use Rattle.exchange.specs.Sequences.{joined}
 use Rattle.exchange.specs.Sequences.Laws.{joined-ext}
 use Rattle.exchange.specs.Reading.{points, bytesAt, pointAt, encode, _⊞_}
@@ -28,15 +33,31 @@ use Rattle.exchange.specs.Values.{Key, alpha, beta}
 use Rattle.values.specs.Announced.{announcedOf}
 use Rattle.values.specs.Filled.{filled-block}
 use Rattle.sidebyside.specs.Shares.{shareOf}
+use Rattle.values.specs.Products.{productsOf}
 use Rattle.values.specs.Shares.{blockOf}
+use Rattle.parties.specs.Sums.{less, withLast}
 use Rattle.partyrows.specs.Difference.{encode-xor, front-xor, shareRow}
-use Rattle.partyrows.specs.Row.{frontBy, rowBy, hiddenParty, withHidden, sumsBy, axisBy}
-use Rattle.partyrows.specs.Row.Laws.{frontBy-is, rowBy-is}
-use Rattle.axes.specs.Announcing.{partyFrom, rowOf}
-use Rattle.axes.specs.Parties.{hatAlpha, hatBeta, row-made}
+use Rattle.partyrows.specs.Row.{frontBy, rowBy, hiddenParty, hidingBy, withHidden, sumsBy, axisBy}
+use Rattle.partyrows.specs.Row.Laws.{frontBy-is, rowBy-is, row-v}
+use Rattle.axes.specs.Announcing.{partyFrom, hiddenFrom, rowOf}
+use Rattle.axes.specs.Parties.{hatAlpha, hatBeta, totalV, formulaRow, hidingOf, row-made, last-row, less-ext}
 
 pub record Evaluated (p : Parameters) (key : Key) (m2 parts blocks : List ℕ) : Type 0 where
-  pub announcements : (i : ℕ) → i < p .axes + 1 → blockOf p blocks i ≡ announcedOf p key m2 true (shareOf p parts i)
+  pub firsts : (i : ℕ) → i < p .axes + 1 → blockOf p blocks i ≡ announcedOf p key m2 true (shareOf p parts i)
+  pub rest : (i : ℕ) → p .axes + 1 ≤ i → i < sumCount p → blockOf p blocks i ≡ announcedOf p key m2 false (shareOf p parts i)
+
+unfoldable pub partyRow : Parameters → List ℕ → List ℕ → List ℕ → ℕ → ℕ → List ℕ
+partyRow p parts blocks sums j c = rowBy p (eqb c 0) (shareOf p parts (sumIndex p j c)) (blockOf p blocks (sumIndex p j c)) sums
+
+unfoldable pub formulaRows : Parameters → List ℕ → List ℕ → List ℕ → List ℕ → ℕ → List ℕ
+formulaRows p parts blocks sums total j = joined (withLast p total (partyRow p parts blocks sums j)) (side p)
+
+-- the sums whose blocks have no constants
+abbrev pub restCount : Parameters → ℕ
+restCount p = sumCount p - (p .axes + 1)
+
+abbrev pub productsMade : Parameters → ℕ
+productsMade p = productsOf p (p .axes + 1) + cond (eqb (restCount p) 0) 0 (productsOf p (restCount p))
 
 -- ---- bytes read as points
 
@@ -47,84 +68,132 @@ part-point s i b h =
     ∙ sym (bytesOf-point ((getD s i 0, getD s (suc i) 0), (getD s (suc (suc i)) 0, getD s (suc (suc (suc i))) 0))
     (b i, b (suc i), b (suc (suc i)), b (suc (suc (suc i)))))
 
-pub points-of : (s : List ℕ) (t : ℕ) → length s ≡ 8 * t → ((j : ℕ) → getD s j 0 < 256)
-    → s ≡ encode (λ l. pointAt s (4 * l)) t ++ encode (λ l. pointAt s (4 * t + 4 * l)) t
+pub points-of : (p : Parameters) (s : List ℕ) → length s ≡ valuesLength p → ((j : ℕ) → getD s j 0 < 256)
+    → s ≡ encode (λ l. pointAt s (4 * l)) (p .t) ++ encode (λ l. pointAt s (factorLength p + 4 * l)) (p .t)
 unfolding part
-points-of s t e b =
-    let k = length-drop (4 * t) s in
+points-of p s e b =
+    let a = factorLength p in
+    let k = length-drop a s in
     let z : (l : ℕ) → 0 + 4 * l ≡ 4 * l = λ l. omega arith in
-    sym (take-append-drop (4 * t) s)
-    ∙ ap₂ _++_ (filled-block (λ l. pointAt s (4 * l)) s 0 t (λ l h. ap (λ (i : ℕ). take 4 (drop i s)) (z l) ∙ part-point s (4 * l) b (omega arith)))
-    (sym (take-all (4 * t) (drop (4 * t) s) (omega arith)) ∙ filled-block (λ l. pointAt s (4 * t + 4 * l)) s (4 * t) t (λ l h. part-point s (4 * t + 4 * l) b (omega arith)))
+    sym (take-append-drop a s)
+    ∙ ap₂ _++_ (filled-block (λ l. pointAt s (4 * l)) s 0 (p .t) (λ l h. ap (λ (i : ℕ). take 4 (drop i s)) (z l) ∙ part-point s (4 * l) b (omega arith)))
+    (sym (take-all a (drop a s) (omega arith)) ∙ filled-block (λ l. pointAt s (a + 4 * l)) s a (p .t) (λ l h. part-point s (a + 4 * l) b (omega arith)))
 
 -- ---- the party that holds the hidden leaf
 
-hidden-some : (p : Parameters) (leaf j : ℕ) → (hiddenParty p leaf j ≤ 2) × (ltb (hiddenParty p leaf j) 2 ≡ ltb leaf (leaves p))
-unfolding hiddenParty bits
+hidden-some : (p : Parameters) (leaf j : ℕ) → ltb (hiddenParty p leaf j) (side p) ≡ ltb leaf (leaves p)
+unfolding hiddenParty
 hidden-some p leaf j = go (ltb leaf (leaves p))
   where
-    go : (b : Bool) → (cond b (digit p j leaf) 2 ≤ 2) × (ltb (cond b (digit p j leaf) 2) 2 ≡ b)
-    go true = let h = digit-lt p j leaf in (omega arith, lt-ltb (digit p j leaf) 2 h)
-    go false = (omega arith, refl)
+    go : (b : Bool) → ltb (cond b (digit p j leaf) (side p)) (side p) ≡ b
+    go true = lt-ltb (digit p j leaf) (side p) (digit-lt p j leaf)
+    go false = le-ltb (side p) (side p) (omega arith)
 
 -- ---- the axes
 
 module _ (p : Parameters) (key : Key) (m2 parts : List ℕ) (leaf : ℕ) (hidden blocks sums total : List ℕ)
-    (given : Evaluated p key m2 parts blocks) (sized : length hidden ≡ 8 * p .t) (bytes : (i : ℕ) → getD hidden i 0 < 256)
+    (given : Evaluated p key m2 parts blocks) (sized : length hidden ≡ valuesLength p) (bytes : (i : ℕ) → getD hidden i 0 < 256)
     (es : sums ≡ sumsBy p leaf (blockOf p blocks (p .axes)) hidden)
-    (et : total ≡ rowBy p (shareOf p parts (p .axes)) (blockOf p blocks (p .axes)) sums) where
-  α⋆ : ℕ → Point
-  α⋆ l = pointAt hidden (4 * l)
-
-  β⋆ : ℕ → Point
-  β⋆ l = pointAt hidden (4 * p .t + 4 * l)
-
-  all : List ℕ
+    (et : total ≡ rowBy p true (shareOf p parts (p .axes)) (blockOf p blocks (p .axes)) sums) where
+  abbrev all : List ℕ
   all = shareOf p parts (p .axes)
 
-  α̂ : ℕ → Point
-  α̂ = hatAlpha p key m2 all α⋆ (ltb leaf (leaves p))
+  abbrev α⋆ : ℕ → Point
+  α⋆ l = pointAt hidden (4 * l)
 
-  β̂ : ℕ → Point
-  β̂ = hatBeta p key m2 all β⋆ (ltb leaf (leaves p))
+  abbrev β⋆ : ℕ → Point
+  β⋆ l = pointAt hidden (factorLength p + 4 * l)
 
-  hidden-is : hidden ≡ encode α⋆ (p .t) ++ encode β⋆ (p .t)
-  unfolding α⋆ β⋆
-  hidden-is = points-of hidden (p .t) sized bytes
+  module _ (j : ℕ) (inside : j < p .axes) where
+    abbrev s : ℕ → List ℕ
+    s = partyFrom p parts j
 
-  all-is : frontBy p (blockOf p blocks (p .axes)) ≡ encode (alpha p key m2 true all) (p .t) ++ encode (beta p key m2 true all) (p .t)
-  unfolding all
-  all-is = frontBy-is p key m2 (shareOf p parts (p .axes)) _ (given .announcements (p .axes) (omega arith))
+    own : (c : ℕ) → c < others p → shareOf p parts (sumIndex p j c) ≡ s c
+    unfolding partyFrom withLast
+    own c h = sym (ap (λ (b : Bool). cond b (shareOf p parts (sumIndex p j c)) (less all (λ c. shareOf p parts (sumIndex p j c)) (others p))) (lt-ltb c (others p) h))
 
-  sums-is : sums ≡ encode α̂ (p .t) ++ encode β̂ (p .t)
-  unfolding sumsBy withHidden α̂ β̂ hatAlpha hatBeta
-  sums-is = es ∙ go (ltb leaf (leaves p))
-    where
-      go : (b : Bool)
-          → cond b (xorList (frontBy p (blockOf p blocks (p .axes))) hidden) (frontBy p (blockOf p blocks (p .axes)))
-          ≡ encode (hatAlpha p key m2 all α⋆ b) (p .t) ++ encode (hatBeta p key m2 all β⋆ b) (p .t)
-      go true =
-          ap₂ xorList all-is hidden-is ∙ front-xor _ _ (p .t) _ _
-          ∙ ap (λ (z : List ℕ). encode (λ l. alpha p key m2 true all l ⊞ α⋆ l) (p .t) ++ z) (encode-xor _ _ (p .t))
-      go false = all-is ∙ ap₂ _++_ (encode-ext _ _ (p .t) (λ l h. sym (points .base .add-zero _))) (encode-ext _ _ (p .t) (λ l h. sym (points .base .add-zero _)))
+    last : s (others p) ≡ less all s (others p)
+    unfolding partyFrom withLast
+    last =
+        ap (λ (b : Bool). cond b (shareOf p parts (sumIndex p j (others p))) (less all (λ c. shareOf p parts (sumIndex p j c)) (others p))) (le-ltb (others p) (others p) (omega arith))
+        ∙ less-ext all (λ c. shareOf p parts (sumIndex p j c)) s (others p) own
 
-  -- the row of share i of the D + 1
-  share-is : (i : ℕ) → i < p .axes + 1 → rowBy p (shareOf p parts i) (blockOf p blocks i) sums ≡ shareRow p key m2 true (shareOf p parts i) α̂ β̂
-  share-is i h = rowBy-is p key m2 (shareOf p parts i) _ _ α̂ β̂ (given .announcements i h) sums-is
+    abbrev α̂ : ℕ → Point
+    α̂ = hatAlpha p key m2 s all last (hiddenFrom p leaf hidden j)
 
-  pub axis-made : (j : ℕ) → j < p .axes
-      → axisBy p (shareOf p parts j) (blockOf p blocks j) sums total (hiddenParty p leaf j) hidden ≡ rowOf p key m2 parts leaf hidden j
-  unfolding axisBy rowOf partyFrom α̂ β̂ α⋆ β⋆ all
-  axis-made j h =
-      sym (row-made p key m2 (partyFrom p parts j) all refl α⋆ β⋆ hidden hidden-is (hiddenParty p leaf j)
-      (rowBy p (shareOf p parts j) (blockOf p blocks j) sums) total (hidden-some p leaf j .0)
-      (share-is j (omega arith) ∙ hats (shareOf p parts j))
-      (et ∙ share-is (p .axes) (omega arith) ∙ hats (shareOf p parts (p .axes))))
-    where
-      hats : (s : List ℕ) → shareRow p key m2 true s α̂ β̂
-          ≡ shareRow p key m2 true s (hatAlpha p key m2 all α⋆ (ltb (hiddenParty p leaf j) 2)) (hatBeta p key m2 all β⋆ (ltb (hiddenParty p leaf j) 2))
-      hats s = ap (λ (b : Bool). shareRow p key m2 true s (hatAlpha p key m2 all α⋆ b) (hatBeta p key m2 all β⋆ b)) (sym (hidden-some p leaf j .1))
+    abbrev β̂ : ℕ → Point
+    β̂ = hatBeta p key m2 s all last (hiddenFrom p leaf hidden j)
 
-  pub rows-made : joined (λ j. axisBy p (shareOf p parts j) (blockOf p blocks j) sums total (hiddenParty p leaf j) hidden) (p .axes)
-      ≡ joined (rowOf p key m2 parts leaf hidden) (p .axes)
-  rows-made = joined-ext _ _ (p .axes) axis-made
+    hidden-is : hidden ≡ encode α⋆ (p .t) ++ encode β⋆ (p .t)
+    hidden-is = points-of p hidden sized bytes
+
+    all-is : frontBy p (blockOf p blocks (p .axes)) ≡ encode (alpha p key m2 true all) (p .t) ++ encode (beta p key m2 true all) (p .t)
+    all-is = frontBy-is p key m2 true all _ (given .firsts (p .axes) (omega arith))
+
+    sums-is : sums ≡ encode α̂ (p .t) ++ encode β̂ (p .t)
+    unfolding sumsBy withHidden hatAlpha hatBeta
+    sums-is =
+        es ∙ go (ltb leaf (leaves p))
+        ∙ ap (λ (b : Bool). encode (λ l. alpha p key m2 true all l ⊞ cond b (α⋆ l) (points .base .zero)) (p .t) ++ encode (λ l. beta p key m2 true all l ⊞ cond b (β⋆ l) (points .base .zero)) (p .t))
+        (sym (hidden-some p leaf j))
+      where
+        go : (b : Bool)
+            → cond b (xorList (frontBy p (blockOf p blocks (p .axes))) hidden) (frontBy p (blockOf p blocks (p .axes)))
+            ≡ encode (λ l. alpha p key m2 true all l ⊞ cond b (α⋆ l) (points .base .zero)) (p .t) ++ encode (λ l. beta p key m2 true all l ⊞ cond b (β⋆ l) (points .base .zero)) (p .t)
+        go true =
+            ap₂ xorList all-is hidden-is ∙ front-xor _ _ (p .t) _ _
+            ∙ ap (λ (z : List ℕ). encode (λ l. alpha p key m2 true all l ⊞ α⋆ l) (p .t) ++ z) (encode-xor _ _ (p .t))
+        go false = all-is ∙ ap₂ _++_ (encode-ext _ _ (p .t) (λ l h. sym (points .base .add-zero _))) (encode-ext _ _ (p .t) (λ l h. sym (points .base .add-zero _)))
+
+    total-is : total ≡ shareRow p key m2 true all α̂ β̂
+    total-is = et ∙ rowBy-is p key m2 true all _ _ α̂ β̂ (given .firsts (p .axes) (omega arith)) sums-is
+
+    block-is : (c : ℕ) → c < others p → blockOf p blocks (sumIndex p j c) ≡ announcedOf p key m2 (eqb c 0) (shareOf p parts (sumIndex p j c))
+    block-is zero h = given .firsts (sumIndex p j 0) (omega (arith, zero-mul (p .axes)))
+    block-is (suc c) h =
+        let e : 1 * p .axes ≤ suc c * p .axes = mul-le-mul-right (p .axes) (omega arith) in
+        given .rest (sumIndex p j (suc c)) (rw (ne-eqb (suc c) 0 (λ e. omega arith)) (omega arith)) (index-lt p j (suc c) inside h)
+        ∙ sym (ap (λ (b : Bool). announcedOf p key m2 b (shareOf p parts (sumIndex p j (suc c)))) (ne-eqb (suc c) 0 (λ e. omega arith)))
+
+    party-is : (c : ℕ) → c < others p → partyRow p parts blocks sums j c ≡ formulaRow p key m2 s all last (hiddenFrom p leaf hidden j) c
+    unfolding partyRow formulaRow
+    party-is c h =
+        rowBy-is p key m2 (eqb c 0) (shareOf p parts (sumIndex p j c)) _ _ α̂ β̂ (block-is c h) sums-is
+        ∙ ap (λ (z : List ℕ). shareRow p key m2 (eqb c 0) z α̂ β̂) (own c h)
+
+    rows-are : (c : ℕ) → c < side p
+        → withLast p total (partyRow p parts blocks sums j) c ≡ formulaRow p key m2 s all last (hiddenFrom p leaf hidden j) c
+    unfolding withLast
+    rows-are c h = go (decLt c (others p))
+      where
+        pick : {b : Bool} → ltb c (others p) ≡ b
+            → cond (ltb c (others p)) (partyRow p parts blocks sums j c) (less total (partyRow p parts blocks sums j) (others p))
+            ≡ cond b (partyRow p parts blocks sums j c) (less total (partyRow p parts blocks sums j) (others p))
+        pick e = ap (λ (b : Bool). cond b (partyRow p parts blocks sums j c) (less total (partyRow p parts blocks sums j) (others p))) e
+
+        go : Dec (c < others p)
+            → cond (ltb c (others p)) (partyRow p parts blocks sums j c) (less total (partyRow p parts blocks sums j) (others p))
+            ≡ formulaRow p key m2 s all last (hiddenFrom p leaf hidden j) c
+        go (yes l) = pick (lt-ltb c (others p) l) ∙ party-is c l
+        go (no l) =
+            let e : others p ≡ c = omega (arith, side-others p) in
+            pick (le-ltb c (others p) (omega arith))
+            ∙ ap (λ (z : List ℕ). less z (partyRow p parts blocks sums j) (others p)) total-is
+            ∙ last-row p key m2 s all last (hiddenFrom p leaf hidden j) (partyRow p parts blocks sums j) party-is
+            ∙ ap (formulaRow p key m2 s all last (hiddenFrom p leaf hidden j)) e
+
+    hiding-is : hidingBy p hidden total ≡ hidingOf p key m2 s all last (hiddenFrom p leaf hidden j)
+    unfolding hidingBy shareRow totalV
+    hiding-is = ap₂ (λ (x y : List ℕ). x ++ drop (atV p) y) hidden-is total-is
+        ∙ ap (_++_ (encode α⋆ (p .t) ++ encode β⋆ (p .t))) (row-v p _ _ _) ∙ append-assoc (encode α⋆ (p .t)) (encode β⋆ (p .t)) _
+
+    pub axis-made : axisBy p total (partyRow p parts blocks sums j) (hiddenParty p leaf j) (hidingBy p hidden total) ≡ rowOf p key m2 parts leaf hidden j
+    unfolding axisBy rowOf
+    axis-made =
+        joined-ext _ _ (side p) (λ c h. ap₂ (λ (x y : List ℕ). cond (eqb c (hiddenParty p leaf j)) (xorList x y) x) (rows-are c h) hiding-is
+        ∙ sym (row-made p key m2 s all last (hiddenFrom p leaf hidden j) c h))
+
+  pub rows-made : (hiding : List ℕ) → hiding ≡ hidingBy p hidden total
+      → joined (λ j. axisBy p total (partyRow p parts blocks sums j) (hiddenParty p leaf j) hiding) (p .axes) ≡ joined (rowOf p key m2 parts leaf hidden) (p .axes)
+  rows-made hiding e =
+      joined-ext _ _ (p .axes) (λ j h. ap (axisBy p total (partyRow p parts blocks sums j) (hiddenParty p leaf j)) e ∙ axis-made j h)

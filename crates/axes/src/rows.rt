@@ -2,19 +2,20 @@
 use crate::axis::put_axis;
 use crate::total::evaluate;
 use crate::total::total_row;
+use layout::axis_length;
 use parameters::Parameters;
+use partyrows::hidden::put_hiding;
 ghost use mathlib.Core.Path.{_≡_};
-ghost use Prim.Native.Nat.{_+_, _*_};
+ghost use Prim.Native.Nat.{_*_};
 ghost use lib.ListN.{length};
 ghost use Rattle.bytefield.specs.Tables.{logs, powers};
+ghost use Rattle.layout.specs.Layout.{rowLength, axisLength};
 ghost use Rattle.exchange.specs.Sequences.{joined};
 ghost use Rattle.exchange.specs.Values.{keyOf};
-ghost use Rattle.sidebyside.specs.Shares.{shareOf};
-ghost use Rattle.values.specs.Shares.{blockOf};
-ghost use Rattle.values.specs.Products.{productsOf};
 ghost use Rattle.partyrows.specs.Row.{hiddenParty, axisBy};
 ghost use Rattle.axes.specs.Announcing.{rowOf};
-ghost use Rattle.axes.specs.Asked.{RowsAsked, RoomAsked, AxesAsked};
+ghost use Rattle.axes.specs.Asked.{RowsAsked, RoomAsked, SumsAsked};
+ghost use Rattle.axes.specs.Axes.{partyRow, productsMade};
 
 // rows becomes the rows of all axes, from what is made once for all of them.
 fn put_rows(
@@ -24,15 +25,15 @@ fn put_rows(
     sums: &[u8],
     total: &[u8],
     leaf: usize,
-    hidden: &[u8],
+    hiding: &[u8],
     rows: &mut [u8],
     log: &[u8; 256],
     pow: &[u8; 256],
 )
-    requires { ⌜ AxesAsked p (now parts) (now blocks) (now sums) (now total) (now hidden) × (length (now rows) ≡ p .axes * (24 * p .t)) × (now log ≡ logs) × (now pow ≡ powers) ⌝ }
-    ensures { λ _. ⌜ now (rows .exit) ≡ joined (λ j. axisBy p (shareOf p (now (parts .entry)) j) (blockOf p (now (blocks .entry)) j) (now (sums .entry)) (now (total .entry)) (hiddenParty p leaf j) (now (hidden .entry))) (p .axes) ⌝ }
+    requires { ⌜ SumsAsked p (now parts) (now blocks) (now sums) × (length (now total) ≡ rowLength p) × (length (now hiding) ≡ rowLength p) × (length (now rows) ≡ p .axes * axisLength p) × (now log ≡ logs) × (now pow ≡ powers) ⌝ }
+    ensures { λ _. ⌜ now (rows .exit) ≡ joined (λ j. axisBy p (now (total .entry)) (partyRow p (now (parts .entry)) (now (blocks .entry)) (now (sums .entry)) j) (hiddenParty p leaf j) (now (hiding .entry))) (p .axes) ⌝ }
 {
-    let width = 24 * p.t;
+    let width = axis_length(p);
     let mut b = 0;
     let mut j = 0;
     while j < p.axes {
@@ -45,7 +46,7 @@ fn put_rows(
             sums,
             total,
             leaf,
-            hidden,
+            hiding,
             &mut rows[b..e],
             log,
             pow,
@@ -55,7 +56,7 @@ fn put_rows(
     }
 }
 
-// rows becomes the rows of all axes; blocks, sums and total hold what is made once for all of them.
+// rows becomes the rows of all axes; blocks, sums, total and hiding hold what is made once for all of them.
 // Answers how many products of the points field the evaluation made.
 pub fn axis_rows_with(
     p: Parameters,
@@ -68,15 +69,17 @@ pub fn axis_rows_with(
     blocks: &mut [u8],
     sums: &mut [u8],
     total: &mut [u8],
+    hiding: &mut [u8],
     rows: &mut [u8],
     log: &[u8; 256],
     pow: &[u8; 256],
 ) -> usize
-    requires { ⌜ RowsAsked p (now parts) (now m2) (now matrix) (now y) (now hidden) (now rows) × RoomAsked p (now blocks) (now sums) (now total) × (now log ≡ logs) × (now pow ≡ powers) ⌝ }
-    ensures { λ c. ⌜ (now (rows .exit) ≡ joined (rowOf p (keyOf (now (matrix .entry)) (now (y .entry))) (now (m2 .entry)) (now (parts .entry)) leaf (now (hidden .entry))) (p .axes)) × (c ≡ productsOf p (p .axes + 1)) ⌝ }
+    requires { ⌜ RowsAsked p (now parts) (now m2) (now matrix) (now y) (now hidden) (now rows) × RoomAsked p (now blocks) (now sums) (now total) (now hiding) × (now log ≡ logs) × (now pow ≡ powers) ⌝ }
+    ensures { λ c. ⌜ (now (rows .exit) ≡ joined (rowOf p (keyOf (now (matrix .entry)) (now (y .entry))) (now (m2 .entry)) (now (parts .entry)) leaf (now (hidden .entry))) (p .axes)) × (c ≡ productsMade p) ⌝ }
 {
     let made = evaluate(p, parts, m2, matrix, y, blocks, log, pow);
     total_row(p, parts, blocks, leaf, hidden, sums, total, log, pow);
-    put_rows(p, parts, blocks, sums, total, leaf, hidden, rows, log, pow);
+    put_hiding(p, hidden, total, hiding);
+    put_rows(p, parts, blocks, sums, total, leaf, hiding, rows, log, pow);
     made
 }

@@ -10,14 +10,15 @@ use lib.ListN.{length}
 use Rattle.lists.specs.Part.{part}
 use Rattle.parameters.specs.declared.Parameters.{Parameters}
 use Rattle.parameters.specs.Limits.{Within}
+use Rattle.layout.specs.Layout.{axisLength}
 use Rattle.exchange.specs.Strings.{string, string7}
 
 abbrev pub rowString : Parameters → List ℕ → List ℕ → ℕ → List ℕ
-rowString p prefix rows j = string 6 prefix ((j + 1) ∷ part rows (j * (24 * p .t)) (24 * p .t))
+rowString p prefix rows j = string 6 prefix ((j + 1) ∷ part rows (j * axisLength p) (axisLength p))
 
 abbrev pub rowsString : (List ℕ → ℕ → List ℕ) → Parameters → List ℕ → List ℕ → List ℕ
 rowsString hash p prefix rows = string7 prefix (λ j. hash (rowString p prefix rows j) 32) (p .axes)
 
 pub record ResponseAsked (p : Parameters) (rows : List ℕ) : Type 0 where
   pub within : Within p
-  pub sized-rows : length rows ≡ p .axes * (24 * p .t)
+  pub sized-rows : length rows ≡ p .axes * axisLength p

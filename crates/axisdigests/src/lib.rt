@@ -1,9 +1,12 @@
 // Layers 6 and 7: the digest of what the parties of an axis announce, and the digest of all axes. Each string of layer 6
 // goes on from the start of its layer, which is made once.
+use layout::axis_length;
 use parameters::Parameters;
 use shake256::Sponge;
+use strings::absorb;
 use strings::begin;
 use strings::digest;
+use strings::hash;
 ghost use mathlib.Core.Path.{_≡_};
 ghost use mathlib.Core.List.{List, _∷_};
 ghost use Prim.Native.Nat.{ℕ, _+_, _<_};
@@ -26,8 +29,7 @@ fn row_digest(axes: Sponge, axis: usize, row: &[u8], out: &mut [u8])
     ensures { λ _. ⌜ ((prefix : List ℕ) → axes ≡ begun 6 prefix → now (out .exit) ≡ SHAKE256 (string 6 prefix ((axis + 1) ∷ now (row .entry))) (length (now (out .entry)))) ⌝ }
 {
     let number = [(axis + 1) as u8];
-    let numbered = axes.absorb(&number);
-    digest(numbered.absorb(row), out);
+    hash(axes, &number, row, &[], out);
 }
 
 // The sponge that has absorbed the digest of one axis more.
@@ -37,7 +39,7 @@ fn add_axis(all: Sponge, axes: Sponge, axis: usize, row: &[u8]) -> Sponge
 {
     let mut h = [0u8; 32];
     row_digest(axes, axis, row, &mut h);
-    all.absorb(&h)
+    absorb(all, &h)
 }
 
 // Fills out with the digest of what the parties of an axis announce (layer 6); axes count from 0.
@@ -55,7 +57,7 @@ pub fn response_digest(p: Parameters, prefix: &[u8], rows: &[u8], out: &mut [u8]
 {
     let axes = begin(AXES, prefix);
     let mut all = begin(RESPONSE, prefix);
-    let width = 24 * p.t;
+    let width = axis_length(p);
     let mut b = 0;
     let mut j = 0;
     while j < p.axes {

@@ -33,6 +33,7 @@ use Rattle.parameters.specs.declared.Parameters.{Parameters}
 use Rattle.parameters.specs.Limits.{withinLimits}
 use Rattle.relation.specs.Key.{weightOf, vectorOf}
 use Rattle.layout.specs.Layout.{leaves, message2Length, workLength}
+use Rattle.exchange.specs.Run.{runOf}
 use Rattle.exchange.specs.Values.{Key}
 use Rattle.exchange.specs.Messages.{message1, message3, message5}
 use Rattle.prover_phase.specs.declared.Phase.{Phase}
@@ -132,7 +133,7 @@ module _ (hash : List ℕ → ℕ → List ℕ) (s : Prover) where
         root = root;
         message2 = replicate 64 0;
       };
-      out = message1 hash p (vectorOf (key .matrix) (key .y) xA) salt root;
+      out = message1 hash p (vectorOf (key .matrix) (key .y) xA) (runOf salt root);
       work = zeroed (workLength p) work;
     }
 
@@ -158,7 +159,7 @@ module _ (hash : List ℕ → ℕ → List ℕ) (s : Prover) where
     answered = record {
       answer = 0;
       prover = record { phase = Answered; parameters = p; x = s .x; salt = s .salt; root = s .root; message2 = padded 64 m2 };
-      out = message3 hash p (heldX s) (s .salt) (s .root) key m2;
+      out = message3 hash p (heldX s) (runOf (s .salt) (s .root)) key m2;
       work = zeroed (workLength p) work;
     }
 
@@ -180,7 +181,7 @@ module _ (hash : List ℕ → ℕ → List ℕ) (s : Prover) where
     opened = record {
       answer = 0;
       prover = record { phase = Closed; parameters = p; x = s .x; salt = s .salt; root = s .root; message2 = s .message2 };
-      out = message5 hash p (heldX s) (s .salt) (s .root) key (heldMessage2 s) i;
+      out = message5 hash p (heldX s) (runOf (s .salt) (s .root)) key (heldMessage2 s) i;
       work = zeroed (workLength p) work;
     }
 

@@ -4,13 +4,17 @@
 -- Outcome              number, output and work area
 -- extractAfter o       what the call's outcome o gives
 -- extractCall          the call, at SHAKE256
+-- extractSet           the call with a set: another count of numbers gives 2 before everything else, and nothing changes
 use mathlib.Core.List.{List}
 use Prim.Native.Nat.{ℕ, _+_, _*_}
+use Rattle.answers.specs.Number.{refusalNumber}
+use Rattle.answers.specs.declared.Refusal.the-variants.{Length}
 use Rattle.parameters.specs.declared.Parameters.{Parameters}
 use Rattle.shake256.specs.Fips.{SHAKE256}
 use Rattle.exchange.specs.Values.{Key}
 use Rattle.calls.specs.Extractor.{refused, pair, filled}
 use Rattle.calls.specs.Extractor as extractor
+use Rattle.capi.specs.Set.{withSet}
 pub mod Laws
 
 abbrev pub extractNumber : extractor.Answer → ℕ
@@ -32,3 +36,6 @@ extractAfter o = given (extractNumber (o .answer)) (o .out) (o .work)
 
 abbrev pub extractCall : Parameters → extractor.Transcript → extractor.Transcript → Key → List ℕ → List ℕ → Outcome
 extractCall p t t′ key work out = extractAfter (extractor.extraction SHAKE256 p t t′ key work out)
+
+abbrev pub extractSet : List ℕ → extractor.Transcript → extractor.Transcript → Key → List ℕ → List ℕ → Outcome
+extractSet ns t t′ key work out = withSet ns (λ p. extractCall p t t′ key work out) (given (refusalNumber Length) out work)

@@ -1,3 +1,4 @@
+pub mod Set
 pub mod Sizes
 pub mod Session
 pub mod Prover

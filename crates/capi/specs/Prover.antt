@@ -4,6 +4,7 @@
 -- proverAfter b o             what the call's outcome o gives
 -- proverCall b n work out call  the call on the session that the bytes b are; a buffer of another length gives the number n, and nothing changes
 -- proverBegin, proverPoints, proverLeaf   the three calls, at SHAKE256
+-- proverBeginSet              begin with a set: another count of numbers gives 2 before everything else, and nothing changes
 use mathlib.Core.List.{List}
 use Prim.Native.Nat.{ℕ}
 use Rattle.answers.specs.Number.{refusalNumber}
@@ -13,6 +14,7 @@ use Rattle.shake256.specs.Fips.{SHAKE256}
 use Rattle.exchange.specs.Values.{Key}
 use Rattle.calls.specs.Prover as prover
 use Rattle.stored.specs.Prover.{proverSize, proverBytes, proverFrom}
+use Rattle.capi.specs.Set.{withSet}
 use Rattle.capi.specs.Session.{fits, after, misfitNumber}
 pub mod Laws
 pub mod Follows
@@ -36,6 +38,10 @@ proverCall b n work out call = fits b proverSize (proverAfter b (call (proverFro
 
 abbrev pub proverBegin : List ℕ → Parameters → List ℕ → List ℕ → List ℕ → Key → List ℕ → List ℕ → Outcome
 proverBegin b p xA salt root key work out = proverCall b (misfitNumber p) work out (λ s. prover.begin SHAKE256 s p xA salt root key work out)
+
+abbrev pub proverBeginSet : List ℕ → List ℕ → List ℕ → List ℕ → List ℕ → Key → List ℕ → List ℕ → Outcome
+proverBeginSet b ns xA salt root key work out =
+    withSet ns (λ p. proverBegin b p xA salt root key work out) (given (refusalNumber Length) b out work)
 
 abbrev pub proverPoints : List ℕ → List ℕ → Key → List ℕ → List ℕ → Outcome
 proverPoints b m2 key work out = proverCall b (refusalNumber Length) work out (λ s. prover.points SHAKE256 s m2 key work out)

@@ -1,27 +1,31 @@
 -- Lengths that a caller asks for.
 --
--- parametersOf m k w d t   the parameters as a call names them
--- sized p n                n, or 0 where a parameter is outside its limits
--- workSize p               the named length of the work area
--- openingSize p leaf       the length of message 5
--- extractSize p            the length of the extractor's output
-use mathlib.Core.Bool.{cond}
+-- setWithin ns          ns names parameters within their limits
+-- sized ns f            f of the parameters that ns names; 0 where it names none, or a parameter is outside its limits
+-- workSize ns           the named length of the work area
+-- openingSize ns leaf   the length of message 5
+-- extractSize ns        the length of the extractor's output
+use mathlib.Core.Bool.{Bool, false, cond}
+use mathlib.Core.List.{List}
 use Prim.Native.Nat.{ℕ}
 use Rattle.parameters.specs.declared.Parameters.{Parameters}
 use Rattle.parameters.specs.Limits.{withinLimits}
+use Rattle.parameters.specs.Set.{parametersOf}
 use Rattle.layout.specs.Layout.{workLength, message5Length, outputLength}
+use Rattle.capi.specs.Set.{withSet}
+pub mod Laws
 
-abbrev pub parametersOf : ℕ → ℕ → ℕ → ℕ → ℕ → Parameters
-parametersOf m k w d t = record { m = m; k = k; w = w; axes = d; t = t }
+abbrev pub setWithin : List ℕ → Bool
+setWithin ns = withSet ns withinLimits false
 
-abbrev pub sized : Parameters → ℕ → ℕ
-sized p n = cond (withinLimits p) n 0
+abbrev pub sized : List ℕ → (Parameters → ℕ) → ℕ
+sized ns f = cond (setWithin ns) (f (parametersOf ns)) 0
 
-abbrev pub workSize : Parameters → ℕ
-workSize p = sized p (workLength p)
+abbrev pub workSize : List ℕ → ℕ
+workSize ns = sized ns workLength
 
-abbrev pub openingSize : Parameters → ℕ → ℕ
-openingSize p leaf = sized p (message5Length p leaf)
+abbrev pub openingSize : List ℕ → ℕ → ℕ
+openingSize ns leaf = sized ns (λ p. message5Length p leaf)
 
-abbrev pub extractSize : Parameters → ℕ
-extractSize p = sized p (outputLength p)
+abbrev pub extractSize : List ℕ → ℕ
+extractSize ns = sized ns outputLength

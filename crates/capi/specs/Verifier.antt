@@ -3,6 +3,7 @@
 -- verifierAfter b o           what the outcome o of a call on the bytes b gives
 -- verifierCall b n call       the call on the session that the bytes b are; a buffer of another length gives the number n, and nothing changes
 -- verifierBegin, verifierPoints, verifierResponse, verifierLeaf   the calls but the opening
+-- verifierBeginSet            begin with a set: another count of numbers gives 2 before everything else, and nothing changes
 -- Judged                      number, bytes of the session and work area
 -- openingAfter b o            what the outcome o of the opening on the bytes b gives
 -- verifierOpening             the opening, at SHAKE256
@@ -17,6 +18,7 @@ use Rattle.exchange.specs.Values.{Key}
 pub use Rattle.calls.specs.Judging.{judged as judges}
 use Rattle.calls.specs.Verifier as verifier
 use Rattle.stored.specs.Verifier.{verifierSize, verifierBytes, verifierFrom}
+use Rattle.capi.specs.Set.{withSet}
 use Rattle.capi.specs.Session.{fits, after, Kept, kept, misfitNumber}
 pub mod Laws
 pub mod Follows
@@ -30,6 +32,9 @@ verifierCall b n call = fits b verifierSize (verifierAfter b (call (verifierFrom
 
 abbrev pub verifierBegin : List ℕ → Parameters → List ℕ → Kept
 verifierBegin b p m1 = verifierCall b (misfitNumber p) (λ s. verifier.begin s p m1)
+
+abbrev pub verifierBeginSet : List ℕ → List ℕ → List ℕ → Kept
+verifierBeginSet b ns m1 = withSet ns (λ p. verifierBegin b p m1) (kept (refusalNumber Length) b)
 
 abbrev pub verifierPoints : List ℕ → List ℕ → Kept
 verifierPoints b m2 = verifierCall b (refusalNumber Length) (λ s. verifier.points s m2)

@@ -1,12 +1,11 @@
 // The extractor's call.
 use findings::Extraction;
-use parameters::Parameters;
+use parameters::set::parameters_of;
 ghost use mathlib.Core.Path.{_≡_};
 ghost use Rattle.exchange.specs.Values.{keyOf};
-ghost use Rattle.capi.specs.Sizes.{parametersOf};
 ghost use Rattle.calls.specs.Extractor.{transcript};
 ghost use Rattle.findings.specs.Answer.{extractionAnswer};
-ghost use Rattle.capi.specs.Extract.{extractNumber, given, extractCall};
+ghost use Rattle.capi.specs.Extract.{extractNumber, given, extractSet};
 
 fn wide(b: u8) -> u32
     ensures { λ r. ⌜ r ≡ b ⌝ }
@@ -26,13 +25,10 @@ fn number(e: Extraction) -> u32
 }
 
 // From two accepted openings of one commitment: the first unequal pair of strings, or every leaf's state in out.
+// A set of another length gives 2 before everything else.
 #[no_mangle]
 pub extern "C" fn unlock_extract(
-    m: usize,
-    k: usize,
-    w: usize,
-    d: usize,
-    t: usize,
+    set: &[usize],
     first1: &[u8],
     first2: &[u8],
     first3: &[u8],
@@ -49,18 +45,15 @@ pub extern "C" fn unlock_extract(
     out: &mut [u8],
 ) -> u32
     ensures { λ r. ⌜ given r (now (out .exit)) (now (work .exit))
-        ≡ extractCall (parametersOf m k w d t)
+        ≡ extractSet (now (set .entry))
         (transcript (now (first1 .entry)) (now (first2 .entry)) (now (first3 .entry)) first4 (now (first5 .entry)))
         (transcript (now (second1 .entry)) (now (second2 .entry)) (now (second3 .entry)) second4 (now (second5 .entry)))
         (keyOf (now (matrix .entry)) (now (y .entry))) (now (work .entry)) (now (out .entry)) ⌝ }
 {
-    let p = Parameters {
-        m,
-        k,
-        w,
-        axes: d,
-        t,
-    };
+    if set.len() != parameters::set::LENGTH {
+        return 2;
+    }
+    let p = parameters_of(set);
     let e = extractor::extract(
         p,
         first1,

@@ -1,7 +1,7 @@
 // The prover's calls.
 use crate::misfit::misfit_number;
 use answers::Answer;
-use parameters::Parameters;
+use parameters::set::parameters_of;
 use prover::Called;
 ghost use mathlib.Core.Path.{_≡_};
 ghost use lib.ListN.{length};
@@ -10,9 +10,8 @@ ghost use Rattle.exchange.specs.Values.{keyOf};
 ghost use Rattle.prover.specs.Held.{held};
 ghost use Rattle.stored.specs.Parameters.{Small};
 ghost use Rattle.stored.specs.Prover.{proverSize, proverBytes};
-ghost use Rattle.capi.specs.Sizes.{parametersOf};
 ghost use Rattle.capi.specs.Session.{kept, after};
-ghost use Rattle.capi.specs.Prover.{given, proverBegin, proverPoints, proverLeaf};
+ghost use Rattle.capi.specs.Prover.{given, proverBeginSet, proverPoints, proverLeaf};
 
 // Writes the session of a call that was carried out; the number of its answer.
 fn keep(called: Called, session: &mut [u8]) -> u8
@@ -28,15 +27,11 @@ fn keep(called: Called, session: &mut [u8]) -> u8
     0
 }
 
-// Begins an exchange and gives message 1.
+// Begins an exchange and gives message 1. A set of another length gives 2 before everything else.
 #[no_mangle]
 pub extern "C" fn unlock_prover_begin(
     session: &mut [u8],
-    m: usize,
-    k: usize,
-    w: usize,
-    d: usize,
-    t: usize,
+    set: &[usize],
     x_a: &[u8],
     salt: &[u8],
     root: &[u8],
@@ -46,26 +41,16 @@ pub extern "C" fn unlock_prover_begin(
     out: &mut [u8],
 ) -> u8
     ensures { λ r. ⌜ given r (now (session .exit)) (now (out .exit)) (now (work .exit))
-        ≡ proverBegin (now (session .entry)) (parametersOf m k w d t) (now («x_a» .entry)) (now (salt .entry)) (now (root .entry)) (keyOf (now (matrix .entry)) (now (y .entry))) (now (work .entry)) (now (out .entry)) ⌝ }
+        ≡ proverBeginSet (now (session .entry)) (now (set .entry)) (now («x_a» .entry)) (now (salt .entry)) (now (root .entry)) (keyOf (now (matrix .entry)) (now (y .entry))) (now (work .entry)) (now (out .entry)) ⌝ }
 {
+    if set.len() != parameters::set::LENGTH {
+        return 2;
+    }
+    let p = parameters_of(set);
     if session.len() != stored::PROVER_SIZE {
-        let p = Parameters {
-            m,
-            k,
-            w,
-            axes: d,
-            t,
-        };
         return misfit_number(p);
     }
     let s = stored::read_prover(session);
-    let p = Parameters {
-        m,
-        k,
-        w,
-        axes: d,
-        t,
-    };
     let called = s.begin(p, x_a, salt, root, matrix, y, work, out);
     keep(called, session)
 }

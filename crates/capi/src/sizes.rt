@@ -1,9 +1,9 @@
 // Lengths that a caller asks for before it lends slices.
-use parameters::Parameters;
+use parameters::set::parameters_of;
 ghost use mathlib.Core.Path.{_≡_};
 ghost use Rattle.stored.specs.Prover.{proverSize};
 ghost use Rattle.stored.specs.Verifier.{verifierSize};
-ghost use Rattle.capi.specs.Sizes.{parametersOf, workSize, openingSize, extractSize};
+ghost use Rattle.capi.specs.Sizes.{setWithin, workSize, openingSize, extractSize};
 
 // The bytes of a prover's session.
 #[no_mangle]
@@ -21,63 +21,45 @@ pub extern "C" fn unlock_verifier_size() -> usize
     stored::VERIFIER_SIZE
 }
 
-// The length of the work area that calls ask; 0 where a parameter is outside its limits.
-#[no_mangle]
-pub extern "C" fn unlock_work_size(m: usize, k: usize, w: usize, d: usize, t: usize) -> usize
-    ensures { λ r. ⌜ r ≡ workSize (parametersOf m k w d t) ⌝ }
+// Has the set its length, and is every parameter within its limits?
+fn set_within(set: &[usize]) -> bool
+    ensures { λ r. ⌜ r ≡ setWithin (now (set .entry)) ⌝ }
 {
-    let p = Parameters {
-        m,
-        k,
-        w,
-        axes: d,
-        t,
-    };
-    if !parameters::within_limits(p) {
-        return 0;
+    if set.len() != parameters::set::LENGTH {
+        return false;
     }
-    layout::work_length(p)
+    parameters::within_limits(parameters_of(set))
 }
 
-// The length of message 5 where the leaf is hidden; 0 where a parameter is outside its limits.
+// The length of the work area that calls ask; 0 where the set has another length or a parameter is outside its limits.
 #[no_mangle]
-pub extern "C" fn unlock_opening_size(
-    m: usize,
-    k: usize,
-    w: usize,
-    d: usize,
-    t: usize,
-    leaf: u8,
-) -> usize
-    ensures { λ r. ⌜ r ≡ openingSize (parametersOf m k w d t) leaf ⌝ }
+pub extern "C" fn unlock_work_size(set: &[usize]) -> usize
+    ensures { λ r. ⌜ r ≡ workSize (now (set .entry)) ⌝ }
 {
-    let p = Parameters {
-        m,
-        k,
-        w,
-        axes: d,
-        t,
-    };
-    if !parameters::within_limits(p) {
+    if !set_within(set) {
         return 0;
     }
-    layout::message5_length(p, leaf as usize)
+    layout::work_length(parameters_of(set))
 }
 
-// The length of the extractor's output; 0 where a parameter is outside its limits.
+// The length of message 5 where the leaf is hidden; 0 where the set has another length or a parameter is outside its limits.
 #[no_mangle]
-pub extern "C" fn unlock_extract_size(m: usize, k: usize, w: usize, d: usize, t: usize) -> usize
-    ensures { λ r. ⌜ r ≡ extractSize (parametersOf m k w d t) ⌝ }
+pub extern "C" fn unlock_opening_size(set: &[usize], leaf: u8) -> usize
+    ensures { λ r. ⌜ r ≡ openingSize (now (set .entry)) leaf ⌝ }
 {
-    let p = Parameters {
-        m,
-        k,
-        w,
-        axes: d,
-        t,
-    };
-    if !parameters::within_limits(p) {
+    if !set_within(set) {
         return 0;
     }
-    layout::output_length(p)
+    layout::message5_length(parameters_of(set), leaf as usize)
+}
+
+// The length of the extractor's output; 0 where the set has another length or a parameter is outside its limits.
+#[no_mangle]
+pub extern "C" fn unlock_extract_size(set: &[usize]) -> usize
+    ensures { λ r. ⌜ r ≡ extractSize (now (set .entry)) ⌝ }
+{
+    if !set_within(set) {
+        return 0;
+    }
+    layout::output_length(parameters_of(set))
 }

@@ -2,7 +2,7 @@
 use crate::misfit::misfit_number;
 use answers::Answer;
 use buffer::is_judged;
-use parameters::Parameters;
+use parameters::set::parameters_of;
 use verifier::Called;
 ghost use mathlib.Core.Path.{_≡_};
 ghost use mathlib.Core.Bool.{true, cond};
@@ -12,9 +12,8 @@ ghost use Rattle.exchange.specs.Values.{keyOf};
 ghost use Rattle.verifier.specs.Held.{held};
 ghost use Rattle.stored.specs.Parameters.{Small};
 ghost use Rattle.stored.specs.Verifier.{verifierSize, verifierBytes};
-ghost use Rattle.capi.specs.Sizes.{parametersOf};
 ghost use Rattle.capi.specs.Session.{kept, after};
-ghost use Rattle.capi.specs.Verifier.{verifierBegin, verifierPoints, verifierResponse, verifierLeaf, judged, judges, verifierOpening};
+ghost use Rattle.capi.specs.Verifier.{verifierBeginSet, verifierPoints, verifierResponse, verifierLeaf, judged, judges, verifierOpening};
 
 // Writes the session of a call that was carried out; the number of its answer.
 fn keep(called: Called, session: &mut [u8]) -> u8
@@ -30,37 +29,19 @@ fn keep(called: Called, session: &mut [u8]) -> u8
     0
 }
 
-// Begins an exchange with its parameters and message 1.
+// Begins an exchange with its parameters and message 1. A set of another length gives 2 before everything else.
 #[no_mangle]
-pub extern "C" fn unlock_verifier_begin(
-    session: &mut [u8],
-    m: usize,
-    k: usize,
-    w: usize,
-    d: usize,
-    t: usize,
-    message1: &[u8],
-) -> u8
-    ensures { λ r. ⌜ kept r (now (session .exit)) ≡ verifierBegin (now (session .entry)) (parametersOf m k w d t) (now (message1 .entry)) ⌝ }
+pub extern "C" fn unlock_verifier_begin(session: &mut [u8], set: &[usize], message1: &[u8]) -> u8
+    ensures { λ r. ⌜ kept r (now (session .exit)) ≡ verifierBeginSet (now (session .entry)) (now (set .entry)) (now (message1 .entry)) ⌝ }
 {
+    if set.len() != parameters::set::LENGTH {
+        return 2;
+    }
+    let p = parameters_of(set);
     if session.len() != stored::VERIFIER_SIZE {
-        let p = Parameters {
-            m,
-            k,
-            w,
-            axes: d,
-            t,
-        };
         return misfit_number(p);
     }
     let s = stored::read_verifier(session);
-    let p = Parameters {
-        m,
-        k,
-        w,
-        axes: d,
-        t,
-    };
     let called = s.begin(p, message1);
     keep(called, session)
 }

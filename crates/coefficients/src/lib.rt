@@ -1,4 +1,5 @@
 // S of several shares, eight at a time, and F: the vectors x stand side by side in words (crate packed).
+use layout::LONGEST_X;
 use layout::share_length;
 use parameters::Parameters;
 ghost use mathlib.Core.Path.{_≡_};
@@ -125,7 +126,7 @@ pub fn interpolate_each(
     ensures { λ _. ⌜ now (rows .exit) ≡ joined (λ i. SOf p (keyOf (now (matrix .entry)) (now (y .entry))) first (shareOf p (now (shares .entry)) i)) n ++ take (p .m) (F p) ⌝ }
 {
     let mut g = [0u8; 256];
-    let mut weights = [0u8; 255];
+    let mut weights = [0u8; LONGEST_X];
     let m = p.m;
     let e = 256 - m;
     let end = n * m;

@@ -4,6 +4,7 @@ use leaves::COMMITMENTS;
 use leaves::leaf_commitment;
 use parameters::Parameters;
 use shake256::Sponge;
+use strings::absorb;
 use strings::begin;
 use strings::digest;
 ghost use mathlib.Core.Path.{_≡_};
@@ -33,12 +34,12 @@ fn absorb_commitment(
     ensures { λ r. ⌜ r ≡ absorbed all (commitmentsAfter start p (now (states .entry)) hidden (now (given .entry)) (now (aux .entry)) leaf) ⌝ }
 {
     if leaf == hidden {
-        return all.absorb(given);
+        return absorb(all, given);
     }
     let at = 32 * leaf;
     let mut commitment = [0u8; 32];
     leaf_commitment(start, p, leaf, &states[at..at + 32], aux, &mut commitment);
-    all.absorb(&commitment)
+    absorb(all, &commitment)
 }
 
 // Fills out with the digest of all commitments, from the states of all leaves. The hidden leaf's commitment is given; a

@@ -24,7 +24,7 @@ use Rattle.lists.specs.Part.{part}
 use Rattle.lists.specs.Equal.{eqList}
 use Rattle.shake256.specs.Fips.{SHAKE256}
 use Rattle.parameters.specs.declared.Parameters.{Parameters}
-use Rattle.layout.specs.Layout.{leaves, isLast}
+use Rattle.layout.specs.Layout.{leaves, isLast, axisLength}
 use Rattle.exchange.specs.Sequences.{joined, least}
 use Rattle.exchange.specs.Strings.{string}
 use Rattle.exchange.specs.Leaf.{commitment}
@@ -46,7 +46,7 @@ abbrev pub view : ℕ → List ℕ → List ℕ → List ℕ → List ℕ → Vi
 view leaf given aux states rows = record { leaf = leaf; given = given; aux = aux; states = states; rows = rows }
 
 abbrev pub rowAt : Parameters → List ℕ → ℕ → List ℕ
-rowAt p rows j = part rows (j * (24 * p .t)) (24 * p .t)
+rowAt p rows j = part rows (j * axisLength p) (axisLength p)
 
 unfoldable pub digestAt : Parameters → List ℕ → List ℕ → ℕ → List ℕ
 digestAt p prefix rows j = SHAKE256 (string 6 prefix ((j + 1) ∷ rowAt p rows j)) 32

@@ -15,13 +15,13 @@ use Prim.Native.Nat.{ℕ, _*_, _≤_, _<_}
 use lib.ListN.{length}
 use Rattle.parameters.specs.declared.Parameters.{Parameters}
 use Rattle.parameters.specs.Limits.{Within}
-use Rattle.layout.specs.Layout.{leaves, isLast, auxLength, outputLength}
+use Rattle.layout.specs.Layout.{leaves, isLast, auxLength, outputLength, axisLength}
 use Rattle.comparison.specs.Comparison.{View}
 
 pub record Rows (p : Parameters) (rows others : List ℕ) : Type 0 where
   pub within : Within p
-  pub first : p .axes * (24 * p .t) ≤ length rows
-  pub second : p .axes * (24 * p .t) ≤ length others
+  pub first : p .axes * axisLength p ≤ length rows
+  pub second : p .axes * axisLength p ≤ length others
 
 pub record States (p : Parameters) (states others : List ℕ) : Type 0 where
   pub within : Within p
@@ -59,7 +59,7 @@ pub record Viewed (p : Parameters) (v : View) : Type 0 where
   pub size : length (v .given) ≡ 32
   pub aux : isLast p (v .leaf) ≡ false → length (v .aux) ≡ auxLength p
   pub states : 32 * leaves p ≤ length (v .states)
-  pub rows : p .axes * (24 * p .t) ≤ length (v .rows)
+  pub rows : p .axes * axisLength p ≤ length (v .rows)
 
 pub record Views (p : Parameters) (v v′ : View) (out : List ℕ) : Type 0 where
   pub within : Within p

@@ -1,4 +1,5 @@
 // The rows of the axes compared: what the parties announce, and its digests.
+use layout::axis_length;
 use lists::equal;
 use parameters::Parameters;
 ghost use mathlib.Core.Path.{_≡_};
@@ -12,7 +13,7 @@ fn same_row(p: Parameters, rows: &[u8], others: &[u8], axis: usize) -> bool
     requires { ⌜ Rows p (now rows) (now others) × (axis < p .axes) ⌝ }
     ensures { λ r. ⌜ r ≡ eqList (rowAt p (now (rows .entry)) axis) (rowAt p (now (others .entry)) axis) ⌝ }
 {
-    let size = 24 * p.t;
+    let size = axis_length(p);
     let at = axis * size;
     let end = at + size;
     equal(&rows[at..end], &others[at..end])

@@ -6,9 +6,10 @@
 use mathlib.Core.List.{List, [], _∷_}
 use Prim.Native.Nat.{ℕ}
 use Rattle.parameters.specs.declared.Parameters.{Parameters}
+use Rattle.parameters.specs.Set.{parametersOf}
 
 abbrev pub shippedSet : Parameters
-shippedSet = record { m = 230; k = 126; w = 79; axes = 8; t = 3 }
+shippedSet = parametersOf (230 ∷ 126 ∷ 79 ∷ 8 ∷ 3 ∷ [])
 
 unfoldable pub defaultY : List ℕ
 defaultY =

@@ -1,5 +1,6 @@
 // The default key of the program `unlock`, and what that demonstration fixes where a probe draws: salt, root, points and leaf.
 use parameters::Parameters;
+use parameters::set::parameters_of;
 use shake256::Sponge;
 ghost use mathlib.Core.Path.{_≡_};
 ghost use Prim.Native.Nat.{_%_, _<_};
@@ -261,13 +262,7 @@ pub fn expand(label: &[u8], out: &mut [u8])
 pub fn shipped_set() -> Parameters
     ensures { λ r. ⌜ r ≡ shippedSet ⌝ }
 {
-    Parameters {
-        m: 230,
-        k: 126,
-        w: 79,
-        axes: 8,
-        t: 3,
-    }
+    parameters_of(&[230, 126, 79, 8, 3])
 }
 
 // Fills out with the default key's matrix.

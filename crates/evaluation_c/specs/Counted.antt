@@ -1,16 +1,15 @@
 -- What the exported count answers.
 --
---   setOf m k w d t           the parameters with these numbers
---   countedFor n m k w d t    `productsOf` within the limits and up to nine shares, else 0
+--   countedFor n ns    `productsOf` for up to nine shares and a set within the limits, else 0
 use mathlib.Core.Bool.{cond}
+use mathlib.Core.List.{List}
 use Prim.Native.Nat.{ℕ}
-use lib.Dec.{leb}
-use Rattle.parameters.specs.declared.Parameters.{Parameters}
+use lib.Dec.{eqb, leb}
+use lib.ListN.{length}
 use Rattle.parameters.specs.Limits.{withinLimits}
+use Rattle.parameters.specs.Set.{setLength, parametersOf}
 use Rattle.values.specs.Products.{productsOf}
+pub mod Laws
 
-abbrev pub setOf : ℕ → ℕ → ℕ → ℕ → ℕ → Parameters
-setOf m k w d t = record { m = m; k = k; w = w; axes = d; t = t }
-
-unfoldable pub countedFor : ℕ → ℕ → ℕ → ℕ → ℕ → ℕ → ℕ
-countedFor n m k w d t = cond (leb n 9) (cond (withinLimits (setOf m k w d t)) (productsOf (setOf m k w d t) n) 0) 0
+unfoldable pub countedFor : ℕ → List ℕ → ℕ
+countedFor n ns = cond (leb n 9) (cond (eqb (length ns) setLength) (cond (withinLimits (parametersOf ns)) (productsOf (parametersOf ns) n) 0) 0) 0

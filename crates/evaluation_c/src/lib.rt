@@ -20,8 +20,8 @@ fn count(p: Parameters, n: usize) -> usize
     let mut out = [0u8; 864];
     let a = n * layout::share_length(p);
     let b = (n + 1) * p.m;
-    let c = 8 * p.t;
-    let e = n * (12 * p.t);
+    let c = layout::message2_length(p);
+    let e = n * layout::row_length(p);
     values::announce_each(
         p,
         n,
@@ -35,28 +35,18 @@ fn count(p: Parameters, n: usize) -> usize
     )
 }
 
-// The products of the announcement of n shares; 0 where a parameter is outside its limits, or n above 9.
+// The products of the announcement of n shares; 0 where the set has another length, a parameter is outside its limits, or n above 9.
 #[no_mangle]
-pub extern "C" fn evaluation_c_products(
-    n: usize,
-    m: usize,
-    k: usize,
-    w: usize,
-    d: usize,
-    t: usize,
-) -> usize
-    ensures { λ r. ⌜ r ≡ countedFor n m k w d t ⌝ }
+pub extern "C" fn evaluation_c_products(n: usize, set: &[usize]) -> usize
+    ensures { λ r. ⌜ r ≡ countedFor n (now (set .entry)) ⌝ }
 {
-    let p = Parameters {
-        m,
-        k,
-        w,
-        axes: d,
-        t,
-    };
     if n > 9 {
         return 0;
     }
+    if set.len() != parameters::set::LENGTH {
+        return 0;
+    }
+    let p = parameters::set::parameters_of(set);
     if parameters::within_limits(p) {
         return count(p, n);
     }

@@ -6,10 +6,10 @@
 -- commitment p pre i st aux   layer 4: 'gives the leaf commitment (32)'
 use mathlib.Core.Bool.{cond}
 use mathlib.Core.List.{List, _++_}
-use Prim.Native.Nat.{ℕ, _*_}
+use Prim.Native.Nat.{ℕ}
 use lib.ListN.{take}
 use Rattle.parameters.specs.declared.Parameters.{Parameters}
-use Rattle.layout.specs.Layout.{isLast, shareLength}
+use Rattle.layout.specs.Layout.{isLast, shareLength, atX}
 use Rattle.exchange.specs.Strings.{string2, string3, string4}
 pub mod Laws
 
@@ -19,7 +19,7 @@ module _ (hash : List ℕ → ℕ → List ℕ) where
 
   unfoldable pub share : Parameters → List ℕ → ℕ → List ℕ → List ℕ → List ℕ
   share p prefix i st aux =
-      cond (isLast p i) (hash (string3 prefix i (take 16 st)) (8 * p .t) ++ aux) (hash (string3 prefix i (take 16 st)) (shareLength p))
+      cond (isLast p i) (hash (string3 prefix i (take 16 st)) (atX p) ++ aux) (hash (string3 prefix i (take 16 st)) (shareLength p))
 
   unfoldable pub commitment : Parameters → List ℕ → ℕ → List ℕ → List ℕ → List ℕ
   commitment p prefix i st aux = hash (string4 p prefix i st aux) 32

@@ -1,11 +1,13 @@
 pub mod Sequences
 pub mod FirstAxis
+pub mod Run
 pub mod Strings
 pub mod Reading
 pub mod Tree
 pub mod Leaf
 pub mod Values
 pub mod Parties
+pub mod Announcing
 pub mod Messages
 pub mod Opening
 pub mod Extractor

@@ -9,8 +9,7 @@
 -- leafCommitment i     its commitment; the hidden leaf's is the one in message 5
 -- commitmentString     layer 5's string
 -- disclosed j c        the sum of the disclosed leaves of party c on axis j
--- partyAlpha, partyBeta   'The verifier's party that holds the hidden leaf sums its disclosed leaves, adds that leaf's α and β'
--- partyV               '.. and takes the v that makes the axis sum zero'
+-- hiddenOn j           the party that holds the hidden leaf on axis j, with that leaf's α and β
 -- announced j          what the parties of axis j announce
 -- responseString       layer 7's string
 -- verdict              `Done` where the opening is accepted; else 5 or 7, in this order. The sums agree on all axes of every opening (`sums-agree`)
@@ -28,13 +27,14 @@ use Rattle.answers.specs.declared.Answer.{Answer}
 use Rattle.answers.specs.declared.Refusal.the-variants.{Commitment, Response}
 use Rattle.answers.specs.Checks.{checks}
 use Rattle.parameters.specs.declared.Parameters.{Parameters}
-use Rattle.layout.specs.Layout.{side, levels, leaves, digit}
+use Rattle.layout.specs.Layout.{levels, leaves, digit, factorLength, valuesLength, siblingsLength}
 use Rattle.exchange.specs.Strings.{string4, string5, string7}
 use Rattle.exchange.specs.Tree.{openedSeeds}
 use Rattle.exchange.specs.Leaf.{state, share}
-use Rattle.exchange.specs.Reading.{pointAt, _⊞_, 𝟎}
-use Rattle.exchange.specs.Values.{Key, alpha, beta, partV}
-use Rattle.exchange.specs.Parties.{Announced, total, partyOf, sums, axisString, sumsOf}
+use Rattle.exchange.specs.Reading.{pointAt}
+use Rattle.exchange.specs.Values.{Key}
+use Rattle.exchange.specs.Parties.{Announced, total, partyOf, axisString, sumsOf}
+use Rattle.exchange.specs.Announcing.{Hidden, announcedBy}
 pub mod Laws
 pub mod Cube
 
@@ -53,19 +53,23 @@ exchange m1 m2 m3 leaf m5 = record { prefix = take 32 m1; h = drop 32 m1; messag
 
 module _ (p : Parameters) (e : Exchange) where
   unfoldable pub pathOf : List ℕ
-  pathOf = take (16 * levels p) (e .message5)
+  pathOf = take (siblingsLength p) (e .message5)
 
   unfoldable pub commitmentOf : List ℕ
-  commitmentOf = take 32 (drop (16 * levels p) (e .message5))
+  commitmentOf = take 32 (drop (siblingsLength p) (e .message5))
 
   unfoldable pub alphaOf : ℕ → Point
-  alphaOf l = pointAt (e .message5) (16 * levels p + 32 + 4 * l)
+  alphaOf l = pointAt (e .message5) (siblingsLength p + 32 + 4 * l)
 
   unfoldable pub betaOf : ℕ → Point
-  betaOf l = pointAt (e .message5) (16 * levels p + 32 + 4 * p .t + 4 * l)
+  betaOf l = pointAt (e .message5) (siblingsLength p + 32 + factorLength p + 4 * l)
 
   unfoldable pub auxOf : List ℕ
-  auxOf = drop (16 * levels p + 32 + 8 * p .t) (e .message5)
+  auxOf = drop (siblingsLength p + 32 + valuesLength p) (e .message5)
+
+  -- the party that holds the hidden leaf on axis j
+  abbrev pub hiddenOn : ℕ → Hidden
+  hiddenOn j = record { party = digit p j (e .leaf); α = alphaOf; β = betaOf }
 
 -- ---- the leaves
 
@@ -91,26 +95,8 @@ module _ (hash : List ℕ → ℕ → List ℕ) (p : Parameters) (e : Exchange) 
   -- ---- the parties of axis j
 
   module _ (key : Key) (j : ℕ) where
-    -- the party that holds the hidden leaf
-    abbrev pub hiddenParty : ℕ
-    hiddenParty = digit p j (e .leaf)
-
-    unfoldable pub partyAlpha : ℕ → ℕ → Point
-    partyAlpha c l = alpha p key (e .message2) (eqb c 0) (disclosed j c) l ⊞ cond (eqb c hiddenParty) (alphaOf p e l) 𝟎
-
-    unfoldable pub partyBeta : ℕ → ℕ → Point
-    partyBeta c l = beta p key (e .message2) (eqb c 0) (disclosed j c) l ⊞ cond (eqb c hiddenParty) (betaOf p e l) 𝟎
-
-    -- v by the formula, for the parties whose leaves are all disclosed
-    unfoldable pub formulaV : ℕ → ℕ → Point
-    formulaV c l =
-        partV p key (e .message2) (eqb c 0) (disclosed j c) (sums (λ c. partyAlpha c l) (side p)) (sums (λ c. partyBeta c l) (side p)) l
-
-    unfoldable pub partyV : ℕ → ℕ → Point
-    partyV c l = cond (eqb c hiddenParty) (sums (λ c. cond (eqb c hiddenParty) 𝟎 (formulaV c l)) (side p)) (formulaV c l)
-
     unfoldable pub announced : Announced
-    announced = record { α = partyAlpha; β = partyBeta; v = partyV }
+    announced = announcedBy p key (e .message2) (disclosed j) (hiddenOn p e j)
 
   module _ (key : Key) where
     unfoldable pub responseString : List ℕ

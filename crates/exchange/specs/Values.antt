@@ -20,7 +20,7 @@ use Rattle.tower.specs.Field.{Point}
 use Rattle.parameters.specs.declared.Parameters.{Parameters}
 use Rattle.polynomial.specs.Interpolant.{interpolantOf, vanishingOf}
 use Rattle.relation.specs.Key.{rows}
-use Rattle.layout.specs.Layout.{atB, atX, atQ, atP, atC}
+use Rattle.layout.specs.Layout.{pointsLength, atB, atX, atQ, atP, atC}
 use Rattle.exchange.specs.Reading.{bytesAt, pointAt, value, _⊞_, _⊠_, 𝟎}
 pub mod Laws
 pub mod Relation
@@ -57,7 +57,7 @@ module _ (p : Parameters) where
   pointOf m2 l = pointAt m2 (4 * l)
 
   unfoldable pub multiplierOf : List ℕ → ℕ → Point
-  multiplierOf m2 l = pointAt m2 (4 * p .t + 4 * l)
+  multiplierOf m2 l = pointAt m2 (pointsLength p + 4 * l)
 
   unfoldable pub F : List ℕ
   F = vanishingOf (p .m)

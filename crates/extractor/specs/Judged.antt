@@ -19,7 +19,7 @@ use Rattle.shake256.specs.Fips.{SHAKE256}
 use Rattle.answers.specs.declared.Answer.{Answer}
 use Rattle.parameters.specs.declared.Parameters.{Parameters}
 use Rattle.parameters.specs.Limits.{Within}
-use Rattle.layout.specs.Layout.{leaves, message5Length, workLength}
+use Rattle.layout.specs.Layout.{leaves, message5Length, workLength, axisLength}
 use Rattle.exchange.specs.Strings.{string}
 use Rattle.exchange.specs.Values.{Key}
 use Rattle.exchange.specs.Parties.{axisString}
@@ -45,7 +45,7 @@ pub record Judging (p : Parameters) (t : Transcript) (matrix y work : ℕ) (stat
   pub below : t .leaf < leaves p
   pub lent : Lent p matrix y work
   pub states-fit : 32 * leaves p ≤ length states
-  pub rows-fit : p .axes * (24 * p .t) ≤ length rows
+  pub rows-fit : p .axes * axisLength p ≤ length rows
 
 pub record Judged (p : Parameters) (t : Transcript) (key : Key) (work : List ℕ) (r : Answer) (work′ states rows : List ℕ) : Type 0 where
   pub answer : r ≡ verdict SHAKE256 p (exchangeOf t) key
@@ -68,7 +68,7 @@ module _ (p : Parameters) (t : Transcript) (key : Key) (work : List ℕ) (r : An
   }
 
 module _ (p : Parameters) (t : Transcript) (sent : Sent p t) where
-  pub viewed : (states rows : List ℕ) → t .leaf < leaves p → 32 * leaves p ≤ length states → p .axes * (24 * p .t) ≤ length rows
+  pub viewed : (states rows : List ℕ) → t .leaf < leaves p → 32 * leaves p ≤ length states → p .axes * axisLength p ≤ length rows
       → Viewed p (viewOf p (t .leaf) (t .message5) states rows)
   viewed states rows below s w = record {
     below = below;

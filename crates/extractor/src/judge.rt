@@ -1,5 +1,6 @@
 // An opening checked.
 use answers::Answer;
+use layout::axis_length;
 use layout::leaf_count;
 use layout::work_length;
 use openings::check_opening;
@@ -28,7 +29,7 @@ pub fn judge(
 {
     let area = work_length(p);
     let all_states = 32 * leaf_count(p);
-    let all_rows = p.axes * (24 * p.t);
+    let all_rows = p.axes * axis_length(p);
     check_opening(
         p,
         m1,

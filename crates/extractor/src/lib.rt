@@ -8,6 +8,8 @@ use checks::early_checks;
 use compare::compare_openings;
 use findings::Extraction;
 use judge::judge;
+use layout::MOST_ROWS;
+use layout::MOST_STATES;
 use parameters::Parameters;
 ghost use mathlib.Core.Path.{_≡_};
 ghost use Rattle.shake256.specs.Fips.{SHAKE256};
@@ -57,8 +59,8 @@ pub fn extract(
         Answer::Done => {}
         Answer::Refused(r) => return Extraction::Refused(r),
     }
-    let mut states = [0u8; 8192];
-    let mut rows = [0u8; 1536];
+    let mut states = [0u8; MOST_STATES];
+    let mut rows = [0u8; MOST_ROWS];
     let one = judge(
         p,
         first1,
@@ -76,8 +78,8 @@ pub fn extract(
         Answer::Done => {}
         Answer::Refused(r) => return Extraction::Refused(r),
     }
-    let mut others = [0u8; 8192];
-    let mut other_rows = [0u8; 1536];
+    let mut others = [0u8; MOST_STATES];
+    let mut other_rows = [0u8; MOST_ROWS];
     let two = judge(
         p,
         second1,

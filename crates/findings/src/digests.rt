@@ -1,5 +1,6 @@
 // The digests of the axes compared (layer 7).
 use axisdigests::axis_digest;
+use layout::axis_length;
 use lists::equal;
 use parameters::Parameters;
 ghost use mathlib.Core.Path.{_≡_};
@@ -13,7 +14,7 @@ fn same_digest(p: Parameters, prefix: &[u8], rows: &[u8], others: &[u8], axis: u
     requires { ⌜ Rows p (now rows) (now others) × (axis < p .axes) ⌝ }
     ensures { λ r. ⌜ r ≡ eqList (digestAt p (now (prefix .entry)) (now (rows .entry)) axis) (digestAt p (now (prefix .entry)) (now (others .entry)) axis) ⌝ }
 {
-    let size = 24 * p.t;
+    let size = axis_length(p);
     let at = axis * size;
     let end = at + size;
     let mut a = [0u8; 32];

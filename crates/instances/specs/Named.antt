@@ -12,6 +12,7 @@ use native.Mathlib.Omega.{arith}
 use lib.ListN.{take, drop, replicate}
 use Rattle.answers.specs.declared.Answer.the-variants.{Done}
 use Rattle.parameters.specs.declared.Parameters.{Parameters}
+use Rattle.exchange.specs.Run.{runOf}
 use Rattle.exchange.specs.Messages.{message1, message3, message5}
 use Rattle.exchange.specs.Opening.{verdict}
 use Rattle.exchange.specs.Opening.Laws.{accepted-then}
@@ -27,11 +28,11 @@ p = parameters 1
 
 unfoldable pub honest : ℕ → Transcript
 honest u = record {
-  message1 = message1 (weak 7) p x salt root;
+  message1 = message1 (weak 7) p x (runOf salt root);
   message2 = message2 16 1;
-  message3 = message3 (weak 7) p x salt root key (message2 16 1);
+  message3 = message3 (weak 7) p x (runOf salt root) key (message2 16 1);
   leaf = u;
-  message5 = message5 (weak 7) p x salt root key (message2 16 1) u;
+  message5 = message5 (weak 7) p x (runOf salt root) key (message2 16 1) u;
 }
 
 -- α stands behind the sibling seed and the commitment

@@ -15,6 +15,7 @@ use Rattle.parameters.specs.declared.Parameters.{Parameters}
 use Rattle.parameters.specs.Limits.{Within}
 use Rattle.relation.specs.Key.{vectorOf}
 use Rattle.layout.specs.Layout.{leaves, workLength, outputLength}
+use Rattle.exchange.specs.Run.{runOf}
 use Rattle.exchange.specs.Values.{Key}
 use Rattle.exchange.specs.Messages.{message1, message3, message5}
 use Rattle.exchange.specs.Messages.Laws.{Secret, length-message1, length-message3, length-message5}
@@ -49,11 +50,11 @@ m2 = 9 ∷ 10 ∷ 11 ∷ 12 ∷ 13 ∷ 14 ∷ 15 ∷ 16 ∷ 17 ∷ 18 ∷ 19 ∷
 
 unfoldable pub transcript : ℕ → Transcript
 transcript u = record {
-  message1 = message1 standIn p x salt root;
+  message1 = message1 standIn p x (runOf salt root);
   message2 = m2;
-  message3 = message3 standIn p x salt root key m2;
+  message3 = message3 standIn p x (runOf salt root) key m2;
   leaf = u;
-  message5 = message5 standIn p x salt root key m2 u;
+  message5 = message5 standIn p x (runOf salt root) key m2 u;
 }
 
 pub within : Within p
@@ -85,11 +86,11 @@ inside u h = h
 sent : (u : ℕ) → u < 4 → Sent p (transcript u)
 unfolding transcript
 sent u h = record {
-  message1 = length-message1 standIn length-standIn p x secret salt root refl;
+  message1 = length-message1 standIn length-standIn p x secret (runOf salt root) refl;
   message2 = refl;
-  message3 = length-message3 standIn length-standIn p x secret salt root key m2;
+  message3 = length-message3 standIn length-standIn p x secret (runOf salt root) key m2;
   leaf = inside u h;
-  message5 = length-message5 standIn length-standIn p x secret salt root key m2 u;
+  message5 = length-message5 standIn length-standIn p x secret (runOf salt root) key m2 u;
 }
 
 accepts : (u : ℕ) → u < 4 → verdict standIn p (exchangeOf (transcript u)) key ≡ Done

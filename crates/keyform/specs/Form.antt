@@ -4,7 +4,8 @@
 -- keyForm          the lines: 'set: m, k, w, D, t; key: x_A', 'decimals of one to three digits', the matrix, y and x_A in hex
 -- wordOf i         the word of line i
 -- lastField i      the place of the last field of line i
--- numberAt s j     the number at place j of the set line of s (m, k, w, D, t stand at 1 to 5)
+-- numberAt s j     the number at place j of the set line of s
+-- numbersIn s      the numbers of the set line of s, which stand at 1 to 5
 -- bytesAt s i      the bytes of line i of s (the matrix, y and x_A stand on lines 1 to 3)
 use Prim.Native.Nat.{ℕ}
 use mathlib.Core.Bool.{cond}
@@ -42,6 +43,9 @@ lastField i = cond (eqb i 0) 5 1
 
 abbrev pub numberAt : List ℕ → ℕ → ℕ
 numberAt s j = valueOf (fieldAt s 0 j)
+
+abbrev pub numbersIn : List ℕ → List ℕ
+numbersIn s = numberAt s 1 ∷ numberAt s 2 ∷ numberAt s 3 ∷ numberAt s 4 ∷ numberAt s 5 ∷ []
 
 abbrev pub bytesAt : List ℕ → ℕ → List ℕ
 bytesAt s i = bytesOf (fieldAt s i 1)

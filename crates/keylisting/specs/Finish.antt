@@ -1,6 +1,5 @@
 -- The listing from what the scanner of a key's text has read.
 --
--- parametersRead s         the numbers of the set line
 -- rowsOf p, sizeOf p       the matrix has m−k rows, (m−k)·k bytes
 -- readIn n l size          a field of n bytes was read into a slice of l bytes, and its length is size
 -- lengthsRead p ls m y x   the three fields have the lengths that the parameters say, and slices of m, y and x bytes hold them
@@ -20,14 +19,12 @@ use Rattle.answers.specs.declared.Refusal.the-variants.{Parameter, Length, Weig
 use Rattle.answers.specs.Checks.{checks}
 use Rattle.parameters.specs.declared.Parameters.{Parameters}
 use Rattle.parameters.specs.Limits.{withinLimits}
+use Rattle.parameters.specs.Set.{parametersOf}
 use Rattle.relation.specs.Key.{vectorOf, weightOf}
 use Rattle.keytext.specs.declared.KeyScan.{KeyScan}
 use Rattle.keytext.specs.Scan.{complete}
 use Rattle.keylisting.specs.Listing.{printed}
 pub mod Laws
-
-abbrev pub parametersRead : List ℕ → Parameters
-parametersRead ns = record { m = getD ns 0 0; k = getD ns 1 0; w = getD ns 2 0; axes = getD ns 3 0; t = getD ns 4 0 }
 
 abbrev pub rowsOf : Parameters → ℕ
 rowsOf p = p .m - p .k
@@ -50,8 +47,8 @@ weighed w x = printed (checks ((leb (weightOf x) w, Weight) ∷ [])) w x
 
 abbrev pub readTests : KeyScan → ℕ → ℕ → ℕ → List (Bool × Refusal)
 readTests s m y x =
-    (complete s, Malformed) ∷ (withinLimits (parametersRead (s .numbers)), Parameter)
-    ∷ (lengthsRead (parametersRead (s .numbers)) (s .lengths) m y x, Length)
+    (complete s, Malformed) ∷ (withinLimits (parametersOf (s .numbers)), Parameter)
+    ∷ (lengthsRead (parametersOf (s .numbers)) (s .lengths) m y x, Length)
     ∷ []
 
 unfoldable pub readChecks : KeyScan → ℕ → ℕ → ℕ → Answer
@@ -61,5 +58,5 @@ unfoldable pub finishOf : KeyScan → List ℕ → List ℕ → List ℕ → Lis
 finishOf s m y x =
     printed
     (checks (readTests s (length m) (length y) (length x)
-    ++ ((leb (weightOf (vectorRead (parametersRead (s .numbers)) m y x)) (parametersRead (s .numbers) .w), Weight) ∷ [])))
-    (parametersRead (s .numbers) .w) (vectorRead (parametersRead (s .numbers)) m y x)
+    ++ ((leb (weightOf (vectorRead (parametersOf (s .numbers)) m y x)) (parametersOf (s .numbers) .w), Weight) ∷ [])))
+    (parametersOf (s .numbers) .w) (vectorRead (parametersOf (s .numbers)) m y x)

@@ -4,7 +4,7 @@
 -- resultLine word s        a line of a word and bytes in hex
 -- refusedLine r            'A refusal prints only `refused<TAB>` and the number', its line ended
 -- keyLines w x             'vector is x and locator all of Q', then S, P, F
--- parametersIn t           'set: m, k, w, D, t'
+-- parametersIn t           the parameters of the set line
 -- vectorIn t               x, of the matrix, the syndrome y and the key x_A
 -- answerIn t               the checks: 10 over the whole input, then 1, 2, 3
 -- printed a w x            the lines, or the refusal
@@ -19,6 +19,7 @@ use Rattle.answers.specs.declared.Answer.the-variants.{Done, Refused}
 use Rattle.answers.specs.Number.{refusalNumber}
 use Rattle.answers.specs.Checks.{checks}
 use Rattle.parameters.specs.declared.Parameters.{Parameters}
+use Rattle.parameters.specs.Set.{parametersOf}
 use Rattle.polynomial.specs.Interpolant.{interpolantOf, vanishingOf}
 use Rattle.relation.specs.Key.{vectorOf, locatorOf, quotientOf}
 use Rattle.relation.specs.Admission.{keyChecks}
@@ -26,7 +27,7 @@ use Rattle.text.specs.Split.{tab, lineFeed}
 use Rattle.text.specs.Decimal.{decimalText}
 use Rattle.text.specs.Hex.{hexText}
 use Rattle.text.specs.Form.{hasForm}
-use Rattle.keyform.specs.Form.{keyForm, numberAt, bytesAt}
+use Rattle.keyform.specs.Form.{keyForm, numbersIn, bytesAt}
 pub mod Laws
 
 unfoldable pub vectorWord : List ℕ
@@ -60,7 +61,7 @@ keyLines w x =
     ++ (resultLine sWord (interpolantOf x) ++ (resultLine pWord (quotientOf w x) ++ resultLine fWord (vanishingOf (length x)))))
 
 abbrev pub parametersIn : List ℕ → Parameters
-parametersIn t = record { m = numberAt t 1; k = numberAt t 2; w = numberAt t 3; axes = numberAt t 4; t = numberAt t 5 }
+parametersIn t = parametersOf (numbersIn t)
 
 abbrev pub vectorIn : List ℕ → List ℕ
 vectorIn t = vectorOf (bytesAt t 1) (bytesAt t 2) (bytesAt t 3)

@@ -16,7 +16,7 @@ ghost use Rattle.keyform.specs.Form.{wordOf};
 ghost use Rattle.keytext.specs.Scan.{start, broken, withWord, withNumber, hexed, hexByte, held, byteStep, accepted, savedNumbers, savedLengths, closed, fieldEnd, lineEnd, step, complete};
 
 // A key's text as its bytes come. `sound` while it can still be the four lines; `line` of them have ended, and `field` fields of the next one; the
-// field begun is read by the scanner of its kind. `numbers` are m, k, w, D, t, and `lengths` the bytes of the matrix, y and x_A, as far as they are read.
+// field begun is read by the scanner of its kind. `numbers` are the set line's, and `lengths` the bytes of the matrix, y and x_A, as far as they are read.
 pub struct KeyScan {
     pub sound: bool,
     pub line: usize,

@@ -3,6 +3,9 @@
 --
 -- bits p             a side has 2^bits parties: 'Side N = 2'
 -- side p             N
+-- others p           the parties of an axis but the last one, whose leaves sum to what is left
+-- sumCount p         the sums that the work area holds: of all leaves, and of these parties on every axis
+-- sumIndex p j c     where the sum of party c on axis j stands among them: the first parties of all axes, then all leaves, then the others
 -- levels p           levels of the seed tree below the root
 -- leaves p           n: 'n = 2^D leaves numbered 0 to n−1'
 -- digit p j i        the party of leaf i on axis j: digit j of the leaf's number in base N, lowest first
@@ -17,6 +20,7 @@
 -- shareLength p      a share: a (4t), b (4t), then as aux
 -- atB, atX, atQ, atP, atC   where b, x_A, Q, P, c start in a share; a starts it
 -- atV p              where v starts in a party's row: behind α and β
+-- sumsLength p       the sums that the work area holds, one after another
 -- message2Length p   't points r, t multipliers ε'
 -- siblingsLength p   'D sibling seeds'
 -- message5Length p i 'Length 5: 16D + 32 + 8t, plus k + 2w + 4t with aux', which is there 'unless i* = n−1';
@@ -35,6 +39,15 @@ bits p = 1
 
 abbrev pub side : Parameters → ℕ
 side p = 2 ^ bits p
+
+abbrev pub others : Parameters → ℕ
+others p = side p - 1
+
+abbrev pub sumCount : Parameters → ℕ
+sumCount p = 1 + others p * p .axes
+
+abbrev pub sumIndex : Parameters → ℕ → ℕ → ℕ
+sumIndex p j c = c * p .axes + j + cond (eqb c 0) 0 1
 
 abbrev pub levels : Parameters → ℕ
 levels p = bits p * p .axes
@@ -66,7 +79,7 @@ abbrev pub rowLength : Parameters → ℕ
 rowLength p = 12 * p .t
 
 abbrev pub axisLength : Parameters → ℕ
-axisLength p = 24 * p .t
+axisLength p = side p * rowLength p
 
 abbrev pub atV : Parameters → ℕ
 atV p = valuesLength p
@@ -78,6 +91,9 @@ auxLength p = p .k + 2 * p .w + pointsLength p
 
 abbrev pub shareLength : Parameters → ℕ
 shareLength p = 8 * p .t + auxLength p
+
+abbrev pub sumsLength : Parameters → ℕ
+sumsLength p = sumCount p * shareLength p
 
 abbrev pub atB : Parameters → ℕ
 atB p = factorLength p

@@ -3,6 +3,7 @@ pub mod arrays;
 
 use parameters::Parameters;
 ghost use mathlib.Core.Path.{_≡_};
+ghost use Prim.Native.Nat.{_<_};
 ghost use Rattle.parameters.specs.Limits.{Within};
 ghost use Rattle.layout.specs.Layout as spec;
 ghost use Rattle.layout.specs.Lent.{lent};
@@ -22,11 +23,23 @@ pub const MOST_ROWS: usize = 1536;
 // A party's row at t 8.
 pub const LONGEST_ROW: usize = 96;
 
+// The rows of nine sums at t 8.
+pub const MOST_BLOCKS: usize = 864;
+
 // The sibling seeds at D 8.
 pub const MOST_SIBLINGS: usize = 128;
 
 // α and β at t 8.
 pub const MOST_VALUES: usize = 64;
+
+// x at m 255.
+pub const LONGEST_X: usize = 255;
+
+// y at m 255, k 1.
+pub const LONGEST_Y: usize = 254;
+
+// The coefficients of S of one share, and of F but its leading one, at m 255.
+pub const MOST_COEFFICIENTS: usize = 510;
 
 // How many bits of a leaf's number tell its party on an axis.
 pub fn bits(p: Parameters) -> usize
@@ -40,6 +53,32 @@ pub fn side(p: Parameters) -> usize
     ensures { λ r. ⌜ r ≡ spec.side p ⌝ }
 {
     2
+}
+
+// The number of parties on an axis but the last one.
+pub fn others(p: Parameters) -> usize
+    ensures { λ r. ⌜ r ≡ spec.others p ⌝ }
+{
+    side(p) - 1
+}
+
+// How many sums the work area holds: of all leaves, and of the parties of every axis but the last one.
+pub fn sum_count(p: Parameters) -> usize
+    requires { ⌜ Within p ⌝ }
+    ensures { λ r. ⌜ r ≡ spec.sumCount p ⌝ }
+{
+    1 + others(p) * p.axes
+}
+
+// Where the sum of a party on an axis stands among them: the first parties of all axes, then all leaves, then the others.
+pub fn sum_index(p: Parameters, axis: usize, party: usize) -> usize
+    requires { ⌜ Within p × (axis < p .axes) × (party < spec.others p) ⌝ }
+    ensures { λ r. ⌜ r ≡ spec.sumIndex p axis party ⌝ }
+{
+    if party == 0 {
+        return axis;
+    }
+    party * p.axes + axis + 1
 }
 
 // The levels of the seed tree below the root.
@@ -103,7 +142,7 @@ pub fn axis_length(p: Parameters) -> usize
     requires { ⌜ Within p ⌝ }
     ensures { λ r. ⌜ r ≡ spec.axisLength p ⌝ }
 {
-    24 * p.t
+    side(p) * row_length(p)
 }
 
 // Where x_A starts in a share, behind a and b.
@@ -152,6 +191,14 @@ pub fn share_length(p: Parameters) -> usize
     ensures { λ r. ⌜ r ≡ spec.shareLength p ⌝ }
 {
     8 * p.t + aux_length(p)
+}
+
+// The length of the sums that the work area holds.
+pub fn sums_length(p: Parameters) -> usize
+    requires { ⌜ Within p ⌝ }
+    ensures { λ r. ⌜ r ≡ spec.sumsLength p ⌝ }
+{
+    sum_count(p) * share_length(p)
 }
 
 // The length of message 2: t points and t multipliers.

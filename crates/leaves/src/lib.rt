@@ -2,15 +2,15 @@
 // Each string goes on from the start of its layer, which `strings::begin` makes once for all leaves.
 
 use layout::is_last;
+use layout::values_length;
 use lists::put_at;
 use parameters::Parameters;
 use shake256::Sponge;
-use strings::digest;
+use strings::hash;
 ghost use mathlib.Core.Path.{_≡_};
-ghost use mathlib.Core.List.{_∷_};
+ghost use mathlib.Core.List.{_++_};
 ghost use Prim.Native.Nat.{_<_};
 ghost use lib.ListN.{length, take};
-ghost use Rattle.shake256.specs.Stream.{absorbed};
 ghost use Rattle.leaves.specs.After.{bytesAfter, stateAfter, shareAfter, commitmentAfter};
 ghost use Rattle.leaves.specs.Shapes.{State, ShareBytes, Share, Commitment};
 
@@ -23,14 +23,13 @@ pub const SHARES: u8 = 3;
 // The layer byte of the strings that give a leaf's commitment.
 pub const COMMITMENTS: u8 = 4;
 
-// The sponge that has absorbed a leaf's number and then s.
-fn absorb_leaf(start: Sponge, leaf: usize, s: &[u8]) -> Sponge
+// Fills out with the hash of a leaf's string: what start has absorbed ‖ leaf ‖ body ‖ tail.
+fn leaf_hash(start: Sponge, leaf: usize, body: &[u8], tail: &[u8], out: &mut [u8])
     requires { ⌜ leaf < 256 ⌝ }
-    ensures { λ r. ⌜ r ≡ absorbed start (leaf ∷ now (s .entry)) ⌝ }
+    ensures { λ _. ⌜ now (out .exit) ≡ bytesAfter start leaf (now (body .entry) ++ now (tail .entry)) (length (now (out .entry))) ⌝ }
 {
     let number = [leaf as u8];
-    let numbered = start.absorb(&number);
-    numbered.absorb(s)
+    hash(start, &number, body, tail, out);
 }
 
 // Fills out with the leaf's state, from its node's seed (layer 2).
@@ -38,7 +37,7 @@ pub fn leaf_state(states: Sponge, leaf: usize, seed: &[u8], out: &mut [u8])
     requires { ⌜ State leaf (now out) ⌝ }
     ensures { λ _. ⌜ now (out .exit) ≡ stateAfter states leaf (now (seed .entry)) ⌝ }
 {
-    digest(absorb_leaf(states, leaf, seed), out);
+    leaf_hash(states, leaf, seed, &[], out);
 }
 
 // Fills out with bytes of layer 3: leaf n−1 takes 8t of them, all others a whole share.
@@ -46,7 +45,7 @@ pub fn share_bytes(shares: Sponge, leaf: usize, state: &[u8], out: &mut [u8])
     requires { ⌜ ShareBytes leaf (now state) ⌝ }
     ensures { λ _. ⌜ now (out .exit) ≡ bytesAfter shares leaf (take 16 (now (state .entry))) (length (now (out .entry))) ⌝ }
 {
-    digest(absorb_leaf(shares, leaf, &state[..16]), out);
+    leaf_hash(shares, leaf, &state[..16], &[], out);
 }
 
 // Fills out with the leaf's share (layer 3; for leaf n−1 its 8t bytes and then aux).
@@ -63,7 +62,7 @@ pub fn leaf_share(
 {
     let last = is_last(p, leaf);
     if last {
-        let own = 8 * p.t;
+        let own = values_length(p);
         share_bytes(shares, leaf, state, &mut out[..own]);
         put_at(out, own, aux);
         return;
@@ -83,10 +82,9 @@ pub fn leaf_commitment(
     requires { ⌜ Commitment p leaf (now out) ⌝ }
     ensures { λ _. ⌜ now (out .exit) ≡ commitmentAfter commitments p leaf (now (state .entry)) (now (aux .entry)) ⌝ }
 {
-    let s = absorb_leaf(commitments, leaf, state);
     if is_last(p, leaf) {
-        digest(s.absorb(aux), out);
+        leaf_hash(commitments, leaf, state, aux, out);
         return;
     }
-    digest(s, out);
+    leaf_hash(commitments, leaf, state, &[], out);
 }

@@ -3,6 +3,7 @@ use answers::Answer;
 use answers::Refusal;
 use keytext::KeyScan;
 use parameters::Parameters;
+use parameters::set::parameters_of;
 ghost use mathlib.Core.Path.{_≡_};
 ghost use mathlib.Core.Bool.{true};
 ghost use Prim.Native.Nat.{_+_, _*_, _-_, _≤_, _<_};
@@ -17,7 +18,7 @@ ghost use lib.Dec.{leb, eqb};
 ghost use mathlib.Core.Bool.{_&&_};
 ghost use Rattle.lists.specs.Part.{putAt};
 ghost use Rattle.relation.specs.Key.{vectorOf};
-ghost use Rattle.keylisting.specs.Finish.{parametersRead, rowsOf, sizeOf, readIn, lengthsRead, weighed, readChecks, finishOf};
+ghost use Rattle.keylisting.specs.Finish.{rowsOf, sizeOf, readIn, lengthsRead, weighed, readChecks, finishOf};
 
 // A line of a word and bytes in hex is written to out from index at on; the answer is the place behind it.
 pub fn result_line(out: &mut [u8], at: usize, word: &[u8], s: &[u8]) -> usize
@@ -184,19 +185,6 @@ pub fn refused(out: &mut [u8], r: Refusal) -> usize
     e + 1
 }
 
-// The parameters that were read.
-pub fn parameters_read(numbers: [usize; 5]) -> Parameters
-    ensures { λ r. ⌜ r ≡ parametersRead numbers ⌝ }
-{
-    Parameters {
-        m: numbers[0],
-        k: numbers[1],
-        w: numbers[2],
-        axes: numbers[3],
-        t: numbers[4],
-    }
-}
-
 // Was a field of the wanted length read, into a slice that holds it?
 fn read_in(n: usize, held: usize, size: usize) -> bool
     ensures { λ r. ⌜ r ≡ readIn n held size ⌝ }
@@ -265,7 +253,7 @@ pub fn read_checks(scan: KeyScan, matrix: usize, y: usize, x_a: usize) -> Answer
         return Answer::Refused(Refusal::Malformed);
     }
     let numbers = scan.numbers;
-    let p = parameters_read(numbers);
+    let p = parameters_of(&numbers);
     if !parameters::within_limits(p) {
         return Answer::Refused(Refusal::Parameter);
     }
@@ -285,7 +273,7 @@ pub fn finish(scan: KeyScan, matrix: &[u8], y: &[u8], x_a: &[u8], out: &mut [u8;
         return refused(out, r);
     }
     let numbers = scan.numbers;
-    let p = parameters_read(numbers);
+    let p = parameters_of(&numbers);
     let k = p.k;
     let rows = p.m - k;
     let size = rows * k;

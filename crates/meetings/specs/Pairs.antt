@@ -10,6 +10,7 @@ use Prim.Native.Nat.{ℕ}
 use lib.ListN.{replicate}
 use Rattle.parameters.specs.declared.Parameters.{Parameters}
 use Rattle.relation.specs.Key.{vectorOf}
+use Rattle.exchange.specs.Run.{runOf}
 use Rattle.exchange.specs.Values.{Key}
 use Rattle.exchange.specs.Messages.{message1, message3, message5}
 use Rattle.calls.specs.Extractor.{Transcript}
@@ -42,15 +43,15 @@ message2 r ε = r ∷ 0 ∷ 0 ∷ 0 ∷ ε ∷ 0 ∷ 0 ∷ 0 ∷ []
 
 module _ (d : ℕ) where
   unfoldable pub m1 : List ℕ
-  m1 = message1 standIn (p d) x salt root
+  m1 = message1 standIn (p d) x (runOf salt root)
 
   unfoldable pub transcript : ℕ → ℕ → ℕ → Transcript
   transcript r ε u = record {
-    message1 = message1 standIn (p d) x salt root;
+    message1 = message1 standIn (p d) x (runOf salt root);
     message2 = message2 r ε;
-    message3 = message3 standIn (p d) x salt root key (message2 r ε);
+    message3 = message3 standIn (p d) x (runOf salt root) key (message2 r ε);
     leaf = u;
-    message5 = message5 standIn (p d) x salt root key (message2 r ε) u;
+    message5 = message5 standIn (p d) x (runOf salt root) key (message2 r ε) u;
   }
 
   unfoldable pub pair : ℕ → ℕ → ℕ → ℕ → Pair

@@ -1,8 +1,8 @@
 -- What the functions of this crate ask for.
 --
--- FirstAsked p salt states out                       the salt, the states of all leaves, and room for message 1
+-- FirstAsked p prefix states out                     a prefix of 32 bytes, the states of all leaves, and room for message 1
 -- LeafAsked p m2 leaf matrix state aux               message 2, the matrix, a leaf's number of one byte, its state, and aux
--- OpeningAsked p root m2 leaf matrix state aux out   the same for a leaf of the tree, the root's seed, and room for message 5
+-- OpeningAsked p run m2 leaf matrix state aux out    the same for a leaf of the tree, the root's seed, and room for message 5
 -- LastAsked p m2 leaf matrix out                     message 2, the matrix, a leaf, and room for message 5
 use mathlib.Core.Path.{_≡_}
 use mathlib.Core.List.{List}
@@ -11,10 +11,11 @@ use lib.ListN.{length}
 use Rattle.parameters.specs.declared.Parameters.{Parameters}
 use Rattle.parameters.specs.Limits.{Within}
 use Rattle.layout.specs.Layout.{leaves, auxLength, message2Length, message5Length}
+use Rattle.exchange.specs.Run.{Run}
 
-pub record FirstAsked (p : Parameters) (salt states out : List ℕ) : Type 0 where
+pub record FirstAsked (p : Parameters) (prefix states out : List ℕ) : Type 0 where
   pub within : Within p
-  pub salt-is : length salt ≡ 32
+  pub prefix-is : length prefix ≡ 32
   pub states-are : length states ≡ 32 * leaves p
   pub out-is : length out ≡ 64
 
@@ -26,10 +27,10 @@ pub record LeafAsked (p : Parameters) (m2 : List ℕ) (leaf : ℕ) (matrix state
   pub state-is : length state ≡ 32
   pub aux-is : length aux ≡ auxLength p
 
-pub record OpeningAsked (p : Parameters) (root m2 : List ℕ) (leaf : ℕ) (matrix state aux out : List ℕ) : Type 0 where
+pub record OpeningAsked (p : Parameters) (run : Run) (m2 : List ℕ) (leaf : ℕ) (matrix state aux out : List ℕ) : Type 0 where
   pub of : LeafAsked p m2 leaf matrix state aux
   pub is-leaf : leaf < leaves p
-  pub root-is : length root ≡ 16
+  pub root-is : length (run .root) ≡ 16
   pub out-is : length out ≡ message5Length p leaf
 
 pub record LastAsked (p : Parameters) (m2 : List ℕ) (leaf : ℕ) (matrix out : List ℕ) : Type 0 where

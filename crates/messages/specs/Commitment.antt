@@ -1,6 +1,6 @@
 -- The laws of message 1.
 --
--- commitment-made    the salt and the digest of all commitments, from the prover's states and aux: message 1
+-- commitment-made    the prefix and the digest of all commitments, from the prover's states and aux: message 1
 -- front-behind       a list written at the front, and another one behind it
 use mathlib.Core.Path.{_≡_, ap, _∙_}
 use mathlib.Core.List.{List, [], _++_}
@@ -12,6 +12,7 @@ use Rattle.shake256.specs.Fips.{SHAKE256}
 use Rattle.lists.specs.Part.{putAt}
 use Rattle.parameters.specs.declared.Parameters.{Parameters}
 use Rattle.layout.specs.Layout.{leaves}
+use Rattle.exchange.specs.Run.{Run}
 use Rattle.exchange.specs.Strings.{string5}
 use Rattle.exchange.specs.Messages.{ownAux, message1}
 use Rattle.leaves.specs.States.{stateAt}
@@ -20,10 +21,11 @@ use Rattle.commitments.specs.Commitments.Laws.{commitments-message1}
 use Rattle.ownleaves.specs.Own.{ownStates}
 use Rattle.ownleaves.specs.Own.Laws.{ownStates-at}
 
-pub commitment-made : (p : Parameters) (x salt root : List ℕ) → length root ≡ 16 → (states aux : List ℕ) → states ≡ ownStates p salt root → aux ≡ ownAux SHAKE256 p x salt root
-    → salt ++ SHAKE256 (string5 salt (commitmentsOf p salt states (leaves p) [] aux) (leaves p)) 32 ≡ message1 SHAKE256 p x salt root
-commitment-made p x salt root sixteen states aux es ea =
-    commitments-message1 p x salt root states (leaves p) [] aux (λ i h. ap (λ (st : List ℕ). stateAt st i) es ∙ ownStates-at p x salt root sixteen i h) ea (le-refl (leaves p))
+pub commitment-made : (p : Parameters) (x : List ℕ) (run : Run) → length (run .root) ≡ 16 → (states aux : List ℕ)
+    → states ≡ ownStates p run → aux ≡ ownAux SHAKE256 p x run
+    → run .prefix ++ SHAKE256 (string5 (run .prefix) (commitmentsOf p (run .prefix) states (leaves p) [] aux) (leaves p)) 32 ≡ message1 SHAKE256 p x run
+commitment-made p x run sixteen states aux es ea =
+    commitments-message1 p x run states (leaves p) [] aux (λ i h. ap (λ (st : List ℕ). stateAt st i) es ∙ ownStates-at p x run sixteen i h) ea (le-refl (leaves p))
 
 pub front-behind : (d d₁ a b : List ℕ) (n : ℕ) → length a ≡ n → d₁ ≡ putAt d 0 a → take n d₁ ++ b ≡ a ++ b
 unfolding putAt

@@ -14,14 +14,22 @@ ghost use Prim.Native.Nat.{_<_};
 ghost use lib.ListN.{length, replicate};
 ghost use Rattle.shake256.specs.Fips.{SHAKE256};
 ghost use Rattle.layout.specs.Layout.{leaves, workLength, message5Length};
+ghost use Rattle.exchange.specs.Run.{runOf};
 ghost use Rattle.exchange.specs.Messages as spec;
 ghost use Rattle.exchange.specs.Values.{keyOf};
 ghost use Rattle.ownleaves.specs.Asked.{Held, Keyed};
 
 // out becomes message 1, and the area ends as zeros.
-pub fn message1(p: Parameters, x: &[u8], salt: &[u8], root: &[u8], area: &mut [u8], out: &mut [u8])
-    requires { ⌜ Held p (now x) (now salt) (now root) (now area) × (length (now out) ≡ 64) ⌝ }
-    ensures { λ _. ⌜ (now (out .exit) ≡ spec.message1 SHAKE256 p (now (x .entry)) (now (salt .entry)) (now (root .entry)))
+pub fn message1(
+    p: Parameters,
+    x: &[u8],
+    prefix: &[u8],
+    root: &[u8],
+    area: &mut [u8],
+    out: &mut [u8],
+)
+    requires { ⌜ Held p (now x) (runOf (now prefix) (now root)) (now area) × (length (now prefix) ≡ 32) × (length (now out) ≡ 64) ⌝ }
+    ensures { λ _. ⌜ (now (out .exit) ≡ spec.message1 SHAKE256 p (now (x .entry)) (runOf (now (prefix .entry)) (now (root .entry))))
         × (now (area .exit) ≡ replicate (workLength p) 0) ⌝ }
 {
     let mut states = [0u8; MOST_STATES];
@@ -31,7 +39,7 @@ pub fn message1(p: Parameters, x: &[u8], salt: &[u8], root: &[u8], area: &mut [u
     put_message1(
         p,
         x,
-        salt,
+        prefix,
         root,
         area,
         &mut states[..size],
@@ -44,7 +52,7 @@ pub fn message1(p: Parameters, x: &[u8], salt: &[u8], root: &[u8], area: &mut [u
 pub fn message5(
     p: Parameters,
     x: &[u8],
-    salt: &[u8],
+    prefix: &[u8],
     root: &[u8],
     m2: &[u8],
     leaf: usize,
@@ -53,9 +61,9 @@ pub fn message5(
     area: &mut [u8],
     out: &mut [u8],
 )
-    requires { ⌜ Held p (now x) (now salt) (now root) (now area) × Keyed p (now m2) (now matrix) (now y)
+    requires { ⌜ Held p (now x) (runOf (now prefix) (now root)) (now area) × Keyed p (now m2) (now matrix) (now y)
         × (leaf < leaves p) × (length (now out) ≡ message5Length p leaf) ⌝ }
-    ensures { λ _. ⌜ (now (out .exit) ≡ spec.message5 SHAKE256 p (now (x .entry)) (now (salt .entry)) (now (root .entry))
+    ensures { λ _. ⌜ (now (out .exit) ≡ spec.message5 SHAKE256 p (now (x .entry)) (runOf (now (prefix .entry)) (now (root .entry)))
         (keyOf (now (matrix .entry)) (now (y .entry))) (now (m2 .entry)) leaf)
         × (now (area .exit) ≡ replicate (workLength p) 0) ⌝ }
 {
@@ -66,7 +74,7 @@ pub fn message5(
     put_message5(
         p,
         x,
-        salt,
+        prefix,
         root,
         m2,
         leaf,

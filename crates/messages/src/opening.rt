@@ -3,7 +3,10 @@ use bytefield::log_table;
 use bytefield::power_table;
 use layout::LONGEST_SHARE;
 use layout::is_last;
+use layout::levels;
 use layout::share_length;
+use layout::siblings_length;
+use layout::values_length;
 use leaves::COMMITMENTS;
 use leaves::SHARES;
 use leaves::leaf_commitment;
@@ -22,7 +25,8 @@ ghost use lib.ListN.{length, replicate, take};
 ghost use Rattle.bytefield.specs.Tables.{logs, powers};
 ghost use Rattle.shake256.specs.Fips.{SHAKE256};
 ghost use Rattle.parameters.specs.Limits.{Within};
-ghost use Rattle.layout.specs.Layout.{leaves, isLast, auxLength, shareLength, workLength};
+ghost use Rattle.layout.specs.Layout.{leaves, isLast, valuesLength, auxLength, shareLength, workLength};
+ghost use Rattle.exchange.specs.Run.{runOf};
 ghost use Rattle.exchange.specs.Leaf.{share, commitment};
 ghost use Rattle.exchange.specs.Messages.{message5};
 ghost use Rattle.exchange.specs.Values.{keyOf};
@@ -34,22 +38,22 @@ ghost use Rattle.messages.specs.Asked.{LeafAsked, OpeningAsked, LastAske
 // out becomes the leaf's commitment, from its state.
 fn put_leaf_commitment(
     p: Parameters,
-    salt: &[u8],
+    prefix: &[u8],
     leaf: usize,
     state: &[u8],
     aux: &[u8],
     out: &mut [u8],
 )
     requires { ⌜ Within p × (leaf < 256) × (length (now out) ≡ 32) ⌝ }
-    ensures { λ _. ⌜ now (out .exit) ≡ commitment SHAKE256 p (now (salt .entry)) leaf (now (state .entry)) (now (aux .entry)) ⌝ }
+    ensures { λ _. ⌜ now (out .exit) ≡ commitment SHAKE256 p (now (prefix .entry)) leaf (now (state .entry)) (now (aux .entry)) ⌝ }
 {
-    leaf_commitment(begin(COMMITMENTS, salt), p, leaf, state, aux, out);
+    leaf_commitment(begin(COMMITMENTS, prefix), p, leaf, state, aux, out);
 }
 
 // out becomes α and β of the leaf, by way of its share.
 fn values_by(
     p: Parameters,
-    salt: &[u8],
+    prefix: &[u8],
     m2: &[u8],
     leaf: usize,
     matrix: &[u8],
@@ -60,17 +64,17 @@ fn values_by(
     log: &[u8; 256],
     pow: &[u8; 256],
 )
-    requires { ⌜ LeafAsked p (now m2) leaf (now matrix) (now state) (now aux) × (length (now own) ≡ shareLength p) × (length (now out) ≡ 8 * p .t) × (now log ≡ logs) × (now pow ≡ powers) ⌝ }
-    ensures { λ _. ⌜ now (out .exit) ≡ leafValues p (now (matrix .entry)) (now (m2 .entry)) (share SHAKE256 p (now (salt .entry)) leaf (now (state .entry)) (now (aux .entry))) ⌝ }
+    requires { ⌜ LeafAsked p (now m2) leaf (now matrix) (now state) (now aux) × (length (now own) ≡ shareLength p) × (length (now out) ≡ valuesLength p) × (now log ≡ logs) × (now pow ≡ powers) ⌝ }
+    ensures { λ _. ⌜ now (out .exit) ≡ leafValues p (now (matrix .entry)) (now (m2 .entry)) (share SHAKE256 p (now (prefix .entry)) leaf (now (state .entry)) (now (aux .entry))) ⌝ }
 {
-    leaf_share(begin(SHARES, salt), p, leaf, state, aux, own);
+    leaf_share(begin(SHARES, prefix), p, leaf, state, aux, own);
     announce_leaf(p, own, m2, matrix, out, log, pow);
 }
 
 // out becomes α and β of the leaf, from its state.
 fn put_values(
     p: Parameters,
-    salt: &[u8],
+    prefix: &[u8],
     m2: &[u8],
     leaf: usize,
     matrix: &[u8],
@@ -80,14 +84,14 @@ fn put_values(
     log: &[u8; 256],
     pow: &[u8; 256],
 )
-    requires { ⌜ LeafAsked p (now m2) leaf (now matrix) (now state) (now aux) × (length (now out) ≡ 8 * p .t) × (now log ≡ logs) × (now pow ≡ powers) ⌝ }
-    ensures { λ _. ⌜ now (out .exit) ≡ leafValues p (now (matrix .entry)) (now (m2 .entry)) (share SHAKE256 p (now (salt .entry)) leaf (now (state .entry)) (now (aux .entry))) ⌝ }
+    requires { ⌜ LeafAsked p (now m2) leaf (now matrix) (now state) (now aux) × (length (now out) ≡ valuesLength p) × (now log ≡ logs) × (now pow ≡ powers) ⌝ }
+    ensures { λ _. ⌜ now (out .exit) ≡ leafValues p (now (matrix .entry)) (now (m2 .entry)) (share SHAKE256 p (now (prefix .entry)) leaf (now (state .entry)) (now (aux .entry))) ⌝ }
 {
     let mut own = [0u8; LONGEST_SHARE];
     let size = share_length(p);
     values_by(
         p,
-        salt,
+        prefix,
         m2,
         leaf,
         matrix,
@@ -103,7 +107,7 @@ fn put_values(
 // out becomes what the leaf itself gives: its commitment, its α and its β.
 fn put_leaf(
     p: Parameters,
-    salt: &[u8],
+    prefix: &[u8],
     m2: &[u8],
     leaf: usize,
     matrix: &[u8],
@@ -113,13 +117,13 @@ fn put_leaf(
     log: &[u8; 256],
     pow: &[u8; 256],
 )
-    requires { ⌜ LeafAsked p (now m2) leaf (now matrix) (now state) (now aux) × (length (now out) ≡ 32 + 8 * p .t) × (now log ≡ logs) × (now pow ≡ powers) ⌝ }
-    ensures { λ _. ⌜ now (out .exit) ≡ leafBytes p (now (salt .entry)) (now (m2 .entry)) leaf (now (matrix .entry)) (now (state .entry)) (now (aux .entry)) ⌝ }
+    requires { ⌜ LeafAsked p (now m2) leaf (now matrix) (now state) (now aux) × (length (now out) ≡ 32 + valuesLength p) × (now log ≡ logs) × (now pow ≡ powers) ⌝ }
+    ensures { λ _. ⌜ now (out .exit) ≡ leafBytes p (now (prefix .entry)) (now (m2 .entry)) leaf (now (matrix .entry)) (now (state .entry)) (now (aux .entry)) ⌝ }
 {
-    put_leaf_commitment(p, salt, leaf, state, aux, &mut out[..32]);
+    put_leaf_commitment(p, prefix, leaf, state, aux, &mut out[..32]);
     put_values(
         p,
-        salt,
+        prefix,
         m2,
         leaf,
         matrix,
@@ -145,7 +149,7 @@ fn put_aux(p: Parameters, leaf: usize, aux: &[u8], at: usize, out: &mut [u8])
 // out becomes the siblings of the leaf, what the leaf itself gives, and aux unless it is leaf n−1, from the leaf's state.
 fn put_opening(
     p: Parameters,
-    salt: &[u8],
+    prefix: &[u8],
     root: &[u8],
     m2: &[u8],
     leaf: usize,
@@ -156,16 +160,16 @@ fn put_opening(
     log: &[u8; 256],
     pow: &[u8; 256],
 )
-    requires { ⌜ OpeningAsked p (now root) (now m2) leaf (now matrix) (now state) (now aux) (now out) × (now log ≡ logs) × (now pow ≡ powers) ⌝ }
-    ensures { λ _. ⌜ now (out .exit) ≡ openingOf p (now (salt .entry)) (now (root .entry)) (now (m2 .entry)) leaf (now (matrix .entry)) (now (state .entry)) (now (aux .entry)) ⌝ }
+    requires { ⌜ OpeningAsked p (runOf (now prefix) (now root)) (now m2) leaf (now matrix) (now state) (now aux) (now out) × (now log ≡ logs) × (now pow ≡ powers) ⌝ }
+    ensures { λ _. ⌜ now (out .exit) ≡ openingOf p (runOf (now (prefix .entry)) (now (root .entry))) (now (m2 .entry)) leaf (now (matrix .entry)) (now (state .entry)) (now (aux .entry)) ⌝ }
 {
-    let d = p.axes;
-    let a = 16 * d;
-    let e = a + (32 + 8 * p.t);
-    sibling_seeds(salt, d, root, leaf, &mut out[..a]);
+    let d = levels(p);
+    let a = siblings_length(p);
+    let e = a + (32 + values_length(p));
+    sibling_seeds(prefix, d, root, leaf, &mut out[..a]);
     put_leaf(
         p,
-        salt,
+        prefix,
         m2,
         leaf,
         matrix,
@@ -182,7 +186,7 @@ fn put_opening(
 pub fn put_message5(
     p: Parameters,
     x: &[u8],
-    salt: &[u8],
+    prefix: &[u8],
     root: &[u8],
     m2: &[u8],
     leaf: usize,
@@ -192,18 +196,18 @@ pub fn put_message5(
     aux: &mut [u8],
     out: &mut [u8],
 )
-    requires { ⌜ Held p (now x) (now salt) (now root) (now area) × LastAsked p (now m2) leaf (now matrix) (now out)
+    requires { ⌜ Held p (now x) (runOf (now prefix) (now root)) (now area) × LastAsked p (now m2) leaf (now matrix) (now out)
         × (length (now states) ≡ 32 * leaves p) × (length (now aux) ≡ auxLength p) ⌝ }
-    ensures { λ _. ⌜ (now (out .exit) ≡ message5 SHAKE256 p (now (x .entry)) (now (salt .entry)) (now (root .entry)) (keyOf (now (matrix .entry)) []) (now (m2 .entry)) leaf)
+    ensures { λ _. ⌜ (now (out .exit) ≡ message5 SHAKE256 p (now (x .entry)) (runOf (now (prefix .entry)) (now (root .entry))) (keyOf (now (matrix .entry)) []) (now (m2 .entry)) leaf)
         × (now (area .exit) ≡ replicate (workLength p) 0) ⌝ }
 {
     let log = log_table();
     let pow = power_table();
-    own_leaves(p, x, salt, root, area, states, aux, &log, &pow);
+    own_leaves(p, x, prefix, root, area, states, aux, &log, &pow);
     let at = 32 * leaf;
     put_opening(
         p,
-        salt,
+        prefix,
         root,
         m2,
         leaf,

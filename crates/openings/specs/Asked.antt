@@ -16,8 +16,7 @@ use Rattle.parameters.specs.declared.Parameters.{Parameters}
 use Rattle.parameters.specs.Limits.{Within}
 use Rattle.commitments.specs.Shapes.{Commitments}
 use Rattle.axisdigests.specs.Rows.{ResponseAsked}
-use Rattle.layout.specs.Layout.{levels, leaves, auxLength, message2Length, message5Length, workLength}
-pub mod Laws
+use Rattle.layout.specs.Layout.{leaves, valuesLength, axisLength, auxLength, message2Length, siblingsLength, message5Length, workLength}
 
 pub record OpeningAsked (p : Parameters) (m1 m2 m3 : List ℕ) (leaf : ℕ) (m5 matrix y area states rows : List ℕ) : Type 0 where
   pub within : Within p
@@ -30,12 +29,12 @@ pub record OpeningAsked (p : Parameters) (m1 m2 m3 : List ℕ) (leaf : ℕ) (m5 
   pub y-is : length y ≡ p .m - p .k
   pub area-is : length area ≡ workLength p
   pub states-are : length states ≡ 32 * leaves p
-  pub rows-are : length rows ≡ p .axes * (24 * p .t)
+  pub rows-are : length rows ≡ p .axes * axisLength p
 
 pub record SiblingsAsked (p : Parameters) (leaf : ℕ) (siblings states : List ℕ) : Type 0 where
   pub within : Within p
   pub is-leaf : leaf < leaves p
-  pub sized-siblings : length siblings ≡ 16 * levels p
+  pub sized-siblings : length siblings ≡ siblingsLength p
   pub sized-states : length states ≡ 32 * leaves p
 
 pub record CommitmentAsked (p : Parameters) (m1 states : List ℕ) : Type 0 where
@@ -51,11 +50,11 @@ pub record SumsAsked (p : Parameters) (aux states area : List ℕ) : Type 0 wher
 pub record AnnounceAsked (p : Parameters) (m2 values matrix y area rows : List ℕ) : Type 0 where
   pub within : Within p
   pub sized-m2 : length m2 ≡ message2Length p
-  pub sized-values : length values ≡ 8 * p .t
+  pub sized-values : length values ≡ valuesLength p
   pub sized-matrix : length matrix ≡ (p .m - p .k) * p .k
   pub sized-y : length y ≡ p .m - p .k
   pub sized-area : length area ≡ workLength p
-  pub sized-rows : length rows ≡ p .axes * (24 * p .t)
+  pub sized-rows : length rows ≡ p .axes * axisLength p
 
 pub record AxesAsked (p : Parameters) (m2 values aux matrix y states area rows : List ℕ) : Type 0 where
   pub announce : AnnounceAsked p m2 values matrix y area rows
@@ -65,7 +64,7 @@ pub record AxesAsked (p : Parameters) (m2 values aux matrix y states area rows :
 pub record RecomputeAsked (p : Parameters) (m1 m2 : List ℕ) (leaf : ℕ) (siblings values aux matrix y area states rows : List ℕ) : Type 0 where
   pub sized-m1 : length m1 ≡ 64
   pub below : leaf < leaves p
-  pub sized-siblings : length siblings ≡ 16 * levels p
+  pub sized-siblings : length siblings ≡ siblingsLength p
   pub axes : AxesAsked p m2 values aux matrix y states area rows
 
 pub record JudgeAsked (p : Parameters) (m1 states rows : List ℕ) : Type 0 where

@@ -7,7 +7,7 @@
 -- responseFrom p pre rows n        n bytes of the digest of what the parties of every axis announce
 -- judged p m1 m3 leaf c a st rows  the answer, from the comparisons of the two digests with messages 1 and 3
 use mathlib.Core.List.{List, [], _∷_}
-use Prim.Native.Nat.{ℕ, _+_, _*_}
+use Prim.Native.Nat.{ℕ}
 use lib.ListN.{take, drop}
 use Rattle.shake256.specs.Fips.{SHAKE256}
 use Rattle.lists.specs.Equal.{eqList}
@@ -15,7 +15,7 @@ use Rattle.answers.specs.declared.Answer.{Answer}
 use Rattle.answers.specs.declared.Refusal.the-variants.{Commitment, Response}
 use Rattle.answers.specs.Checks.{checks}
 use Rattle.parameters.specs.declared.Parameters.{Parameters}
-use Rattle.layout.specs.Layout.{leaves, shareLength}
+use Rattle.layout.specs.Layout.{leaves, sumsLength}
 use Rattle.exchange.specs.Sequences.{joined}
 use Rattle.exchange.specs.Strings.{string5}
 use Rattle.exchange.specs.Tree.{openedSeeds}
@@ -34,7 +34,7 @@ unfoldable pub digestFrom : Parameters → List ℕ → ℕ → List ℕ → Lis
 digestFrom p prefix leaf commitment aux states n = SHAKE256 (string5 prefix (commitmentsOf p prefix states leaf commitment aux) (leaves p)) n
 
 unfoldable pub announcedFrom : Parameters → Key → List ℕ → List ℕ → ℕ → List ℕ → List ℕ
-announcedFrom p key m2 area leaf values = joined (rowOf p key m2 (take ((p .axes + 1) * shareLength p) area) leaf values) (p .axes)
+announcedFrom p key m2 area leaf values = joined (rowOf p key m2 (take (sumsLength p) area) leaf values) (p .axes)
 
 unfoldable pub rowsFrom : Parameters → Key → List ℕ → List ℕ → List ℕ → ℕ → List ℕ → List ℕ → List ℕ
 rowsFrom p key prefix m2 states leaf values aux = announcedFrom p key m2 (filled p prefix states leaf aux) leaf values

@@ -11,6 +11,8 @@ use answers::Answer;
 use answers::Refusal;
 use layout::MOST_SIBLINGS;
 use layout::MOST_VALUES;
+use layout::siblings_length;
+use layout::values_length;
 use parameters::Parameters;
 use reader::opening::read_opening;
 ghost use mathlib.Core.Path.{_≡_};
@@ -136,8 +138,8 @@ pub fn check_opening(
     let mut commitment = [0u8; 32];
     let mut values = [0u8; MOST_VALUES];
     let rest = read_opening(p, m5, &mut siblings, &mut commitment, &mut values);
-    let seeds = 16 * p.axes;
-    let points = 8 * p.t;
+    let seeds = siblings_length(p);
+    let points = values_length(p);
     let aux = m5.len() - rest;
     check_parts(
         p,

@@ -4,7 +4,9 @@ use axes::axis_rows;
 use axisdigests::response_digest;
 use bytefield::log_table;
 use bytefield::power_table;
-use layout::aux_length;
+use layout::at_x;
+use layout::share_length;
+use layout::sums_length;
 use lists::equal;
 use lists::xor_at;
 use lists::zero_front;
@@ -31,7 +33,7 @@ fn shares_length(p: Parameters, n: usize) -> usize
     requires { ⌜ Within p × (n ≤ 9) ⌝ }
     ensures { λ r. ⌜ r ≡ n * shareLength p ⌝ }
 {
-    n * (8 * p.t + aux_length(p))
+    n * share_length(p)
 }
 
 // The front of the work area becomes the sums of the first parties' disclosed leaves, and then the sum of all disclosed
@@ -42,7 +44,7 @@ fn sum_leaves(p: Parameters, prefix: &[u8], leaf: usize, aux: &[u8], states: &[u
 {
     party_sums(p, prefix, states, leaf, area);
     put_total(p, area);
-    xor_at(area, shares_length(p, p.axes) + 8 * p.t, aux);
+    xor_at(area, shares_length(p, p.axes) + at_x(p), aux);
 }
 
 // Fills `rows` with what the parties of every axis announce, from the sums of their leaves.
@@ -78,7 +80,7 @@ fn announce_front(
     requires { ⌜ AnnounceAsked p (now m2) (now values) (now matrix) (now y) (now area) (now rows) ⌝ }
     ensures { λ _. ⌜ now (rows .exit) ≡ announcedFrom p (keyOf (now (matrix .entry)) (now (y .entry))) (now (m2 .entry)) (now (area .entry)) leaf (now (values .entry)) ⌝ }
 {
-    let front = shares_length(p, p.axes + 1);
+    let front = sums_length(p);
     announce(p, &area[..front], m2, matrix, y, leaf, values, rows);
 }
 

@@ -12,27 +12,28 @@ ghost use lib.ListN.{length, replicate};
 ghost use Rattle.bytefield.specs.Tables.{logs, powers};
 ghost use Rattle.shake256.specs.Fips.{SHAKE256};
 ghost use Rattle.layout.specs.Layout as spec;
+ghost use Rattle.exchange.specs.Run.{runOf};
 ghost use Rattle.exchange.specs.Messages.{ownAux};
 ghost use Rattle.auxiliary.specs.Auxiliary.{auxFor};
 ghost use Rattle.ownleaves.specs.Own.{ownStates, sumOf};
 ghost use Rattle.ownleaves.specs.Asked.{Held, StatesAsked, SumAsked};
 
 // Fills `states` with the states of all leaves, from the root's seed.
-pub fn own_states(p: Parameters, salt: &[u8], root: &[u8], states: &mut [u8])
-    requires { ⌜ StatesAsked p (now root) (now states) ⌝ }
-    ensures { λ _. ⌜ now (states .exit) ≡ ownStates p (now (salt .entry)) (now (root .entry)) ⌝ }
+pub fn own_states(p: Parameters, prefix: &[u8], root: &[u8], states: &mut [u8])
+    requires { ⌜ StatesAsked p (runOf (now prefix) (now root)) (now states) ⌝ }
+    ensures { λ _. ⌜ now (states .exit) ≡ ownStates p (runOf (now (prefix .entry)) (now (root .entry))) ⌝ }
 {
     let n = leaf_count(p);
     let half = 16 * n;
-    leaf_seeds(salt, p.axes, root, &mut states[half..]);
-    leaf_states(salt, n, states);
+    leaf_seeds(prefix, p.axes, root, &mut states[half..]);
+    leaf_states(prefix, n, states);
 }
 
 // Fills aux with aux for the vector x, by way of the sum of all shares as hashed.
 fn aux_by(
     p: Parameters,
     x: &[u8],
-    salt: &[u8],
+    prefix: &[u8],
     states: &[u8],
     sum: &mut [u8],
     aux: &mut [u8],
@@ -40,9 +41,9 @@ fn aux_by(
     pow: &[u8; 256],
 )
     requires { ⌜ SumAsked p (now x) (now states) (now sum) (now aux) × (now log ≡ logs) × (now pow ≡ powers) ⌝ }
-    ensures { λ _. ⌜ now (aux .exit) ≡ auxFor p (now (x .entry)) (sumOf p (now (salt .entry)) (now (states .entry))) ⌝ }
+    ensures { λ _. ⌜ now (aux .exit) ≡ auxFor p (now (x .entry)) (sumOf p (now (prefix .entry)) (now (states .entry))) ⌝ }
 {
-    share_sum(p, salt, states, sum);
+    share_sum(p, prefix, states, sum);
     auxiliary::aux(p, x, sum, aux, log, pow);
 }
 
@@ -50,7 +51,7 @@ fn aux_by(
 pub fn own_leaves(
     p: Parameters,
     x: &[u8],
-    salt: &[u8],
+    prefix: &[u8],
     root: &[u8],
     area: &mut [u8],
     states: &mut [u8],
@@ -58,14 +59,14 @@ pub fn own_leaves(
     log: &[u8; 256],
     pow: &[u8; 256],
 )
-    requires { ⌜ Held p (now x) (now salt) (now root) (now area) × (length (now states) ≡ 32 * spec.leaves p) × (length (now aux) ≡ spec.auxLength p) × (now log ≡ logs) × (now pow ≡ powers) ⌝ }
-    ensures { λ _. ⌜ (now (states .exit) ≡ ownStates p (now (salt .entry)) (now (root .entry)))
-        × (now (aux .exit) ≡ ownAux SHAKE256 p (now (x .entry)) (now (salt .entry)) (now (root .entry)))
+    requires { ⌜ Held p (now x) (runOf (now prefix) (now root)) (now area) × (length (now states) ≡ 32 * spec.leaves p) × (length (now aux) ≡ spec.auxLength p) × (now log ≡ logs) × (now pow ≡ powers) ⌝ }
+    ensures { λ _. ⌜ (now (states .exit) ≡ ownStates p (runOf (now (prefix .entry)) (now (root .entry))))
+        × (now (aux .exit) ≡ ownAux SHAKE256 p (now (x .entry)) (runOf (now (prefix .entry)) (now (root .entry))))
         × (now (area .exit) ≡ replicate (spec.workLength p) 0) ⌝ }
 {
-    own_states(p, salt, root, states);
+    own_states(p, prefix, root, states);
     let size = share_length(p);
-    aux_by(p, x, salt, states, &mut area[..size], aux, log, pow);
+    aux_by(p, x, prefix, states, &mut area[..size], aux, log, pow);
     let all = area.len();
     zero_front(area, all);
 }

@@ -1,4 +1,6 @@
 // The parameters of an exchange and their limits (document 01, 'Parameters').
+pub mod set;
+
 ghost use mathlib.Core.Path.{_≡_};
 ghost use Rattle.parameters.specs.Limits.{withinLimits};
 

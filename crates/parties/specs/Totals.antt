@@ -12,7 +12,7 @@
 use mathlib.Core.Path.{_≡_, refl, sym, ap, ap₂, _∙_}
 use mathlib.Core.Bool.{Bool, true, false, _&&_, not, cond, and-true}
 use mathlib.Core.List.{List, [], _++_, append-nil}
-use Prim.Native.Nat.{ℕ, zero, suc, _+_, _-_, _*_, _/_, _%_, _^_, _≤_, _<_}
+use Prim.Native.Nat.{ℕ, zero, suc, _+_, _-_, _/_, _%_, _^_, _≤_, _<_}
 use native.Mathlib.Nat.{le-refl, le-of-eq}
 use native.Mathlib.Omega.{arith}
 use borrow.Author.Tests.{ne-eqb, eqb-true, eqb-false, not-true}
@@ -23,7 +23,7 @@ use lib.Pow.{ones-split, ones-lt}
 use Rattle.lists.specs.Sum.{xorList, xorAt}
 use Rattle.lists.specs.Sum.Laws.{length-xorList, xorList-comm, xorList-assoc, xorList-append, xorList-self, xorList-zeros}
 use Rattle.parameters.specs.declared.Parameters.{Parameters}
-use Rattle.layout.specs.Layout.{bits, leaves, digit, auxLength, shareLength}
+use Rattle.layout.specs.Layout.{bits, leaves, digit, auxLength, shareLength, atX}
 use Rattle.layout.specs.Layout.Laws.{leaves-pos, leaves-is, digit-bit, digit-lt}
 use Rattle.exchange.specs.Strings.{string3}
 use Rattle.exchange.specs.Leaf.{share}
@@ -148,18 +148,18 @@ module _ (hash : List ℕ → ℕ → List ℕ) (p : Parameters) (prefix : List 
   module _ (hash-length : (s : List ℕ) (n : ℕ) → length (hash s n) ≡ n) where
     pub total-with-aux : (aux : List ℕ) (hidden : ℕ) → (hidden ≡ leaves p - 1 → ⊥) → length aux ≤ auxLength p
         → total p (λ i. not (eqb i hidden)) (λ i. share hash p prefix i (st i) aux) (leaves p)
-        ≡ xorAt (total p (λ i. not (eqb i hidden)) (λ i. share hash p prefix i (st i) []) (leaves p)) (8 * p .t) aux
+        ≡ xorAt (total p (λ i. not (eqb i hidden)) (λ i. share hash p prefix i (st i) []) (leaves p)) (atX p) aux
     unfolding shares xorList
     total-with-aux aux hidden other h =
         sum aux
         ∙ ap (λ (l : List ℕ). xorList l (own ++ aux)) (total-ext p picks (shares aux) (shares []) last (λ i l e. same-share aux [] i (λ z. omega arith)))
         ∙ sym
-        (ap (λ (l : List ℕ). xorAt l (8 * p .t) aux) (sum [])
-        ∙ xorAt-zeros (xorList others (own ++ [])) (8 * p .t) aux (omega (arith, long))
-        ∙ xorList-assoc others (own ++ []) (replicate (8 * p .t) 0 ++ aux)
+        (ap (λ (l : List ℕ). xorAt l (atX p) aux) (sum [])
+        ∙ xorAt-zeros (xorList others (own ++ [])) (atX p) aux (omega (arith, long))
+        ∙ xorList-assoc others (own ++ []) (replicate (atX p) 0 ++ aux)
         ∙ ap (xorList others)
-        (xorList-append own (replicate (8 * p .t) 0) [] aux (own-length ∙ sym (length-replicate (8 * p .t) 0))
-        ∙ ap (λ (l : List ℕ). l ++ aux) (xorList-zeros own (8 * p .t) (le-of-eq (sym own-length)))))
+        (xorList-append own (replicate (atX p) 0) [] aux (own-length ∙ sym (length-replicate (atX p) 0))
+        ∙ ap (λ (l : List ℕ). l ++ aux) (xorList-zeros own (atX p) (le-of-eq (sym own-length)))))
       where
         last : ℕ
         last = leaves p - 1
@@ -168,10 +168,10 @@ module _ (hash : List ℕ → ℕ → List ℕ) (p : Parameters) (prefix : List 
         picks i = not (eqb i hidden)
 
         own : List ℕ
-        own = hash (string3 prefix last (take 16 (st last))) (8 * p .t)
+        own = hash (string3 prefix last (take 16 (st last))) (atX p)
 
-        own-length : length own ≡ 8 * p .t
-        own-length = hash-length (string3 prefix last (take 16 (st last))) (8 * p .t)
+        own-length : length own ≡ atX p
+        own-length = hash-length (string3 prefix last (take 16 (st last))) (atX p)
 
         others : List ℕ
         others = total p picks (shares []) last

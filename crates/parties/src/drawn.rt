@@ -1,4 +1,5 @@
 // A leaf's share as hashed (layer 3), with no aux.
+use layout::at_x;
 use layout::is_last;
 use layout::share_length;
 use leaves::share_bytes;
@@ -19,7 +20,7 @@ fn drawn_length(p: Parameters, leaf: usize) -> usize
     ensures { λ r. ⌜ r ≡ drawnLength p leaf ⌝ }
 {
     if is_last(p, leaf) {
-        return 8 * p.t;
+        return at_x(p);
     }
     share_length(p)
 }

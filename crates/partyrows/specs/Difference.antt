@@ -1,8 +1,8 @@
--- The announcements of an axis's two parties, by differences: each is additive in the share, and the constants cancel.
+-- What a share announces, by differences: α, β and v are additive in the share, and the constants cancel.
 --
 -- encode-xor, front-xor        sums of points are sums of their bytes, also in front of others
 -- shareRow p key m2 first s α̂ β̂   α, β and v of the share s at all positions, with the constants where `first`
--- alpha-difference, beta-difference, partV-difference   the second party: those of all leaves and of the first party, both with the constants
+-- alpha-difference, beta-difference, partV-difference   of two shares, both with the constants or both without
 -- row-difference               the same of the row
 use mathlib.Core.Path.{_≡_, refl, sym, ap, ap₂, _∙_}
 use mathlib.Core.Bool.{Bool, true, false}
@@ -42,31 +42,32 @@ module _ (p : Parameters) (key : Key) (m2 : List ℕ) where
       encode (alpha p key m2 first s) (p .t)
       ++ (encode (beta p key m2 first s) (p .t) ++ encode (λ l. partV p key m2 first s (α̂ l) (β̂ l) l) (p .t))
 
--- ---- the second party
+-- ---- differences
 
 -- x and y without the constant k, and with it
-twice : {A : Type 0} (G : Group2 A) (k x y : A) → G .add x y ≡ G .add (G .add k x) (G .add k y)
+twice : {A : Type 0} (G : Group2 A) (k x y : A) → G .add (G .add k x) (G .add k y) ≡ G .add x y
 twice G k x y = simp (group, G)
 
-module _ (p : Parameters) (key : Key) (m2 all s : List ℕ) where
-  difference : (f : Bool → List ℕ → Point) (k : Point) → f false (xorList all s) ≡ f false all ⊞ f false s → ((z : List ℕ) → f true z ≡ k ⊞ f false z)
-      → f false (xorList all s) ≡ f true all ⊞ f true s
-  difference f k ex ef = ex ∙ twice (additive (points .base)) k _ _ ∙ sym (ap₂ _⊞_ (ef all) (ef s))
+module _ (p : Parameters) (key : Key) (m2 a s : List ℕ) where
+  difference : (f : Bool → List ℕ → Point) (k : Point) → f false (xorList a s) ≡ f false a ⊞ f false s → ((z : List ℕ) → f true z ≡ k ⊞ f false z)
+      → (first : Bool) → f first a ⊞ f first s ≡ f false (xorList a s)
+  difference f k ex ef true = ap₂ _⊞_ (ef a) (ef s) ∙ twice (additive (points .base)) k _ _ ∙ sym ex
+  difference f k ex ef false = sym ex
 
-  pub alpha-difference : (l : ℕ) → alpha p key m2 false (xorList all s) l ≡ alpha p key m2 true all l ⊞ alpha p key m2 true s l
-  alpha-difference l = difference (λ b z. alpha p key m2 b z l) _ (alpha-xor p key m2 l all s) (alpha-first p key m2 l)
+  pub alpha-difference : (l : ℕ) (first : Bool) → alpha p key m2 first a l ⊞ alpha p key m2 first s l ≡ alpha p key m2 false (xorList a s) l
+  alpha-difference l = difference (λ b z. alpha p key m2 b z l) _ (alpha-xor p key m2 l a s) (alpha-first p key m2 l)
 
-  pub beta-difference : (l : ℕ) → beta p key m2 false (xorList all s) l ≡ beta p key m2 true all l ⊞ beta p key m2 true s l
-  beta-difference l = difference (λ b z. beta p key m2 b z l) _ (beta-xor p key m2 l all s) (beta-first p key m2 l)
+  pub beta-difference : (l : ℕ) (first : Bool) → beta p key m2 first a l ⊞ beta p key m2 first s l ≡ beta p key m2 false (xorList a s) l
+  beta-difference l = difference (λ b z. beta p key m2 b z l) _ (beta-xor p key m2 l a s) (beta-first p key m2 l)
 
-  partV-difference : (α̂ β̂ : Point) (l : ℕ)
-      → partV p key m2 false (xorList all s) α̂ β̂ l ≡ partV p key m2 true all α̂ β̂ l ⊞ partV p key m2 true s α̂ β̂ l
-  partV-difference α̂ β̂ l = difference (λ b z. partV p key m2 b z α̂ β̂ l) _ (partV-xor p key m2 l α̂ β̂ all s) (partV-first p key m2 l α̂ β̂)
+  pub partV-difference : (α̂ β̂ : Point) (l : ℕ) (first : Bool)
+      → partV p key m2 first a α̂ β̂ l ⊞ partV p key m2 first s α̂ β̂ l ≡ partV p key m2 false (xorList a s) α̂ β̂ l
+  partV-difference α̂ β̂ l = difference (λ b z. partV p key m2 b z α̂ β̂ l) _ (partV-xor p key m2 l α̂ β̂ a s) (partV-first p key m2 l α̂ β̂)
 
-  pub row-difference : (α̂ β̂ : ℕ → Point)
-      → xorList (shareRow p key m2 true all α̂ β̂) (shareRow p key m2 true s α̂ β̂) ≡ shareRow p key m2 false (xorList all s) α̂ β̂
+  pub row-difference : (α̂ β̂ : ℕ → Point) (first : Bool)
+      → xorList (shareRow p key m2 first a α̂ β̂) (shareRow p key m2 first s α̂ β̂) ≡ shareRow p key m2 false (xorList a s) α̂ β̂
   unfolding shareRow
-  row-difference α̂ β̂ =
-      front-xor _ _ (p .t) _ _ ∙ ap₂ _++_ (encode-ext _ _ (p .t) (λ l h. sym (alpha-difference l)))
-      (front-xor _ _ (p .t) _ _ ∙ ap₂ _++_ (encode-ext _ _ (p .t) (λ l h. sym (beta-difference l)))
-      (encode-xor _ _ (p .t) ∙ encode-ext _ _ (p .t) (λ l h. sym (partV-difference (α̂ l) (β̂ l) l))))
+  row-difference α̂ β̂ first =
+      front-xor _ _ (p .t) _ _ ∙ ap₂ _++_ (encode-ext _ _ (p .t) (λ l h. alpha-difference l first))
+      (front-xor _ _ (p .t) _ _ ∙ ap₂ _++_ (encode-ext _ _ (p .t) (λ l h. beta-difference l first))
+      (encode-xor _ _ (p .t) ∙ encode-ext _ _ (p .t) (λ l h. partV-difference (α̂ l) (β̂ l) l first)))

@@ -1,4 +1,6 @@
-// The row of a share: α, β and v at all positions, with the constants. A block is α, β and γ of the share, with them.
+// The row of a share: α, β and v at all positions. A block is α, β and γ of the share; the constants are in both or in none.
+use layout::factor_length;
+use layout::values_length;
 use parameters::Parameters;
 ghost use mathlib.Core.Path.{_≡_};
 ghost use Prim.Native.Nat.{_*_, _<_};
@@ -6,22 +8,23 @@ ghost use lib.ListN.{length};
 ghost use Rattle.bytefield.specs.Tables.{logs, powers};
 ghost use Rattle.tower.specs.Field.{bytesOf};
 ghost use Rattle.parameters.specs.Limits.{Within};
-ghost use Rattle.layout.specs.Layout.{shareLength};
+ghost use Rattle.layout.specs.Layout.{pointsLength, valuesLength, rowLength, shareLength};
 ghost use Rattle.partyrows.specs.Row.{frontBy, vAt, vBy, rowBy};
 ghost use Rattle.partyrows.specs.Asked.{RowAsked};
 
 // out becomes α and β of a block.
 pub fn put_front(p: Parameters, block: &[u8], out: &mut [u8])
-    requires { ⌜ Within p × (length (now block) ≡ 12 * p .t) × (length (now out) ≡ 8 * p .t) ⌝ }
+    requires { ⌜ Within p × (length (now block) ≡ rowLength p) × (length (now out) ≡ valuesLength p) ⌝ }
     ensures { λ _. ⌜ now (out .exit) ≡ frontBy p (now (block .entry)) ⌝ }
 {
-    let a = 8 * p.t;
+    let a = out.len();
     lists::copy(out, &block[..a]);
 }
 
-// v at position l of the share s, with the constant α̂·β̂.
+// v at position l of the share s, with the constant α̂·β̂ where `first`.
 fn row_v(
     p: Parameters,
+    first: bool,
     s: &[u8],
     block: &[u8],
     sums: &[u8],
@@ -29,18 +32,19 @@ fn row_v(
     log: &[u8; 256],
     pow: &[u8; 256],
 ) -> [u8; 4]
-    requires { ⌜ Within p × (l < p .t) × (length (now s) ≡ shareLength p) × (length (now block) ≡ 12 * p .t) × (length (now sums) ≡ 8 * p .t) × (now log ≡ logs) × (now pow ≡ powers) ⌝ }
-    ensures { λ r. ⌜ r ≡ bytesOf (vAt p (now (s .entry)) (now (block .entry)) (now (sums .entry)) l) ⌝ }
+    requires { ⌜ Within p × (l < p .t) × (length (now s) ≡ shareLength p) × (length (now block) ≡ rowLength p) × (length (now sums) ≡ valuesLength p) × (now log ≡ logs) × (now pow ≡ powers) ⌝ }
+    ensures { λ r. ⌜ r ≡ bytesOf (vAt p first (now (s .entry)) (now (block .entry)) (now (sums .entry)) l) ⌝ }
 {
-    let gamma = encoding::point_at(block, 8 * p.t + 4 * l);
+    let gamma = encoding::point_at(block, values_length(p) + 4 * l);
     let alpha = encoding::point_at(sums, 4 * l);
-    let beta = encoding::point_at(sums, 4 * p.t + 4 * l);
-    values::v_at(p, s, l, gamma, alpha, beta, log, pow)
+    let beta = encoding::point_at(sums, factor_length(p) + 4 * l);
+    values::v_at(p, s, l, first, gamma, alpha, beta, log, pow)
 }
 
-// out becomes v at all positions of the share s, with the constant α̂·β̂.
+// out becomes v at all positions of the share s, with the constant α̂·β̂ where `first`.
 fn put_v(
     p: Parameters,
+    first: bool,
     s: &[u8],
     block: &[u8],
     sums: &[u8],
@@ -48,12 +52,12 @@ fn put_v(
     log: &[u8; 256],
     pow: &[u8; 256],
 )
-    requires { ⌜ Within p × (length (now s) ≡ shareLength p) × (length (now block) ≡ 12 * p .t) × (length (now sums) ≡ 8 * p .t) × (length (now out) ≡ 4 * p .t) × (now log ≡ logs) × (now pow ≡ powers) ⌝ }
-    ensures { λ _. ⌜ now (out .exit) ≡ vBy p (now (s .entry)) (now (block .entry)) (now (sums .entry)) ⌝ }
+    requires { ⌜ Within p × (length (now s) ≡ shareLength p) × (length (now block) ≡ rowLength p) × (length (now sums) ≡ valuesLength p) × (length (now out) ≡ pointsLength p) × (now log ≡ logs) × (now pow ≡ powers) ⌝ }
+    ensures { λ _. ⌜ now (out .exit) ≡ vBy p first (now (s .entry)) (now (block .entry)) (now (sums .entry)) ⌝ }
 {
     let mut l = 0;
     while l < p.t {
-        let v = row_v(p, s, block, sums, l, log, pow);
+        let v = row_v(p, first, s, block, sums, l, log, pow);
         encoding::put_point(out, 4 * l, v);
         l += 1;
     }
@@ -62,6 +66,7 @@ fn put_v(
 // out becomes the row of the share s, from its block, and α̂ and β̂.
 pub fn put_row(
     p: Parameters,
+    first: bool,
     s: &[u8],
     block: &[u8],
     sums: &[u8],
@@ -69,10 +74,10 @@ pub fn put_row(
     log: &[u8; 256],
     pow: &[u8; 256],
 )
-    requires { ⌜ RowAsked p (now s) (now block) (now sums) × (length (now out) ≡ 12 * p .t) × (now log ≡ logs) × (now pow ≡ powers) ⌝ }
-    ensures { λ _. ⌜ now (out .exit) ≡ rowBy p (now (s .entry)) (now (block .entry)) (now (sums .entry)) ⌝ }
+    requires { ⌜ RowAsked p (now s) (now block) (now sums) × (length (now out) ≡ rowLength p) × (now log ≡ logs) × (now pow ≡ powers) ⌝ }
+    ensures { λ _. ⌜ now (out .exit) ≡ rowBy p first (now (s .entry)) (now (block .entry)) (now (sums .entry)) ⌝ }
 {
-    let a = 8 * p.t;
+    let a = values_length(p);
     put_front(p, block, &mut out[..a]);
-    put_v(p, s, block, sums, &mut out[a..], log, pow);
+    put_v(p, first, s, block, sums, &mut out[a..], log, pow);
 }

@@ -4,9 +4,10 @@ use crate::row::put_front;
 use crate::row::put_row;
 use parameters::Parameters;
 ghost use mathlib.Core.Path.{_≡_};
-ghost use Prim.Native.Nat.{_*_};
 ghost use lib.ListN.{length};
 ghost use Rattle.bytefield.specs.Tables.{logs, powers};
+ghost use mathlib.Core.Bool.{true};
+ghost use Rattle.layout.specs.Layout.{valuesLength, rowLength};
 ghost use Rattle.partyrows.specs.Row.{rowBy, sumsBy};
 ghost use Rattle.partyrows.specs.Asked.{RowAsked};
 
@@ -22,10 +23,10 @@ pub fn total_row_with(
     log: &[u8; 256],
     pow: &[u8; 256],
 )
-    requires { ⌜ RowAsked p (now s) (now block) (now sums) × (length (now hidden) ≡ 8 * p .t) × (length (now total) ≡ 12 * p .t) × (now log ≡ logs) × (now pow ≡ powers) ⌝ }
-    ensures { λ _. ⌜ (now (sums .exit) ≡ sumsBy p leaf (now (block .entry)) (now (hidden .entry))) × (now (total .exit) ≡ rowBy p (now (s .entry)) (now (block .entry)) (now (sums .exit))) ⌝ }
+    requires { ⌜ RowAsked p (now s) (now block) (now sums) × (length (now hidden) ≡ valuesLength p) × (length (now total) ≡ rowLength p) × (now log ≡ logs) × (now pow ≡ powers) ⌝ }
+    ensures { λ _. ⌜ (now (sums .exit) ≡ sumsBy p leaf (now (block .entry)) (now (hidden .entry))) × (now (total .exit) ≡ rowBy p true (now (s .entry)) (now (block .entry)) (now (sums .exit))) ⌝ }
 {
     put_front(p, block, sums);
     add_hidden(p, leaf, hidden, sums);
-    put_row(p, s, block, sums, total, log, pow);
+    put_row(p, true, s, block, sums, total, log, pow);
 }

@@ -9,6 +9,7 @@ use denote.Struct.Declared.{shape}
 use denote.Struct.Laws.{val}
 use denote.Struct.Struct.{within}
 use Rattle.layout.specs.Layout.{workLength}
+use Rattle.exchange.specs.Run.{runOf}
 use Rattle.rounds.specs.Rounds.{Arrays}
 use Rattle.prover.specs.declared.Prover.{Prover}
 use Rattle.prover.specs.Facts.{Ready}
@@ -21,22 +22,18 @@ module _ (s : Prover) (told : (vs : Valss (shape the-type .fields)) × shadow (w
   pub x-length : length (s .x) ≡ 255
   x-length = sym (length-map (s .x) _) ∙ told .1 .1 .1 .1 .0 .1 .0 .1
 
-  pub salt-length : length (s .salt) ≡ 32
-  salt-length = sym (length-map (s .salt) _) ∙ told .1 .1 .1 .1 .1 .0 .1 .0 .1
-
   pub root-length : length (s .root) ≡ 16
   root-length = sym (length-map (s .root) _) ∙ told .1 .1 .1 .1 .1 .1 .0 .1 .0 .1
 
   pub message2-length : length (s .message2) ≡ 64
   message2-length = sym (length-map (s .message2) _) ∙ told .1 .1 .1 .1 .1 .1 .1 .0 .1 .0 .1
 
-  pub held-arrays : (work : List ℕ) → Ready (held s) → workLength (s .parameters) ≤ length work → Arrays (s .parameters) (s .x) (s .salt) (s .root) work
+  pub held-arrays : (work : List ℕ) → Ready (held s) → workLength (s .parameters) ≤ length work → Arrays (s .parameters) (s .x) (runOf (s .salt) (s .root)) work
   unfolding heldX
   held-arrays work h fits = record {
     within = h .within;
     light = h .light;
     x-is = x-length;
-    salt-is = salt-length;
     root-is = root-length;
     work-fits = fits;
   }

@@ -18,6 +18,7 @@ use Rattle.parameters.specs.declared.Parameters.{Parameters}
 use Rattle.relation.specs.Key.{vectorOf}
 use Rattle.relation.specs.Key.Vector.{length-vector}
 use Rattle.layout.specs.Layout.{workLength}
+use Rattle.exchange.specs.Run.{runOf}
 use Rattle.exchange.specs.Messages.{message1, message3, message5}
 use Rattle.exchange.specs.Values.{Key}
 use Rattle.prover_phase.specs.declared.Phase.the-variants.{Begun}
@@ -58,19 +59,19 @@ module _ (s : Prover) (p : Parameters) (xA salt root : List ℕ) (key : Key) (wo
 -- ---- a call carried out, from what was made for it
 
 pub begun-made : (p : Parameters) (x salt root work : List ℕ) (next : Prover) (out′ work′ : List ℕ) → next ≡ nextBegun Begun p x salt root
-    → out′ ≡ message1 SHAKE256 p (take (p .m) x) salt root → work′ ≡ zeroed (workLength p) work → outcomeOf Done next out′ work′ ≡ begunWith p x salt root work
+    → out′ ≡ message1 SHAKE256 p (take (p .m) x) (runOf salt root) → work′ ≡ zeroed (workLength p) work → outcomeOf Done next out′ work′ ≡ begunWith p x salt root work
 unfolding begunWith
 begun-made p x salt root work next out′ work′ e f g = rw (e, f, g)
 
 module _ (s : Prover) (key : Key) (work out : List ℕ) where
   pub answered-made : (m2 : List ℕ) (next : Prover) (out′ work′ : List ℕ) → next ≡ nextAnswered s (padded 64 m2)
-      → out′ ≡ message3 SHAKE256 (s .parameters) (heldX s) (s .salt) (s .root) key m2 → work′ ≡ zeroed (workLength (s .parameters)) work
+      → out′ ≡ message3 SHAKE256 (s .parameters) (heldX s) (runOf (s .salt) (s .root)) key m2 → work′ ≡ zeroed (workLength (s .parameters)) work
       → outcomeOf Done next out′ work′ ≡ answered SHAKE256 s m2 key work out
   unfolding answered
   answered-made m2 next out′ work′ e f g = rw (e, f, g)
 
   pub opened-made : (i : ℕ) (next : Prover) (out′ work′ : List ℕ) → next ≡ nextClosed s
-      → out′ ≡ message5 SHAKE256 (s .parameters) (heldX s) (s .salt) (s .root) key (heldMessage2 s) i → work′ ≡ zeroed (workLength (s .parameters)) work
+      → out′ ≡ message5 SHAKE256 (s .parameters) (heldX s) (runOf (s .salt) (s .root)) key (heldMessage2 s) i → work′ ≡ zeroed (workLength (s .parameters)) work
       → outcomeOf Done next out′ work′ ≡ opened SHAKE256 s i key work out
   unfolding opened
   opened-made i next out′ work′ e f g = rw (e, f, g)

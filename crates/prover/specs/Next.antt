@@ -11,6 +11,7 @@ use Rattle.lists.specs.Zeroed.{zeroed}
 use Rattle.shake256.specs.Fips.{SHAKE256}
 use Rattle.parameters.specs.declared.Parameters.{Parameters}
 use Rattle.layout.specs.Layout.{workLength}
+use Rattle.exchange.specs.Run.{runOf}
 use Rattle.exchange.specs.Messages.{message1}
 use Rattle.prover_phase.specs.declared.Phase.{Phase}
 use Rattle.prover_phase.specs.declared.Phase.the-variants.{Begun, Answered, Closed}
@@ -29,6 +30,6 @@ unfoldable pub begunWith : Parameters → List ℕ → List ℕ → List ℕ →
 begunWith p x salt root work = record {
   answer = 0;
   prover = nextBegun Begun p x salt root;
-  out = message1 SHAKE256 p (take (p .m) x) salt root;
+  out = message1 SHAKE256 p (take (p .m) x) (runOf salt root);
   work = zeroed (workLength p) work;
 }

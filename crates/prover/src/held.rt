@@ -1,13 +1,18 @@
-// What a session holds, and what the checks of a call answer.
-use crate::Prover;
+// What a session holds, and what the checks of a call answer. A contract over a phase, parameters and x says the same of every session
+// that holds these.
 use answers::Answer;
+use parameters::Parameters;
 use prover_phase::Phase;
 use prover_phase::due::is_closed;
 use prover_phase::is_fresh;
 ghost use mathlib.Core.Path.{_≡_};
+ghost use mathlib.Core.List.{List};
+ghost use Prim.Native.Nat.{ℕ};
+ghost use lib.ListN.{length};
+ghost use Rattle.prover_phase.specs.declared.Phase.{Phase};
 ghost use Rattle.calls.specs.Prover as spec;
 ghost use Rattle.prover.specs.Facts.{isDone};
-ghost use Rattle.prover.specs.Held.{held};
+ghost use Rattle.prover.specs.Held.{session};
 
 // Did the checks pass?
 pub fn is_done(a: Answer) -> bool
@@ -20,36 +25,36 @@ pub fn is_done(a: Answer) -> bool
 }
 
 // Are the parameters within their limits, and has x at most w nonzero entries, as after every begin?
-fn intact(s: Prover) -> bool
-    ensures { λ r. ⌜ r ≡ spec.intact (held s) ⌝ }
+fn intact(p: Parameters, x: &[u8]) -> bool
+    requires { ⌜ length (now x) ≡ 255 ⌝ }
+    ensures { λ r. ⌜ ((f : Phase) (salt root m2 : List ℕ) → r ≡ spec.intact (session f p (now (x .entry)) salt root m2)) ⌝ }
 {
-    let p = s.parameters;
     if !parameters::within_limits(p) {
         return false;
     }
-    let x = s.x;
     let m = p.m;
     key::within_weight(p.w, &x[..m])
 }
 
 // The phase that counts: a session that is not fresh and not intact, so one that no call made, counts as closed.
-pub fn standing(s: Prover) -> Phase
-    ensures { λ r. ⌜ r ≡ spec.standing (held s) ⌝ }
+pub fn standing(phase: Phase, p: Parameters, x: &[u8]) -> Phase
+    requires { ⌜ length (now x) ≡ 255 ⌝ }
+    ensures { λ r. ⌜ ((salt root m2 : List ℕ) → r ≡ spec.standing (session phase p (now (x .entry)) salt root m2)) ⌝ }
 {
-    let phase = s.phase;
     if is_fresh(phase) {
         return phase;
     }
-    if intact(s) {
+    if intact(p, x) {
         return phase;
     }
     Phase::Closed
 }
 
 // Is the exchange closed, so that only begin is due?
-pub fn closed(s: Prover) -> bool
-    ensures { λ r. ⌜ r ≡ spec.closed (held s) ⌝ }
+pub fn closed(phase: Phase, p: Parameters, x: &[u8]) -> bool
+    requires { ⌜ length (now x) ≡ 255 ⌝ }
+    ensures { λ r. ⌜ ((salt root m2 : List ℕ) → r ≡ spec.closed (session phase p (now (x .entry)) salt root m2)) ⌝ }
 {
-    let phase = standing(s);
-    is_closed(phase)
+    let counted = standing(phase, p, x);
+    is_closed(counted)
 }

@@ -75,7 +75,23 @@ impl Prover {
             (now (root .entry)) (keyOf (now (matrix .entry)) (now (y .entry))) (now (work .entry)) (now (out .entry)) ⌝ }
     {
         let mut x = room();
-        let answer = on_begin::begin_checks(self, p, x_a, salt, root, matrix, y, work, out, &mut x);
+        let phase = self.phase;
+        let held_salt = self.salt;
+        let held_root = self.root;
+        let answer = on_begin::begin_checks(
+            phase,
+            &held_salt,
+            &held_root,
+            p,
+            x_a,
+            salt,
+            root,
+            matrix,
+            y,
+            work,
+            out,
+            &mut x,
+        );
         if !held::is_done(answer) {
             return Called {
                 prover: self,
@@ -97,7 +113,10 @@ impl Prover {
         ensures { λ r. ⌜ given r (now (out .exit)) (now (work .exit)) ≡ spec.points SHAKE256 (held self) (now (message2 .entry))
             (keyOf (now (matrix .entry)) (now (y .entry))) (now (work .entry)) (now (out .entry)) ⌝ }
     {
-        let answer = on_points::points_checks(self, message2, matrix, y, work, out);
+        let phase = self.phase;
+        let p = self.parameters;
+        let x = self.x;
+        let answer = on_points::points_checks(phase, p, &x, message2, matrix, y, work, out);
         if !held::is_done(answer) {
             return Called {
                 prover: self,
@@ -113,7 +132,10 @@ impl Prover {
             (keyOf (now (matrix .entry)) (now (y .entry))) (now (work .entry)) (now (out .entry)) ⌝ }
     {
         let hidden = leaf as usize;
-        let answer = on_leaf::leaf_checks(self, hidden, matrix, y, work, out);
+        let phase = self.phase;
+        let p = self.parameters;
+        let x = self.x;
+        let answer = on_leaf::leaf_checks(phase, p, &x, hidden, matrix, y, work, out);
         if !held::is_done(answer) {
             return Called {
                 prover: self,

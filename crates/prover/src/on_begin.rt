@@ -9,33 +9,33 @@ use parameters::Parameters;
 use prover_phase::Phase;
 use prover_phase::is_fresh;
 ghost use mathlib.Core.Path.{_≡_};
+ghost use mathlib.Core.List.{List};
+ghost use Prim.Native.Nat.{ℕ};
 ghost use lib.ListN.{replicate};
 ghost use Rattle.shake256.specs.Fips.{SHAKE256};
 ghost use Rattle.answers.specs.declared.Answer.the-variants.{Done};
+ghost use Rattle.parameters.specs.declared.Parameters.{Parameters};
 ghost use Rattle.relation.specs.Key.{vectorOf};
 ghost use Rattle.exchange.specs.Values.{keyOf};
 ghost use Rattle.calls.specs.Prover as spec;
 ghost use Rattle.prover.specs.Facts.{Starting};
-ghost use Rattle.prover.specs.Held.{held, given};
+ghost use Rattle.prover.specs.Held.{session, held, given};
 ghost use Rattle.prover.specs.Next.{nextBegun, begunWith};
 
 // Are salt and root both those of the exchange held, open or closed?
-fn repeated(s: Prover, salt: &[u8], root: &[u8]) -> bool
-    ensures { λ r. ⌜ r ≡ spec.repeated (held s) (now (salt .entry)) (now (root .entry)) ⌝ }
+fn repeated(phase: Phase, held_salt: &[u8], held_root: &[u8], salt: &[u8], root: &[u8]) -> bool
+    ensures { λ r. ⌜ ((p : Parameters) (x m2 : List ℕ) → r ≡ spec.repeated (session phase p x (now («held_salt» .entry)) (now («held_root» .entry)) m2)
+        (now (salt .entry)) (now (root .entry))) ⌝ }
 {
-    let phase = s.phase;
-    let held_salt = s.salt;
-    let held_root = s.root;
-    let same = both(
-        lists::equal(salt, &held_salt),
-        lists::equal(root, &held_root),
-    );
+    let same = both(lists::equal(salt, held_salt), lists::equal(root, held_root));
     both(!is_fresh(phase), same)
 }
 
 // The checks of begin. Where they pass, x, which came as 255 zeros, has the key's vector at its front.
 pub fn begin_checks(
-    s: Prover,
+    phase: Phase,
+    held_salt: &[u8],
+    held_root: &[u8],
     p: Parameters,
     x_a: &[u8],
     salt: &[u8],
@@ -47,7 +47,8 @@ pub fn begin_checks(
     x: &mut [u8],
 ) -> Answer
     requires { ⌜ now x ≡ replicate 255 0 ⌝ }
-    ensures { λ r. ⌜ (r ≡ spec.beginChecks SHAKE256 (held s) p (now («x_a» .entry)) (now (salt .entry)) (now (root .entry))
+    ensures { λ r. ⌜ ((held-p : Parameters) (held-x m2 : List ℕ) → r ≡ spec.beginChecks SHAKE256
+        (session phase held-p held-x (now («held_salt» .entry)) (now («held_root» .entry)) m2) p (now («x_a» .entry)) (now (salt .entry)) (now (root .entry))
         (keyOf (now (matrix .entry)) (now (y .entry))) (now (work .entry)) (now (out .entry)))
         × (r ≡ Done → now (x .exit) ≡ spec.padded 255 (vectorOf (now (matrix .entry)) (now (y .entry)) (now («x_a» .entry)))) ⌝ }
 {
@@ -55,7 +56,7 @@ pub fn begin_checks(
     let Answer::Done = answer else {
         return answer;
     };
-    if repeated(s, salt, root) {
+    if repeated(phase, held_salt, held_root, salt, root) {
         return Answer::Refused(Refusal::Repeated);
     }
     Answer::Done

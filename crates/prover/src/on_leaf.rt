@@ -6,42 +6,50 @@ use crate::held::standing;
 use answers::Answer;
 use answers::Refusal;
 use arguments::leaf_lengths;
+use parameters::Parameters;
+use prover_phase::Phase;
 use prover_phase::due::is_answered;
 ghost use mathlib.Core.Path.{_≡_};
+ghost use mathlib.Core.List.{List};
+ghost use Prim.Native.Nat.{ℕ};
+ghost use lib.ListN.{length};
 ghost use Rattle.shake256.specs.Fips.{SHAKE256};
 ghost use Rattle.exchange.specs.Values.{keyOf};
 ghost use Rattle.calls.specs.Prover as spec;
 ghost use Rattle.prover.specs.Facts.{Opening};
-ghost use Rattle.prover.specs.Held.{held, given};
+ghost use Rattle.prover.specs.Held.{session, held, given};
 ghost use Rattle.prover.specs.Next.{nextClosed};
 
 // Is leaf due?
-fn leaf_due(s: Prover) -> bool
-    ensures { λ r. ⌜ r ≡ spec.leafDue (held s) ⌝ }
+fn leaf_due(phase: Phase, p: Parameters, x: &[u8]) -> bool
+    requires { ⌜ length (now x) ≡ 255 ⌝ }
+    ensures { λ r. ⌜ ((salt root m2 : List ℕ) → r ≡ spec.leafDue (session phase p (now (x .entry)) salt root m2)) ⌝ }
 {
-    let phase = standing(s);
-    is_answered(phase)
+    let counted = standing(phase, p, x);
+    is_answered(counted)
 }
 
 // The checks of leaf.
 pub fn leaf_checks(
-    s: Prover,
+    phase: Phase,
+    p: Parameters,
+    x: &[u8],
     leaf: usize,
     matrix: &[u8],
     y: &[u8],
     work: &[u8],
     out: &[u8],
 ) -> Answer
-    ensures { λ r. ⌜ r ≡ spec.leafChecks SHAKE256 (held s) leaf (keyOf (now (matrix .entry)) (now (y .entry)))
-        (now (work .entry)) (now (out .entry)) ⌝ }
+    requires { ⌜ length (now x) ≡ 255 ⌝ }
+    ensures { λ r. ⌜ ((salt root m2 : List ℕ) → r ≡ spec.leafChecks SHAKE256 (session phase p (now (x .entry)) salt root m2) leaf (keyOf (now (matrix .entry)) (now (y .entry)))
+        (now (work .entry)) (now (out .entry))) ⌝ }
 {
-    if closed(s) {
+    if closed(phase, p, x) {
         return Answer::Refused(Refusal::Closed);
     }
-    if !leaf_due(s) {
+    if !leaf_due(phase, p, x) {
         return Answer::Refused(Refusal::NotDue);
     }
-    let p = s.parameters;
     if !leaf_lengths(p, leaf, matrix.len(), y.len(), work.len(), out.len()) {
         return Answer::Refused(Refusal::Length);
     }

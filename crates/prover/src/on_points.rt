@@ -7,42 +7,50 @@ use answers::Answer;
 use answers::Refusal;
 use arguments::points_lengths;
 use layout::arrays;
+use parameters::Parameters;
+use prover_phase::Phase;
 use prover_phase::due::is_begun;
 ghost use mathlib.Core.Path.{_≡_};
+ghost use mathlib.Core.List.{List};
+ghost use Prim.Native.Nat.{ℕ};
+ghost use lib.ListN.{length};
 ghost use Rattle.shake256.specs.Fips.{SHAKE256};
 ghost use Rattle.exchange.specs.Values.{keyOf};
 ghost use Rattle.calls.specs.Prover as spec;
 ghost use Rattle.prover.specs.Facts.{Answering};
-ghost use Rattle.prover.specs.Held.{held, given};
+ghost use Rattle.prover.specs.Held.{session, held, given};
 ghost use Rattle.prover.specs.Next.{nextAnswered};
 
 // Is points due?
-fn points_due(s: Prover) -> bool
-    ensures { λ r. ⌜ r ≡ spec.pointsDue (held s) ⌝ }
+fn points_due(phase: Phase, p: Parameters, x: &[u8]) -> bool
+    requires { ⌜ length (now x) ≡ 255 ⌝ }
+    ensures { λ r. ⌜ ((salt root m2 : List ℕ) → r ≡ spec.pointsDue (session phase p (now (x .entry)) salt root m2)) ⌝ }
 {
-    let phase = standing(s);
-    is_begun(phase)
+    let counted = standing(phase, p, x);
+    is_begun(counted)
 }
 
 // The checks of points.
 pub fn points_checks(
-    s: Prover,
+    phase: Phase,
+    p: Parameters,
+    x: &[u8],
     message2: &[u8],
     matrix: &[u8],
     y: &[u8],
     work: &[u8],
     out: &[u8],
 ) -> Answer
-    ensures { λ r. ⌜ r ≡ spec.pointsChecks SHAKE256 (held s) (now (message2 .entry)) (keyOf (now (matrix .entry)) (now (y .entry)))
-        (now (work .entry)) (now (out .entry)) ⌝ }
+    requires { ⌜ length (now x) ≡ 255 ⌝ }
+    ensures { λ r. ⌜ ((salt root m2 : List ℕ) → r ≡ spec.pointsChecks SHAKE256 (session phase p (now (x .entry)) salt root m2) (now (message2 .entry)) (keyOf (now (matrix .entry)) (now (y .entry)))
+        (now (work .entry)) (now (out .entry))) ⌝ }
 {
-    if closed(s) {
+    if closed(phase, p, x) {
         return Answer::Refused(Refusal::Closed);
     }
-    if !points_due(s) {
+    if !points_due(phase, p, x) {
         return Answer::Refused(Refusal::NotDue);
     }
-    let p = s.parameters;
     if !points_lengths(
         p,
         message2.len(),

@@ -4,6 +4,7 @@
 use answers::Answer;
 use libc::STDOUT_FILENO;
 use parameters::Parameters;
+use parameters::set::parameters_of;
 use prover::Prover;
 use shake256::shake256;
 ghost use Prim.Native.Nat.{_≤_};
@@ -29,13 +30,7 @@ fn show(name: &[u8], answer: Answer, out: &[u8]) {
 
 // The shipped set, of length m.
 fn set_of(m: usize) -> Parameters {
-    Parameters {
-        m,
-        k: 126,
-        w: 79,
-        axes: 8,
-        t: 3,
-    }
+    parameters_of(&[m, 126, 79, 8, 3])
 }
 
 // The key's x_A: 40 bytes, then zeros.

@@ -7,21 +7,21 @@
 -- valuesIn p m5        its α (4t) and β (4t)
 -- auxIn p m5           aux, which is the rest: nothing where leaf n−1 is hidden
 use mathlib.Core.List.{List}
-use Prim.Native.Nat.{ℕ, _+_, _*_}
+use Prim.Native.Nat.{ℕ, _+_}
 use lib.ListN.{take, drop}
 use Rattle.lists.specs.Part.{part}
 use Rattle.parameters.specs.declared.Parameters.{Parameters}
-use Rattle.layout.specs.Layout.{levels}
+use Rattle.layout.specs.Layout.{siblingsLength, valuesLength}
 pub mod Laws
 
 abbrev pub commitmentPlace : Parameters → ℕ
-commitmentPlace p = 16 * levels p
+commitmentPlace p = siblingsLength p
 
 abbrev pub valuesPlace : Parameters → ℕ
 valuesPlace p = commitmentPlace p + 32
 
 abbrev pub auxPlace : Parameters → ℕ
-auxPlace p = valuesPlace p + 8 * p .t
+auxPlace p = valuesPlace p + valuesLength p
 
 unfoldable pub siblingsIn : Parameters → List ℕ → List ℕ
 siblingsIn p m5 = take (commitmentPlace p) m5
@@ -30,7 +30,7 @@ unfoldable pub commitmentIn : Parameters → List ℕ → List ℕ
 commitmentIn p m5 = part m5 (commitmentPlace p) 32
 
 unfoldable pub valuesIn : Parameters → List ℕ → List ℕ
-valuesIn p m5 = part m5 (valuesPlace p) (8 * p .t)
+valuesIn p m5 = part m5 (valuesPlace p) (valuesLength p)
 
 unfoldable pub auxIn : Parameters → List ℕ → List ℕ
 auxIn p m5 = drop (auxPlace p) m5

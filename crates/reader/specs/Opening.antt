@@ -3,11 +3,12 @@
 -- Asked p m5 s c v   parameters within their limits, room for sibling seeds, commitment, α and β, and a message 5 that has them
 -- Parts m s c v n s′ c′ v′   what three parts become, taken one after another from the start, and how much is left behind them
 use mathlib.Core.Path.{_≡_}
-use Prim.Native.Nat.{ℕ, _+_, _*_, _-_, _≤_}
+use Prim.Native.Nat.{ℕ, _-_, _≤_}
 use mathlib.Core.List.{List}
 use lib.ListN.{length}
 use Rattle.parameters.specs.declared.Parameters.{Parameters}
 use Rattle.parameters.specs.Limits.{Within}
+use Rattle.layout.specs.Layout.{valuesLength}
 use Rattle.reader.specs.Message5.{commitmentPlace, auxPlace}
 use Rattle.reader.specs.Taken.{taken, behind}
 pub mod Laws
@@ -16,7 +17,7 @@ pub record Asked (p : Parameters) (m5 siblings commitment values : List ℕ) : T
   pub within : Within p
   pub siblings-fit : commitmentPlace p ≤ length siblings
   pub commitment-is : length commitment ≡ 32
-  pub values-fit : 8 * p .t ≤ length values
+  pub values-fit : valuesLength p ≤ length values
   pub long : auxPlace p ≤ length m5
 
 module _ (m s c v : List ℕ) where

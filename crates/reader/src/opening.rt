@@ -2,6 +2,8 @@
 use crate::left;
 use crate::start;
 use crate::take;
+use layout::siblings_length;
+use layout::values_length;
 use parameters::Parameters;
 ghost use mathlib.Core.Path.{_≡_};
 ghost use lib.ListN.{length};
@@ -40,8 +42,8 @@ pub fn read_opening(
     ensures { λ _. ⌜ now (commitment .exit) ≡ commitmentIn p (now (message5 .entry)) ⌝ }
     ensures { λ _. ⌜ now (values .exit) ≡ putAt (now (values .entry)) 0 (valuesIn p (now (message5 .entry))) ⌝ }
 {
-    let seeds = 16 * p.axes;
-    let points = 8 * p.t;
+    let seeds = siblings_length(p);
+    let points = values_length(p);
     read_parts(
         message5,
         &mut siblings[..seeds],

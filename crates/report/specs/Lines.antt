@@ -4,7 +4,8 @@
 -- numberText n         the decimal of n, for n below 10,000
 -- numberField n        a tab and a decimal
 -- digestField s        a tab and 32 bytes of SHAKE256 of s in hex
--- setLine p            the parameters: m, k, w, D, t
+-- numberFields ns      the fields of numbers one behind the other
+-- setLine p            the parameters, as the numbers of their set
 -- messageLine name s   a message: its name, its length and its digest
 -- verdictLine a        accepted, or refused with document 01's number
 use mathlib.Core.Bool.{cond}
@@ -16,6 +17,7 @@ use Rattle.answers.specs.declared.Answer.{Answer}
 use Rattle.answers.specs.declared.Answer.the-variants.{Done, Refused}
 use Rattle.answers.specs.Number.{refusalNumber}
 use Rattle.parameters.specs.declared.Parameters.{Parameters}
+use Rattle.parameters.specs.Set.{numbersOf}
 use Rattle.shake256.specs.Fips.{SHAKE256}
 use Rattle.text.specs.Split.{tab, lineFeed}
 use Rattle.text.specs.Decimal.{decimalText}
@@ -39,9 +41,12 @@ numberField n = tab ∷ numberText n
 abbrev pub digestField : List ℕ → List ℕ
 digestField s = tab ∷ hexText (SHAKE256 s 32)
 
+abbrev pub numberFields : List ℕ → List ℕ
+numberFields [] = []
+numberFields (n ∷ ns) = numberField n ++ numberFields ns
+
 unfoldable pub setLine : Parameters → List ℕ
-setLine p =
-    setWord ++ (numberField (p .m) ++ (numberField (p .k) ++ (numberField (p .w) ++ (numberField (p .axes) ++ (numberField (p .t) ++ (lineFeed ∷ []))))))
+setLine p = setWord ++ (numberFields (numbersOf p) ++ (lineFeed ∷ []))
 
 unfoldable pub messageLine : List ℕ → List ℕ → List ℕ
 messageLine name s = name ++ (numberField (length s) ++ (digestField s ++ (lineFeed ∷ [])))

@@ -48,12 +48,13 @@ pub fn set_line(out: &mut [u8; 96], p: Parameters) -> usize
     requires { ⌜ Within p ⌝ }
     ensures { λ r. ⌜ Written (now (out .entry)) 0 (setLine p) r (now (out .exit)) ⌝ }
 {
+    let n = parameters::set::numbers_of(p);
     let a = put(out, 0, b"set");
-    let b = number_field(out, a, p.m);
-    let c = number_field(out, b, p.k);
-    let d = number_field(out, c, p.w);
-    let e = number_field(out, d, p.axes);
-    let f = number_field(out, e, p.t);
+    let b = number_field(out, a, n[0]);
+    let c = number_field(out, b, n[1]);
+    let d = number_field(out, c, n[2]);
+    let e = number_field(out, d, n[3]);
+    let f = number_field(out, e, n[4]);
     put(out, f, b"\n")
 }
 

@@ -10,7 +10,7 @@ use Rattle.parameters.specs.declared.Parameters.{Parameters}
 use Rattle.parameters.specs.Limits.{Within}
 use Rattle.relation.specs.Light.{Light}
 use Rattle.ownleaves.specs.Asked.{Keyed}
-use Rattle.layout.specs.Layout.{auxLength, shareLength, workLength}
+use Rattle.layout.specs.Layout.{valuesLength, axisLength, auxLength, workLength, sumsLength}
 
 pub record AddAsked (p : Parameters) (x area aux : List ℕ) : Type 0 where
   pub within : Within p
@@ -22,6 +22,6 @@ pub record AddAsked (p : Parameters) (x area aux : List ℕ) : Type 0 where
 pub record RespondAsked (p : Parameters) (m2 matrix y parts hidden rows : List ℕ) : Type 0 where
   pub within : Within p
   pub keyed : Keyed p m2 matrix y
-  pub parts-are : length parts ≡ (p .axes + 1) * shareLength p
-  pub hidden-is : length hidden ≡ 8 * p .t
-  pub rows-are : length rows ≡ p .axes * (24 * p .t)
+  pub parts-are : length parts ≡ sumsLength p
+  pub hidden-is : length hidden ≡ valuesLength p
+  pub rows-are : length rows ≡ p .axes * axisLength p

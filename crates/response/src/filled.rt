@@ -1,6 +1,7 @@
 // The work area filled: the sums of all parties' leaves, and in the second party's part on axis 0 the sum of all leaves.
 use layout::LONGEST_AUX;
 use layout::MOST_STATES;
+use layout::at_x;
 use layout::aux_length;
 use layout::leaf_count;
 use layout::share_length;
@@ -15,6 +16,7 @@ ghost use lib.ListN.{length};
 ghost use Rattle.bytefield.specs.Tables.{logs, powers};
 ghost use Rattle.lists.specs.Part.{part};
 ghost use Rattle.layout.specs.Layout.{leaves, auxLength, shareLength};
+ghost use Rattle.exchange.specs.Run.{runOf};
 ghost use Rattle.auxiliary.specs.Auxiliary.{auxFor};
 ghost use Rattle.parties.specs.Sums.{withAux};
 ghost use Rattle.ownleaves.specs.Asked.{Held};
@@ -37,14 +39,14 @@ fn add_aux(
     let size = share_length(p);
     let at = p.axes * size;
     auxiliary::aux(p, x, &area[at..at + size], aux, log, pow);
-    xor_at(area, at + 8 * p.t, aux);
+    xor_at(area, at + at_x(p), aux);
 }
 
 // Fills the area with the sums of all parties and the total, by way of the states of all leaves and aux.
 fn fill_by(
     p: Parameters,
     x: &[u8],
-    salt: &[u8],
+    prefix: &[u8],
     root: &[u8],
     area: &mut [u8],
     states: &mut [u8],
@@ -52,11 +54,11 @@ fn fill_by(
     log: &[u8; 256],
     pow: &[u8; 256],
 )
-    requires { ⌜ Held p (now x) (now salt) (now root) (now area) × (length (now states) ≡ 32 * leaves p) × (length (now aux) ≡ auxLength p) × (now log ≡ logs) × (now pow ≡ powers) ⌝ }
-    ensures { λ _. ⌜ Filled p (now (x .entry)) (now (salt .entry)) (now (root .entry)) (now (area .exit)) ⌝ }
+    requires { ⌜ Held p (now x) (runOf (now prefix) (now root)) (now area) × (length (now states) ≡ 32 * leaves p) × (length (now aux) ≡ auxLength p) × (now log ≡ logs) × (now pow ≡ powers) ⌝ }
+    ensures { λ _. ⌜ Filled p (now (x .entry)) (runOf (now (prefix .entry)) (now (root .entry))) (now (area .exit)) ⌝ }
 {
-    own_states(p, salt, root, states);
-    party_sums(p, salt, states, leaf_count(p), area);
+    own_states(p, prefix, root, states);
+    party_sums(p, prefix, states, leaf_count(p), area);
     put_total(p, area);
     add_aux(p, x, area, aux, log, pow);
 }
@@ -65,14 +67,14 @@ fn fill_by(
 pub fn fill(
     p: Parameters,
     x: &[u8],
-    salt: &[u8],
+    prefix: &[u8],
     root: &[u8],
     area: &mut [u8],
     log: &[u8; 256],
     pow: &[u8; 256],
 )
-    requires { ⌜ Held p (now x) (now salt) (now root) (now area) × (now log ≡ logs) × (now pow ≡ powers) ⌝ }
-    ensures { λ _. ⌜ Filled p (now (x .entry)) (now (salt .entry)) (now (root .entry)) (now (area .exit)) ⌝ }
+    requires { ⌜ Held p (now x) (runOf (now prefix) (now root)) (now area) × (now log ≡ logs) × (now pow ≡ powers) ⌝ }
+    ensures { λ _. ⌜ Filled p (now (x .entry)) (runOf (now (prefix .entry)) (now (root .entry))) (now (area .exit)) ⌝ }
 {
     let mut states = [0u8; MOST_STATES];
     let mut aux = [0u8; LONGEST_AUX];
@@ -81,7 +83,7 @@ pub fn fill(
     fill_by(
         p,
         x,
-        salt,
+        prefix,
         root,
         area,
         &mut states[..size],

@@ -7,8 +7,11 @@ use axisdigests::response_digest;
 use bytefield::log_table;
 use bytefield::power_table;
 use layout::MOST_ROWS;
+use layout::MOST_VALUES;
+use layout::axis_length;
 use layout::leaf_count;
-use layout::share_length;
+use layout::sums_length;
+use layout::values_length;
 use lists::zero_front;
 use parameters::Parameters;
 ghost use mathlib.Core.Path.{_≡_};
@@ -16,7 +19,8 @@ ghost use Prim.Native.Nat.{_*_};
 ghost use lib.ListN.{length, replicate};
 ghost use Rattle.bytefield.specs.Tables.{logs, powers};
 ghost use Rattle.shake256.specs.Fips.{SHAKE256};
-ghost use Rattle.layout.specs.Layout.{workLength};
+ghost use Rattle.layout.specs.Layout.{valuesLength, axisLength, workLength};
+ghost use Rattle.exchange.specs.Run.{runOf};
 ghost use Rattle.exchange.specs.Messages as spec;
 ghost use Rattle.exchange.specs.Values.{keyOf};
 ghost use Rattle.ownleaves.specs.Asked.{Held, Keyed};
@@ -27,7 +31,7 @@ ghost use Rattle.response.specs.Asked.{RespondAsked};
 // `hidden` holds does not enter.
 fn respond(
     p: Parameters,
-    salt: &[u8],
+    prefix: &[u8],
     m2: &[u8],
     matrix: &[u8],
     y: &[u8],
@@ -39,18 +43,18 @@ fn respond(
     pow: &[u8; 256],
 )
     requires { ⌜ RespondAsked p (now m2) (now matrix) (now y) (now parts) (now hidden) (now rows) × (length (now out) ≡ 32) × (now log ≡ logs) × (now pow ≡ powers) ⌝ }
-    ensures { λ _. ⌜ now (out .exit) ≡ responseOf p (now (salt .entry)) (keyOf (now (matrix .entry)) (now (y .entry))) (now (m2 .entry)) (now (parts .entry)) (now (hidden .entry)) ⌝ }
+    ensures { λ _. ⌜ now (out .exit) ≡ responseOf p (now (prefix .entry)) (keyOf (now (matrix .entry)) (now (y .entry))) (now (m2 .entry)) (now (parts .entry)) (now (hidden .entry)) ⌝ }
 {
     let n = leaf_count(p);
     axis_rows(p, parts, m2, matrix, y, n, hidden, rows, log, pow);
-    response_digest(p, salt, rows, out);
+    response_digest(p, prefix, rows, out);
 }
 
 // out becomes message 3, by way of the rows of all axes, and the area ends as zeros.
 fn put_message3(
     p: Parameters,
     x: &[u8],
-    salt: &[u8],
+    prefix: &[u8],
     root: &[u8],
     m2: &[u8],
     matrix: &[u8],
@@ -60,19 +64,19 @@ fn put_message3(
     rows: &mut [u8],
     out: &mut [u8],
 )
-    requires { ⌜ Held p (now x) (now salt) (now root) (now area) × Keyed p (now m2) (now matrix) (now y)
-        × (length (now hidden) ≡ 8 * p .t) × (length (now rows) ≡ p .axes * (24 * p .t)) × (length (now out) ≡ 32) ⌝ }
-    ensures { λ _. ⌜ (now (out .exit) ≡ spec.message3 SHAKE256 p (now (x .entry)) (now (salt .entry)) (now (root .entry))
+    requires { ⌜ Held p (now x) (runOf (now prefix) (now root)) (now area) × Keyed p (now m2) (now matrix) (now y)
+        × (length (now hidden) ≡ valuesLength p) × (length (now rows) ≡ p .axes * axisLength p) × (length (now out) ≡ 32) ⌝ }
+    ensures { λ _. ⌜ (now (out .exit) ≡ spec.message3 SHAKE256 p (now (x .entry)) (runOf (now (prefix .entry)) (now (root .entry)))
         (keyOf (now (matrix .entry)) (now (y .entry))) (now (m2 .entry)))
         × (now (area .exit) ≡ replicate (workLength p) 0) ⌝ }
 {
     let log = log_table();
     let pow = power_table();
-    fill(p, x, salt, root, area, &log, &pow);
-    let end = (p.axes + 1) * share_length(p);
+    fill(p, x, prefix, root, area, &log, &pow);
+    let end = sums_length(p);
     respond(
         p,
-        salt,
+        prefix,
         m2,
         matrix,
         y,
@@ -91,7 +95,7 @@ fn put_message3(
 pub fn message3(
     p: Parameters,
     x: &[u8],
-    salt: &[u8],
+    prefix: &[u8],
     root: &[u8],
     m2: &[u8],
     matrix: &[u8],
@@ -99,19 +103,19 @@ pub fn message3(
     area: &mut [u8],
     out: &mut [u8],
 )
-    requires { ⌜ Held p (now x) (now salt) (now root) (now area) × Keyed p (now m2) (now matrix) (now y) × (length (now out) ≡ 32) ⌝ }
-    ensures { λ _. ⌜ (now (out .exit) ≡ spec.message3 SHAKE256 p (now (x .entry)) (now (salt .entry)) (now (root .entry))
+    requires { ⌜ Held p (now x) (runOf (now prefix) (now root)) (now area) × Keyed p (now m2) (now matrix) (now y) × (length (now out) ≡ 32) ⌝ }
+    ensures { λ _. ⌜ (now (out .exit) ≡ spec.message3 SHAKE256 p (now (x .entry)) (runOf (now (prefix .entry)) (now (root .entry)))
         (keyOf (now (matrix .entry)) (now (y .entry))) (now (m2 .entry)))
         × (now (area .exit) ≡ replicate (workLength p) 0) ⌝ }
 {
-    let hidden = [0u8; 64];
+    let hidden = [0u8; MOST_VALUES];
     let mut rows = [0u8; MOST_ROWS];
-    let values = 8 * p.t;
-    let size = p.axes * (24 * p.t);
+    let values = values_length(p);
+    let size = p.axes * axis_length(p);
     put_message3(
         p,
         x,
-        salt,
+        prefix,
         root,
         m2,
         matrix,

@@ -1,6 +1,6 @@
 -- What the prover's messages ask of the arrays that its session holds.
 --
--- Arrays p x salt root work            x at the front of 255 bytes, not too heavy; salt and root; a work area that is long enough
+-- Arrays p x run work                  x at the front of 255 bytes, not too heavy; a root's seed; a work area that is long enough
 -- Disclosing p m2 leaf matrix y out    message 2 at the front of 64 bytes, a leaf below n, matrix, y and room for message 5
 use mathlib.Core.Path.{_≡_}
 use mathlib.Core.List.{List}
@@ -10,14 +10,14 @@ use Rattle.parameters.specs.declared.Parameters.{Parameters}
 use Rattle.parameters.specs.Limits.{Within}
 use Rattle.relation.specs.Key.{weightOf}
 use Rattle.layout.specs.Layout.{leaves, message5Length, workLength}
+use Rattle.exchange.specs.Run.{Run}
 pub mod Laws
 
-pub record Arrays (p : Parameters) (x salt root work : List ℕ) : Type 0 where
+pub record Arrays (p : Parameters) (x : List ℕ) (run : Run) (work : List ℕ) : Type 0 where
   pub within : Within p
   pub light : weightOf (take (p .m) x) ≤ p .w
   pub x-is : length x ≡ 255
-  pub salt-is : length salt ≡ 32
-  pub root-is : length root ≡ 16
+  pub root-is : length (run .root) ≡ 16
   pub work-fits : workLength p ≤ length work
 
 pub record Disclosing (p : Parameters) (m2 : List ℕ) (leaf : ℕ) (matrix y out : List ℕ) : Type 0 where

@@ -1,38 +1,40 @@
 // The seeds below a node, level by level in one buffer.
+use lists::copy;
 use lists::put_at;
 use shake256::Sponge;
-use strings::digest;
+use strings::hash;
 use treenodes::node_bytes;
 ghost use mathlib.Core.Path.{_≡_};
 ghost use mathlib.Core.List.{List, _++_};
 ghost use Prim.Native.Nat.{ℕ, _<_};
-ghost use lib.ListN.{take};
-ghost use Rattle.shake256.specs.Stream.{absorbed};
+ghost use lib.ListN.{length, take};
 ghost use Rattle.shake256.specs.Fips.{SHAKE256};
 ghost use Rattle.lists.specs.Part.{part, putAt};
 ghost use Rattle.exchange.specs.Strings.{nodeBytes};
 ghost use Rattle.exchange.specs.Tree as tree;
-ghost use Rattle.strings.specs.Digest.{begun};
+ghost use Rattle.strings.specs.Digest.{begun, hashed};
 ghost use Rattle.seedtree.specs.Laid.{laid};
 ghost use Rattle.seedtree.specs.Levels.{grown};
 ghost use Rattle.seedtree.specs.Shapes.{Expand, Grow, Below, Subtree};
 
-// The sponge that has absorbed the string of node v, from the start of layer 1.
-fn absorb_node(nodes: Sponge, v: usize, seed: &[u8]) -> Sponge
+// Fills out with the hash of node v's string: what nodes has absorbed ‖ node ‖ seed.
+fn node_hash(nodes: Sponge, v: usize, seed: &[u8], out: &mut [u8])
     requires { ⌜ v < 65536 ⌝ }
-    ensures { λ r. ⌜ r ≡ absorbed nodes (nodeBytes v ++ now (seed .entry)) ⌝ }
+    ensures { λ _. ⌜ now (out .exit) ≡ hashed nodes (nodeBytes v ++ now (seed .entry)) (length (now (out .entry))) ⌝ }
 {
     let number = node_bytes(v);
-    nodes.absorb(&number).absorb(seed)
+    hash(nodes, &number, seed, &[], out);
 }
 
-// The children of the seed at index `from`, that of node v, go to index `to`.
+// The children of the seed at index `from`, that of node v, go to index `to`. The seed is copied first, since the two
+// parts may overlap.
 pub fn expand(nodes: Sponge, v: usize, seeds: &mut [u8], from: usize, to: usize)
     requires { ⌜ Expand v (now seeds) from to ⌝ }
     ensures { λ _. ⌜ ((prefix : List ℕ) → nodes ≡ begun 1 prefix → now (seeds .exit) ≡ putAt (now (seeds .entry)) to (tree.children SHAKE256 prefix v (part (now (seeds .entry)) from 16))) ⌝ }
 {
-    let s = absorb_node(nodes, v, &seeds[from..from + 16]);
-    digest(s, &mut seeds[to..to + 32]);
+    let mut seed = [0u8; 16];
+    copy(&mut seed, &seeds[from..from + 16]);
+    node_hash(nodes, v, &seed, &mut seeds[to..to + 32]);
 }
 
 // The first c seeds of the buffer, those of nodes v, v + 1 and so on, become their children, from the last one on.

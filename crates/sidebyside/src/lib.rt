@@ -1,4 +1,5 @@
 // x of up to eight shares at once: byte i of a word is the entry of share i (crate packed).
+use layout::at_x;
 use layout::share_length;
 use parameters::Parameters;
 ghost use mathlib.Core.Path.{_≡_};
@@ -109,7 +110,8 @@ pub fn vectors(
         ≡ xOf p (keyOf (now (matrix .entry)) (now (y .entry))) first (shareOf p (now (shares .entry)) i)) ⌝ }
 {
     let k = p.k;
-    gather(p, n, shares, 8 * p.t, &mut words[..k]);
+    let at = at_x(p);
+    gather(p, n, shares, at, &mut words[..k]);
     packed::clear(&mut words[k..]);
     image(words, k, matrix);
     add_where(first, &mut words[k..], y);

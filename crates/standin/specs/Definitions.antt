@@ -28,8 +28,9 @@ use Rattle.exchange.specs.Tree.{seedsOf, children, leafSeeds, siblings, sibling
 use Rattle.exchange.specs.Leaf.{state, share, commitment}
 use Rattle.exchange.specs.Values.{xAOf, QOf, POf, aOf, bOf, cOf, pointOf, multiplierOf, F, imageOf, xOf, SOf, alpha, beta, partV}
 use Rattle.exchange.specs.Parties.{total, partyOf, announcedBytes, axisString, sumsOf}
-use Rattle.exchange.specs.Messages.{ownState, drawn, wanted, ownAux, ownShare, ownCommitment, message1, ownParty, ownAlpha, ownBeta, ownAnnounced, message3, message5}
-use Rattle.exchange.specs.Opening.{exchange, pathOf, commitmentOf, alphaOf, betaOf, auxOf, openedState, openedShare, leafString, leafCommitment, commitmentString, disclosed, partyAlpha, partyBeta, formulaV, partyV, announced, responseString, verdict}
+use Rattle.exchange.specs.Announcing.{partyAlpha, partyBeta, formulaV, partyV}
+use Rattle.exchange.specs.Messages.{ownState, drawn, wanted, ownAux, ownShare, ownCommitment, message1, ownParty, ownAnnounced, message3, message5}
+use Rattle.exchange.specs.Opening.{exchange, pathOf, commitmentOf, alphaOf, betaOf, auxOf, openedState, openedShare, leafString, leafCommitment, commitmentString, disclosed, announced, responseString, verdict}
 use Rattle.exchange.specs.Extractor.{Finding, unequal, states, openedInBoth, compared, axis, auxFrom, stateFrom, output, stringAt, unequalAt, finding, extract}
 use Rattle.standin.specs.StandIn.{hex, absorb, emitted, standIn, weak, weakLeaves}
 
@@ -42,7 +43,7 @@ unfolding _⊕_ xorList eqList putAt zeroed eval plus scale times expand product
     seedsOf children leafSeeds siblings siblingSeeds openedSeeds state share commitment
     xAOf QOf POf aOf bOf cOf pointOf multiplierOf F imageOf xOf SOf alpha beta partV
     total partyOf announcedBytes axisString sumsOf
-    ownState drawn wanted ownAux ownShare ownCommitment message1 ownParty ownAlpha ownBeta ownAnnounced message3 message5
+    ownState drawn wanted ownAux ownShare ownCommitment message1 ownParty ownAnnounced message3 message5
     exchange pathOf commitmentOf alphaOf betaOf auxOf openedState openedShare leafString leafCommitment commitmentString
     disclosed partyAlpha partyBeta formulaV partyV announced responseString verdict
     openedInBoth compared axis auxFrom stateFrom output stringAt unequalAt finding extract

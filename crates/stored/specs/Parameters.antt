@@ -1,28 +1,44 @@
--- The parameters of a session as bytes, one byte each, behind the phase.
+-- The parameters of a session as bytes: the numbers of their set, one byte each, behind the phase.
 --
--- parameterBytes p      m, k, w, axes, t
+-- parameterBytes p      the bytes
 -- parametersFrom b      the parameters in a session's bytes b
--- Small p               each parameter is a byte
--- within-small          parameters within their limits are
+-- Bytes ns              each of the numbers ns is a byte
+-- Small p               each number of the parameters is
+-- within-small          those of parameters within their limits are
+-- parameters-read       the parameters from their bytes one by one
+use mathlib.Core.Path.{_≡_}
 use Prim.Native.Nat.{ℕ, _<_}
 use mathlib.Core.List.{List, [], _∷_}
 use native.Mathlib.Omega.{arith}
 use lib.ListN.{getD}
+use Rattle.lists.specs.Part.{part}
+use Rattle.lists.specs.Part.Laws.{getD-part}
 use Rattle.parameters.specs.declared.Parameters.{Parameters}
 use Rattle.parameters.specs.Limits.{Within}
+use Rattle.parameters.specs.Set.{setLength, numbersOf, parametersOf}
 
 abbrev pub parameterBytes : Parameters → List ℕ
-parameterBytes p = p .m ∷ p .k ∷ p .w ∷ p .axes ∷ p .t ∷ []
+parameterBytes p = numbersOf p
 
 abbrev pub parametersFrom : List ℕ → Parameters
-parametersFrom b = record { m = getD b 1 0; k = getD b 2 0; w = getD b 3 0; axes = getD b 4 0; t = getD b 5 0 }
+parametersFrom b = parametersOf (part b 1 setLength)
 
-pub record Small (p : Parameters) : Type 0 where
-  pub m : p .m < 256
-  pub k : p .k < 256
-  pub w : p .w < 256
-  pub axes : p .axes < 256
-  pub t : p .t < 256
+abbrev pub Bytes : List ℕ → Type 0
+Bytes [] = Unit {0}
+Bytes (n ∷ ns) = (n < 256) × Bytes ns
+
+abbrev pub Small : Parameters → Type 0
+Small p = Bytes (numbersOf p)
 
 pub within-small : (p : Parameters) → Within p → Small p
-within-small p h = record { m = omega arith; k = omega arith; w = omega arith; axes = omega arith; t = omega arith }
+within-small p h = (omega arith, (omega arith, (omega arith, (omega arith, (omega arith, tt)))))
+
+pub parameters-read : (b : List ℕ) → parametersOf (getD b 1 0 ∷ getD b 2 0 ∷ getD b 3 0 ∷ getD b 4 0 ∷ getD b 5 0 ∷ []) ≡ parametersFrom b
+parameters-read b =
+    rw (
+      getD-part b 1 5 0 (omega arith),
+      getD-part b 1 5 1 (omega arith),
+      getD-part b 1 5 2 (omega arith),
+      getD-part b 1 5 3 (omega arith),
+      getD-part b 1 5 4 (omega arith),
+    )

@@ -1,7 +1,7 @@
 -- A prover's session as bytes.
 --
 -- proverSize            how many there are
--- proverBytes s         phase (`proverPhaseByte`), m, k, w, d, t, x (255), salt (32), root (16), message 2 (64)
+-- proverBytes s         phase (`proverPhaseByte`), parameters (`parameterBytes`), x (255), salt (32), root (16), message 2 (64)
 -- proverFrom b          the session that the bytes b are
 use Prim.Native.Nat.{ℕ}
 use mathlib.Core.List.{List, _∷_, _++_}

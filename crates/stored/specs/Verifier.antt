@@ -1,7 +1,7 @@
 -- A verifier's session as bytes.
 --
 -- verifierSize          how many there are
--- verifierBytes s       phase (`verifierPhaseByte`), m, k, w, d, t, message 1 (64), message 2 (64), message 3 (32), leaf
+-- verifierBytes s       phase (`verifierPhaseByte`), parameters (`parameterBytes`), message 1 (64), message 2 (64), message 3 (32), leaf
 -- verifierFrom b        the session that the bytes b are
 use Prim.Native.Nat.{ℕ}
 use mathlib.Core.List.{List, [], _∷_, _++_}

@@ -14,10 +14,10 @@ ghost use Rattle.stored.specs.Parameters.{Small};
 ghost use Rattle.stored.specs.Prover.{proverSize, proverBytes, proverFrom};
 ghost use Rattle.stored.specs.Verifier.{verifierSize, verifierBytes, verifierFrom};
 
-// The bytes of a prover's session: phase, m, k, w, d, t, x, salt, root, message 2.
+// The bytes of a prover's session: phase, parameters, x, salt, root, message 2.
 pub const PROVER_SIZE: usize = 373;
 
-// The bytes of a verifier's session: phase, m, k, w, d, t, messages 1, 2 and 3, leaf.
+// The bytes of a verifier's session: phase, parameters, messages 1, 2 and 3, leaf.
 pub const VERIFIER_SIZE: usize = 167;
 
 // The prover's session that the bytes are.

@@ -1,5 +1,7 @@
 // What the bytes of both sessions share: the parameters, and parts one behind the other.
 use parameters::Parameters;
+use parameters::set::numbers_of;
+use parameters::set::parameters_of;
 ghost use mathlib.Core.Path.{_≡_};
 ghost use Prim.Native.Nat.{_+_, _≤_};
 ghost use mathlib.Core.List.{_∷_, _++_};
@@ -27,13 +29,8 @@ pub fn read_parameters(b: &[u8]) -> Parameters
     requires { ⌜ 6 ≤ length (now b) ⌝ }
     ensures { λ r. ⌜ r ≡ parametersFrom (now (b .entry)) ⌝ }
 {
-    Parameters {
-        m: wide(b[1]),
-        k: wide(b[2]),
-        w: wide(b[3]),
-        axes: wide(b[4]),
-        t: wide(b[5]),
-    }
+    let numbers = [wide(b[1]), wide(b[2]), wide(b[3]), wide(b[4]), wide(b[5])];
+    parameters_of(&numbers)
 }
 
 // Phase and parameters, with which a session's bytes start.
@@ -41,13 +38,14 @@ pub fn head(phase: u8, p: Parameters) -> [u8; 6]
     requires { ⌜ Small p ⌝ }
     ensures { λ r. ⌜ r ≡ phase ∷ parameterBytes p ⌝ }
 {
+    let n = numbers_of(p);
     [
         phase,
-        p.m as u8,
-        p.k as u8,
-        p.w as u8,
-        p.axes as u8,
-        p.t as u8,
+        n[0] as u8,
+        n[1] as u8,
+        n[2] as u8,
+        n[3] as u8,
+        n[4] as u8,
     ]
 }
 

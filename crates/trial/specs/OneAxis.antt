@@ -15,6 +15,7 @@ use Rattle.exchange.specs.Values.{Key}
 use Rattle.standin.specs.StandIn.{hex, standIn}
 use Rattle.polynomial.specs.Interpolant.{interpolantOf, vanishingOf}
 use Rattle.relation.specs.Key.{vectorOf, locatorOf, quotientOf}
+use Rattle.exchange.specs.Run.{runOf}
 use Rattle.exchange.specs.Messages.{message1, message3, message5}
 use Rattle.exchange.specs.Opening.{Exchange, exchange, verdict}
 use Rattle.standin.specs.Definitions.{definitions}
@@ -71,25 +72,25 @@ unfolding definitions
 F-is = refl
 
 message1-is :
-    message1 standIn p x salt root
+    message1 standIn p x (runOf salt root)
     ≡ hex 64 0xa83b63f1ee08469ccdac9ff735ab278a84ba6d1c170cf5c1183c860763b2813804846b7ca3d904a405cd5deb6904e1eaabb176b97f6042dd4ae179440230cbe4
 unfolding definitions
 message1-is = refl
 
 message3-is :
-    message3 standIn p x salt root key m2
+    message3 standIn p x (runOf salt root) key m2
     ≡ hex 32 0x85ef3858c893438c4e05c24d2db64d0b586104e83967e855a70ba9dc0efda224
 unfolding definitions
 message3-is = refl
 
 message5-of-0 :
-    message5 standIn p x salt root key m2 0
+    message5 standIn p x (runOf salt root) key m2 0
     ≡ hex 65 0x44c8e6c5ef7d75f73c086bbd4f6dd2e7a724e2a6472b2e33108e4345e326602e46a00505b26a78ce2a543e74f66f20681cfeee7b1d0aec253258426cce01078452
 unfolding definitions
 message5-of-0 = refl
 
 message5-of-1 :
-    message5 standIn p x salt root key m2 1
+    message5 standIn p x (runOf salt root) key m2 1
     ≡ hex 56 0x208bfee042d81e977767cae5163b9c5f1f8572adac2ecd4d1cf3be4d4a60438d08ae238c2fe6051e76f2561ff435abadc4833bf25df1fedf
 unfolding definitions
 message5-of-1 = refl

@@ -15,6 +15,7 @@ use Rattle.exchange.specs.Values.{Key}
 use Rattle.standin.specs.StandIn.{hex, standIn}
 use Rattle.polynomial.specs.Interpolant.{interpolantOf, vanishingOf}
 use Rattle.relation.specs.Key.{vectorOf, locatorOf, quotientOf}
+use Rattle.exchange.specs.Run.{runOf}
 use Rattle.exchange.specs.Messages.{message1, message3, message5}
 use Rattle.exchange.specs.Opening.{Exchange, exchange, verdict}
 use Rattle.standin.specs.Definitions.{definitions}
@@ -71,25 +72,25 @@ unfolding definitions
 F-is = refl
 
 message1-is :
-    message1 standIn p x salt root
+    message1 standIn p x (runOf salt root)
     ≡ hex 64 0x32c693d194f5d4bdd75071a12588cf922b1824d0e330ef901023abf13c9e322f8780ecb92a61cc4c634b5d0ddb308b7ae91dd1c37518d55925d047cdaf046ff1
 unfolding definitions
 message1-is = refl
 
 message3-is :
-    message3 standIn p x salt root key m2
+    message3 standIn p x (runOf salt root) key m2
     ≡ hex 32 0xf9018d72b2d6671d7bb80c9aab958fc06c7b55284a4bfc25cd8fdcc8c1af7f8f
 unfolding definitions
 message3-is = refl
 
 message5-of-0 :
-    message5 standIn p x salt root key m2 0
+    message5 standIn p x (runOf salt root) key m2 0
     ≡ hex 76 0xe407c2b14c77c5ddb32c83beb0554e1a2ebb774e93233528185a9d68fe69f8b6273cd11112ff8dd348feb5c748dc56dbe8166b96413143da8a83aa90d21ad4e7309482972ac7ee2d990f7838
 unfolding definitions
 message5-of-0 = refl
 
 message5-of-1 :
-    message5 standIn p x salt root key m2 1
+    message5 standIn p x (runOf salt root) key m2 1
     ≡ hex 64 0xc0c1f1484ec7081a5df1e1f7d674e42b5e3c482db639ccb6d2ec874c42440c53c939980bcbcf79b6c07a5fc18a691fd3d31f734b245b8f1417a7f5059d51b905
 unfolding definitions
 message5-of-1 = refl

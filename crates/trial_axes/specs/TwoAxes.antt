@@ -15,6 +15,7 @@ use Rattle.exchange.specs.Values.{Key}
 use Rattle.standin.specs.StandIn.{hex, standIn}
 use Rattle.polynomial.specs.Interpolant.{interpolantOf, vanishingOf}
 use Rattle.relation.specs.Key.{vectorOf, locatorOf, quotientOf}
+use Rattle.exchange.specs.Run.{runOf}
 use Rattle.exchange.specs.Messages.{message1, message3, message5}
 use Rattle.exchange.specs.Opening.{Exchange, exchange, verdict}
 use Rattle.standin.specs.Definitions.{definitions}
@@ -71,25 +72,25 @@ unfolding definitions
 F-is = refl
 
 message1-is :
-    message1 standIn p x salt root
+    message1 standIn p x (runOf salt root)
     ≡ hex 64 0x12d452d5c11db196e4528e202d8239550f24a9d33cd147a1be6a87b7505ae1a0182d25fc37b70b4c83f0a1220be8f7302950af1d78c8b2f449eabc87b11a1a78
 unfolding definitions
 message1-is = refl
 
 message3-is :
-    message3 standIn p x salt root key m2
+    message3 standIn p x (runOf salt root) key m2
     ≡ hex 32 0x5fbb1276bcb7235eaf2223d311b0fcd2850b32917d0647103bc17522b698ad6b
 unfolding definitions
 message3-is = refl
 
 message5-of-1 :
-    message5 standIn p x salt root key m2 1
+    message5 standIn p x (runOf salt root) key m2 1
     ≡ hex 83 0xfa0719a44880b8d4442c85c50970e892226dff5f8ef433a354de9340e80ac00d0445766bbb4714b84daa543948ac6dd59ea61332095ca8f0887d4807e5ac23a912f0fca3be724fd4c46ac5478c5e5d02d420fb
 unfolding definitions
 message5-of-1 = refl
 
 message5-of-3 :
-    message5 standIn p x salt root key m2 3
+    message5 standIn p x (runOf salt root) key m2 3
     ≡ hex 72 0x0989ab1986e5e1437788dc29bd6b54cc0f8218147547fbf4593a036f663fc76507a44dad026821f6cf7bb2943a497955d8fe2c12d841b1819693155a3adc3ef099480c8a42369617
 unfolding definitions
 message5-of-3 = refl

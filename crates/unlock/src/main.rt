@@ -6,6 +6,7 @@ use keytext::KeyScan;
 use libc::STDIN_FILENO;
 use libc::STDOUT_FILENO;
 use parameters::Parameters;
+use parameters::set::parameters_of;
 use prover::Prover;
 use verifier::Verifier;
 ghost use mathlib.Core.Path.{_≡_};
@@ -230,7 +231,7 @@ fn on_key_read(scan: KeyScan, matrix: &[u8], y: &[u8], x_a: &[u8]) {
         return;
     }
     let numbers = scan.numbers;
-    let p = listing::parameters_read(numbers);
+    let p = parameters_of(&numbers);
     let k = p.k;
     let rows = p.m - k;
     let size = rows * k;

@@ -10,7 +10,7 @@ use Prim.Native.Nat.{ℕ, _+_, _*_, _≤_, _<_}
 use lib.ListN.{length}
 use Rattle.parameters.specs.declared.Parameters.{Parameters}
 use Rattle.parameters.specs.Limits.{Within}
-use Rattle.layout.specs.Layout.{shareLength, message2Length}
+use Rattle.layout.specs.Layout.{shareLength, message2Length, rowLength}
 
 pub record ShareAsked (p : Parameters) (s : List ℕ) (l : ℕ) (multiplier factor out : List ℕ) : Type 0 where
   pub within : Within p
@@ -18,7 +18,7 @@ pub record ShareAsked (p : Parameters) (s : List ℕ) (l : ℕ) (multiplier fact
   pub sized-s : length s ≡ shareLength p
   pub sized-multiplier : 128 ≤ length multiplier
   pub sized-factor : 128 ≤ length factor
-  pub sized-out : length out ≡ 12 * p .t
+  pub sized-out : length out ≡ rowLength p
 
 pub record SharesAsked (p : Parameters) (n : ℕ) (shares : List ℕ) (l : ℕ) (qs ss ps multiplier factor out : List ℕ) : Type 0 where
   pub within : Within p
@@ -30,7 +30,7 @@ pub record SharesAsked (p : Parameters) (n : ℕ) (shares : List ℕ) (l : ℕ) 
   pub sized-ps : length ps ≡ n
   pub sized-multiplier : 128 ≤ length multiplier
   pub sized-factor : 128 ≤ length factor
-  pub sized-out : length out ≡ n * (12 * p .t)
+  pub sized-out : length out ≡ n * rowLength p
 
 pub record PositionAsked (p : Parameters) (n : ℕ) (shares rows m2 : List ℕ) (l : ℕ) (qs ss ps : List ℕ) : Type 0 where
   pub within : Within p
@@ -49,4 +49,4 @@ pub record EachAsked (p : Parameters) (n : ℕ) (shares rows m2 out : List ℕ) 
   pub sized-shares : length shares ≡ n * shareLength p
   pub sized-rows : length rows ≡ (n + 1) * p .m
   pub sized-m2 : length m2 ≡ message2Length p
-  pub sized-out : length out ≡ n * (12 * p .t)
+  pub sized-out : length out ≡ n * rowLength p

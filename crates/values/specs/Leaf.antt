@@ -16,7 +16,7 @@ use Rattle.lists.specs.Part.{part}
 use Rattle.lists.specs.Part.Laws.{part-whole}
 use Rattle.parameters.specs.declared.Parameters.{Parameters}
 use Rattle.parameters.specs.Limits.{Within}
-use Rattle.layout.specs.Layout.{shareLength, message2Length}
+use Rattle.layout.specs.Layout.{shareLength, message2Length, rowLength, valuesLength}
 use Rattle.exchange.specs.Reading.{encode}
 use Rattle.exchange.specs.Values.{Key, keyOf, imageOf, xOf, SOf, alpha, beta}
 use Rattle.values.specs.Announced.{announcedOf}
@@ -31,21 +31,21 @@ pub record LeafAsked (p : Parameters) (s m2 matrix out : List ℕ) : Type 0 wher
   pub sized-s : length s ≡ shareLength p
   pub sized-m2 : length m2 ≡ message2Length p
   pub sized-matrix : length matrix ≡ (p .m - p .k) * p .k
-  pub sized-out : length out ≡ 8 * p .t
+  pub sized-out : length out ≡ valuesLength p
 
 pub record RoomAsked (p : Parameters) (y rows block : List ℕ) : Type 0 where
   pub sized-y : length y ≡ p .m - p .k
   pub sized-rows : length rows ≡ 2 * p .m
-  pub sized-block : length block ≡ 12 * p .t
+  pub sized-block : length block ≡ rowLength p
 
 pub leafValues-any : (p : Parameters) (key : Key) (m2 s : List ℕ)
     → leafValues p (key .matrix) m2 s ≡ encode (alpha p key m2 false s) (p .t) ++ encode (beta p key m2 false s) (p .t)
 unfolding leafValues alpha beta SOf xOf imageOf
 leafValues-any p key m2 s = refl
 
-pub leaf-made : (p : Parameters) (key : Key) (m2 s u : List ℕ) → length s ≡ shareLength p → length u ≡ 12 * p .t → Announcements p key m2 false s 1 u
-    → take (8 * p .t) u ≡ leafValues p (key .matrix) m2 s
+pub leaf-made : (p : Parameters) (key : Key) (m2 s u : List ℕ) → length s ≡ shareLength p → length u ≡ rowLength p → Announcements p key m2 false s 1 u
+    → take (valuesLength p) u ≡ leafValues p (key .matrix) m2 s
 leaf-made p key m2 s u ls lu h =
     let own = ap (λ (i : ℕ). part s i (shareLength p)) (zero-mul (shareLength p)) ∙ part-whole s (shareLength p) (le-of-eq ls) in
-    let first = sym (part-whole u (12 * p .t) (le-of-eq lu)) ∙ ap (λ (i : ℕ). part u i (12 * p .t)) (sym (zero-mul (12 * p .t))) in
-    ap (take (8 * p .t)) (first ∙ h 0 (omega arith) ∙ ap (announcedOf p key m2 false) own) ∙ announced-front p key m2 false s ∙ sym (leafValues-any p key m2 s)
+    let first = sym (part-whole u (rowLength p) (le-of-eq lu)) ∙ ap (λ (i : ℕ). part u i (rowLength p)) (sym (zero-mul (rowLength p))) in
+    ap (take (valuesLength p)) (first ∙ h 0 (omega arith) ∙ ap (announcedOf p key m2 false) own) ∙ announced-front p key m2 false s ∙ sym (leafValues-any p key m2 s)

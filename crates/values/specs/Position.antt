@@ -15,6 +15,7 @@ use Rattle.lists.specs.Xor.{_⊕_}
 use Rattle.lists.specs.Part.{putAt}
 use Rattle.tower.specs.Field.{Point, bytesOf}
 use Rattle.parameters.specs.declared.Parameters.{Parameters}
+use Rattle.layout.specs.Layout.{atV, factorLength}
 use Rattle.exchange.specs.Sequences.{joined}
 use Rattle.exchange.specs.Reading.{value, _⊠_}
 use Rattle.exchange.specs.Values.{Key, QOf, POf, SOf, F, pointOf, multiplierOf, alpha, beta}
@@ -38,7 +39,7 @@ abbrev pub RowsOf : Parameters → Key → Bool → List ℕ → List ℕ → �
 RowsOf p key first shares rows n = rows ≡ joined (λ i. SOf p key first (shareOf p shares i)) n ++ take (p .m) (F p)
 
 unfoldable pub writtenAt : Parameters → ℕ → Point → Point → Point → List ℕ → List ℕ
-writtenAt p l α β γ out = putAt (putAt (putAt out (4 * l) (bytesOf α)) (4 * p .t + 4 * l) (bytesOf β)) (8 * p .t + 4 * l) (bytesOf γ)
+writtenAt p l α β γ out = putAt (putAt (putAt out (4 * l) (bytesOf α)) (factorLength p + 4 * l) (bytesOf β)) (atV p + 4 * l) (bytesOf γ)
 
 abbrev pub announcedAt : Parameters → Key → List ℕ → Bool → List ℕ → ℕ → List ℕ → List ℕ
 announcedAt p key m2 first s l out = writtenAt p l (alpha p key m2 first s l) (beta p key m2 first s l) (gamma p m2 s l) out

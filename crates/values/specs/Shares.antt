@@ -8,12 +8,13 @@ use mathlib.Core.List.{List}
 use Prim.Native.Nat.{ℕ, _*_, _<_}
 use Rattle.lists.specs.Part.{part}
 use Rattle.parameters.specs.declared.Parameters.{Parameters}
+use Rattle.layout.specs.Layout.{rowLength}
 use Rattle.exchange.specs.Values.{Key}
 use Rattle.sidebyside.specs.Shares.{shareOf}
 use Rattle.values.specs.Announced.{announcedOf}
 
 abbrev pub blockOf : Parameters → List ℕ → ℕ → List ℕ
-blockOf p out i = part out (i * (12 * p .t)) (12 * p .t)
+blockOf p out i = part out (i * rowLength p) (rowLength p)
 
 abbrev pub Announcements : Parameters → Key → List ℕ → Bool → List ℕ → ℕ → List ℕ → Type 0
 Announcements p key m2 first shares n out = (i : ℕ) → i < n → blockOf p out i ≡ announcedOf p key m2 first (shareOf p shares i)

@@ -13,6 +13,7 @@ use Rattle.lists.specs.Part.{putAt}
 use Rattle.algebra.specs.Ring.{Ring2, ring}
 use Rattle.tower.specs.Field.{Point, point, bytesOf, point-bytesOf}
 use Rattle.parameters.specs.declared.Parameters.{Parameters}
+use Rattle.layout.specs.Layout.{atV, factorLength}
 use Rattle.exchange.specs.Reading.{points, value, _⊞_, _⊠_}
 use Rattle.exchange.specs.Values.{Key, QOf, POf, SOf, F, aOf, bOf, cOf, pointOf, multiplierOf, alpha, beta}
 use Rattle.points.specs.Multiples.{wordOf, multiplesOf}
@@ -23,11 +24,11 @@ use Rattle.values.specs.Announced.{gamma}
 pub sum-made : (a b r : List ℕ) (x y : Point) → a ≡ bytesOf x → b ≡ bytesOf y → r ≡ bytesOf (point a ⊞ point b) → r ≡ bytesOf (x ⊞ y)
 sum-made a b r x y ea eb er = er ∙ ap₂ (λ (u v : Point). bytesOf (u ⊞ v)) (ap point ea ∙ point-bytesOf x) (ap point eb ∙ point-bytesOf y)
 
-pub written-made : (p : Parameters) (l : ℕ) (α β γ : Point) (out a b c : List ℕ) → a ≡ putAt out (4 * l) (bytesOf α)
-    → b ≡ putAt a (4 * p .t + 4 * l) (bytesOf β) → c ≡ putAt b (8 * p .t + 4 * l) (bytesOf γ) → c ≡ writtenAt p l α β γ out
+pub written-made : (p : Parameters) (l : ℕ) (α β γ : Point) (out a b c : List ℕ) (y z : ℕ) → y ≡ factorLength p → z ≡ atV p → a ≡ putAt out (4 * l) (bytesOf α)
+    → b ≡ putAt a (y + 4 * l) (bytesOf β) → c ≡ putAt b (z + 4 * l) (bytesOf γ) → c ≡ writtenAt p l α β γ out
 unfolding writtenAt
-written-made p l α β γ out a b c ea eb ec =
-    ec ∙ ap (λ (d : List ℕ). putAt d (8 * p .t + 4 * l) (bytesOf γ)) (eb ∙ ap (λ (d : List ℕ). putAt d (4 * p .t + 4 * l) (bytesOf β)) ea)
+written-made p l α β γ out a b c y z ey ez ea eb ec =
+    ec ∙ ap₂ (λ (d : List ℕ) (k : ℕ). putAt d (k + 4 * l) (bytesOf γ)) (eb ∙ ap₂ (λ (d : List ℕ) (k : ℕ). putAt d (k + 4 * l) (bytesOf β)) ea ey) ez
 
 gather : {K : Type 0} (R : Ring2 K) (c e f q : K) → R .add (R .mul (R .mul e f) q) c ≡ R .add c (R .mul e (R .mul f q))
 gather R c e f q = simp (ring, R)

@@ -6,13 +6,22 @@ mod valued;
 
 use crate::position::announce_at;
 use encoding::point_at;
+use layout::LONGEST_ROW;
+use layout::LONGEST_Y;
+use layout::MOST_COEFFICIENTS;
+use layout::factor_length;
+use layout::row_length;
+use layout::values_length;
 use parameters::Parameters;
 ghost use mathlib.Core.Path.{_≡_};
-ghost use mathlib.Core.Bool.{true};
-ghost use Prim.Native.Nat.{ℕ, _*_, _<_, _≤_};
+ghost use mathlib.Core.Bool.{cond};
+ghost use mathlib.Core.List.{[], _∷_};
+ghost use Prim.Native.Nat.{ℕ, _<_, _≤_};
 ghost use lib.ListN.{length};
 ghost use Rattle.bytefield.specs.Tables.{logs, powers};
 ghost use Rattle.tower.specs.Field.{point, bytesOf};
+ghost use Rattle.parameters.specs.Limits.{Within};
+ghost use Rattle.layout.specs.Layout.{atX};
 ghost use Rattle.exchange.specs.Values.{Key};
 ghost use Rattle.values.specs.Announced.{vOf};
 ghost use Rattle.values.specs.Asked.{EachAsked};
@@ -64,7 +73,7 @@ fn announce_single(
     requires { ⌜ LeafAsked p (now s) (now m2) (now matrix) (now out) × RoomAsked p (now y) (now rows) (now block) × (now log ≡ logs) × (now pow ≡ powers) ⌝ }
     ensures { λ c. ⌜ (now (out .exit) ≡ leafValues p (now (matrix .entry)) (now (m2 .entry)) (now (s .entry))) × (c ≡ productsOf p 1) ⌝ }
 {
-    let a = 8 * p.t;
+    let a = values_length(p);
     coefficients::interpolate_each(p, 1, s, matrix, y, false, rows, log, pow);
     let made = announce_each(p, 1, s, rows, m2, false, block, log, pow);
     lists::copy(out, &block[..a]);
@@ -85,12 +94,12 @@ pub fn announce_leaf(
     requires { ⌜ LeafAsked p (now s) (now m2) (now matrix) (now out) × (now log ≡ logs) × (now pow ≡ powers) ⌝ }
     ensures { λ c. ⌜ (now (out .exit) ≡ leafValues p (now (matrix .entry)) (now (m2 .entry)) (now (s .entry))) × (c ≡ productsOf p 1) ⌝ }
 {
-    let y = [0u8; 254];
-    let mut rows = [0u8; 510];
-    let mut block = [0u8; 96];
+    let y = [0u8; LONGEST_Y];
+    let mut rows = [0u8; MOST_COEFFICIENTS];
+    let mut block = [0u8; LONGEST_ROW];
     let n = p.m - p.k;
     let e = 2 * p.m;
-    let b = 12 * p.t;
+    let b = row_length(p);
     announce_single(
         p,
         s,
@@ -105,23 +114,36 @@ pub fn announce_leaf(
     )
 }
 
-// v at position l of the share s with the constant, from its γ and the sums α̂ and β̂ over the axis: γ + α̂·(b + β̂) + β̂·a.
+// x where `first`, else zero.
+fn where_first(first: bool, x: [u8; 4]) -> [u8; 4]
+    ensures { λ r. ⌜ r ≡ cond first x (0 ∷ 0 ∷ 0 ∷ 0 ∷ []) ⌝ }
+{
+    if first {
+        return x;
+    }
+    [0, 0, 0, 0]
+}
+
+// v at position l of the share s, with the constant where `first`, from its γ and the sums α̂ and β̂ over the axis:
+// γ + α̂·b + β̂·a, where b has β̂ added for the constant.
 pub fn v_at(
     p: Parameters,
     s: &[u8],
     l: usize,
+    first: bool,
     gamma: [u8; 4],
     alpha: [u8; 4],
     beta: [u8; 4],
     log: &[u8; 256],
     pow: &[u8; 256],
 ) -> [u8; 4]
-    requires { ⌜ (l < p .t) × (p .t ≤ 8) × (8 * p .t ≤ length (now s)) × (now log ≡ logs) × (now pow ≡ powers) ⌝ }
-    ensures { λ r. ⌜ r ≡ bytesOf (vOf p (now (s .entry)) true (point gamma) (point alpha) (point beta) l) ⌝ }
+    requires { ⌜ Within p × (l < p .t) × (atX p ≤ length (now s)) × (now log ≡ logs) × (now pow ≡ powers) ⌝ }
+    ensures { λ r. ⌜ r ≡ bytesOf (vOf p (now (s .entry)) first (point gamma) (point alpha) (point beta) l) ⌝ }
 {
+    let constant = where_first(first, beta);
     let a = point_at(s, 4 * l);
-    let b = point_at(s, 4 * p.t + 4 * l);
-    let x = points::product(points::sum(b, beta), alpha, log, pow);
+    let b = point_at(s, factor_length(p) + 4 * l);
+    let x = points::product(points::sum(b, constant), alpha, log, pow);
     let y = points::product(a, beta, log, pow);
     points::sum(points::sum(gamma, x), y)
 }

@@ -2,6 +2,9 @@
 use crate::term::announce_share;
 use crate::valued::evaluate;
 use encoding::point_at;
+use layout::points_length;
+use layout::row_length;
+use layout::share_length;
 use parameters::Parameters;
 use points::multiples_of;
 use points::product_by;
@@ -11,10 +14,14 @@ ghost use mathlib.Core.List.{List};
 ghost use Prim.Native.Nat.{ℕ, _+_, _*_, _<_};
 ghost use lib.ListN.{length};
 ghost use Rattle.bytefield.specs.Tables.{logs, powers};
+ghost use Rattle.layout.specs.Layout.{rowLength};
 ghost use Rattle.exchange.specs.Values.{Key, pointOf};
 ghost use Rattle.values.specs.Asked.{SharesAsked, PositionAsked, EachAsked};
 ghost use Rattle.values.specs.Position.{Valued, Factors, RowsOf, EachAnnounced};
 ghost use Rattle.values.specs.Products.{productsAt};
+
+// The values of as many polynomials at a point as there can be: of up to fifteen shares, and of F.
+const MOST_AT_POINT: usize = 16;
 
 // α, β and γ at position l of each of n shares, which stand one after another, are written to its part of out.
 fn announce_shares(
@@ -36,8 +43,8 @@ fn announce_shares(
         → Factors p m2 l (now (multiplier .entry)) (now (factor .entry))
         → EachAnnounced p key m2 first (now (shares .entry)) l (now (out .entry)) (now (out .exit)) n) × (c ≡ start + 2 * n) ⌝ }
 {
-    let size = 8 * p.t + (p.k + 2 * p.w + 4 * p.t);
-    let room = 12 * p.t;
+    let size = share_length(p);
+    let room = row_length(p);
     let mut made = start;
     let mut a = 0;
     let mut b = 0;
@@ -83,11 +90,11 @@ fn announce_with(
     log: &[u8; 256],
     pow: &[u8; 256],
 ) -> usize
-    requires { ⌜ PositionAsked p n (now shares) (now rows) (now m2) l (now qs) (now ss) (now ps) × (length (now out) ≡ n * (12 * p .t)) × (made < 2147483648) × (now log ≡ logs) × (now pow ≡ powers) ⌝ }
+    requires { ⌜ PositionAsked p n (now shares) (now rows) (now m2) l (now qs) (now ss) (now ps) × (length (now out) ≡ n * rowLength p) × (made < 2147483648) × (now log ≡ logs) × (now pow ≡ powers) ⌝ }
     ensures { λ c. ⌜ ((key : Key) → RowsOf p key first (now (shares .entry)) (now (rows .entry)) n
         → EachAnnounced p key (now (m2 .entry)) first (now (shares .entry)) l (now (out .entry)) (now (out .exit)) n) × (c ≡ made + productsAt p n) ⌝ }
 {
-    let e = point_at(m2, 4 * p.t + 4 * l);
+    let e = point_at(m2, points_length(p) + 4 * l);
     let mut multiplier = [0u64; 128];
     multiples_of(&mut multiplier, e, log, pow);
     let f = evaluate(p, n, shares, rows, m2, l, first, qs, ss, ps, made, log, pow);
@@ -130,9 +137,9 @@ pub fn announce_at(
     ensures { λ c. ⌜ ((key : Key) → RowsOf p key first (now (shares .entry)) (now (rows .entry)) n
         → EachAnnounced p key (now (m2 .entry)) first (now (shares .entry)) l (now (out .entry)) (now (out .exit)) n) × (c ≡ made + productsAt p n) ⌝ }
 {
-    let mut qs = [0u64; 16];
-    let mut ss = [0u64; 16];
-    let mut ps = [0u64; 16];
+    let mut qs = [0u64; MOST_AT_POINT];
+    let mut ss = [0u64; MOST_AT_POINT];
+    let mut ps = [0u64; MOST_AT_POINT];
     let e = n + 1;
     announce_with(
         p,

@@ -1,6 +1,9 @@
 // α, β and γ of one share at one position, from the values of Q, S and P.
 use encoding::point_at;
 use encoding::put_point;
+use layout::at_c;
+use layout::factor_length;
+use layout::values_length;
 use parameters::Parameters;
 use points::point_of;
 use points::product_by;
@@ -56,12 +59,12 @@ pub fn announce_share(
         × (c ≡ made + 2) ⌝ }
 {
     let x = 4 * l;
-    let y = 4 * p.t + x;
-    let z = 8 * p.t + x;
+    let y = factor_length(p) + x;
+    let z = values_length(p) + x;
     let a = point_at(s, x);
     let first = put_term(out, x, q, multiplier, a, made);
     let b = point_at(s, y);
     put_sum(out, y, r, b);
-    let c = point_at(s, z + p.k + 2 * p.w);
+    let c = point_at(s, at_c(p) + x);
     put_term(out, z, v, factor, c, first)
 }

@@ -1,6 +1,9 @@
 // The values of Q, S and P of several shares at one position, and F(r) there.
 use encoding::point_at;
 use evaluation::values_at;
+use layout::at_p;
+use layout::at_q;
+use layout::share_length;
 use parameters::Parameters;
 use points::point_of;
 use points::sum;
@@ -56,12 +59,13 @@ pub fn evaluate(
         → Valued p key first (now (shares .entry)) n (pointOf p (now (m2 .entry)) l) (now (qs .exit)) (now (ss .exit)) (now (ps .exit)) (c .leading)
         × (c .vanishing ≡ bytesOf (value (F p) (pointOf p (now (m2 .entry)) l)))) × (c .made ≡ made + evaluationsAt p n) ⌝ }
 {
-    let size = 8 * p.t + (p.k + 2 * p.w + 4 * p.t);
-    let at = 8 * p.t + p.k;
+    let size = share_length(p);
+    let at = at_q(p);
+    let behind = at_p(p);
     let r = point_at(m2, 4 * l);
     let s = values_at(rows, n + 1, p.m, 0, p.m, r, ss, made, log, pow);
     let q = values_at(shares, n, size, at, p.w, r, qs, s.made, log, pow);
-    let v = values_at(shares, n, size, at + p.w, p.w, r, ps, q.made, log, pow);
+    let v = values_at(shares, n, size, behind, p.w, r, ps, q.made, log, pow);
     let power = s.point;
     let last = q.point;
     Evaluation {

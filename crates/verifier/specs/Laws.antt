@@ -15,8 +15,6 @@ use mathlib.Core.Path.{_≡_, refl, sym, ap, _∙_}
 use mathlib.Core.Bool.{Bool, true, false, _&&_, _||_, not, cond, false≢true}
 use mathlib.Core.List.{List}
 use Prim.Native.Nat.{ℕ, _*_, _≤_, _<_}
-use native.Mathlib.Nat.{mul-le-mul}
-use native.Mathlib.Omega.{arith}
 use lib.Dec.{eqb, ltb}
 use lib.ListN.{length}
 use borrow.Author.Tests.{eqb-true, ltb-true}
@@ -32,7 +30,8 @@ use Rattle.answers.specs.Checks.Laws.{Done≢Refused, check-true, check-rest, c
 use Rattle.parameters.specs.declared.Parameters.{Parameters}
 use Rattle.parameters.specs.Limits.{withinLimits, Within}
 use Rattle.parameters.specs.Limits.Laws.{test-within}
-use Rattle.layout.specs.Layout.{leaves, message2Length, message5Length, workLength}
+use Rattle.layout.specs.Layout.Bounds as bounds
+use Rattle.layout.specs.Layout.{leaves, axisLength, message2Length, message5Length, workLength}
 use Rattle.exchange.specs.Opening.{verdict}
 use Rattle.exchange.specs.Values.{Key}
 use Rattle.layout.specs.Lent.{lent, Lent}
@@ -152,8 +151,8 @@ module _ (hash : List ℕ → ℕ → List ℕ) (s : Verifier) (m5 : List ℕ) (
         lent = test-lent (s .parameters) (length (key .matrix)) (length (key .y)) (length work) (and-right five others both);
       }
 
-pub rows-most : (p : Parameters) → Within p → p .axes * (24 * p .t) ≤ 1536
-rows-most p h = let e : 24 * p .t ≤ 192 = omega arith in mul-le-mul (h .axes-most) e
+pub rows-most : (p : Parameters) → Within p → p .axes * axisLength p ≤ 1536
+rows-most p h = bounds.rows-most p h
 
 module _ (hash : List ℕ → ℕ → List ℕ) (s : Verifier) (m5 : List ℕ) (key : Key) (work : List ℕ) (b : Answer) (e : b ≡ openingChecks hash s m5 key work) where
   pub refused-opening : (r : Refusal) → b ≡ Refused r → record { answer = answerNumber b; verifier = s; work = work } ≡ opening hash s m5 key work

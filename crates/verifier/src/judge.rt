@@ -1,6 +1,9 @@
 // The verdict on an opening, and the session after it.
 use crate::Verifier;
 use answers::Answer;
+use layout::MOST_ROWS;
+use layout::MOST_STATES;
+use layout::axis_length;
 use layout::leaf_count;
 use layout::message2_length;
 use layout::work_length;
@@ -28,12 +31,12 @@ pub fn judge(s: Verifier, message5: &[u8], matrix: &[u8], y: &[u8], work: &mut [
     let m2 = s.message2;
     let m3 = s.message3;
     let leaf = s.leaf as usize;
-    let mut states = [0u8; 8192];
-    let mut rows = [0u8; 1536];
+    let mut states = [0u8; MOST_STATES];
+    let mut rows = [0u8; MOST_ROWS];
     let points = message2_length(p);
     let area = work_length(p);
     let all_states = 32 * leaf_count(p);
-    let all_rows = p.axes * (24 * p.t);
+    let all_rows = p.axes * axis_length(p);
     check_opening(
         p,
         &m1,

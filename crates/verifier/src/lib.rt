@@ -89,14 +89,15 @@ impl Verifier {
     pub fn points(self, message2: &[u8]) -> Called
         ensures { λ r. ⌜ given r ≡ spec.points (held self) (now (message2 .entry)) ⌝ }
     {
-        let checked = points_checks(self, message2);
+        let phase = self.phase;
+        let parameters = self.parameters;
+        let checked = points_checks(phase, parameters, self.leaf, message2);
         let Answer::Done = checked else {
             return Called {
                 verifier: self,
                 answer: checked,
             };
         };
-        let parameters = self.parameters;
         let message1 = self.message1;
         let message2 = padded64(message2);
         let message3 = self.message3;
@@ -118,14 +119,15 @@ impl Verifier {
     pub fn response(self, message3: &[u8]) -> Called
         ensures { λ r. ⌜ given r ≡ spec.response (held self) (now (message3 .entry)) ⌝ }
     {
-        let checked = response_checks(self, message3);
+        let phase = self.phase;
+        let parameters = self.parameters;
+        let checked = response_checks(phase, parameters, self.leaf, message3);
         let Answer::Done = checked else {
             return Called {
                 verifier: self,
                 answer: checked,
             };
         };
-        let parameters = self.parameters;
         let message1 = self.message1;
         let message2 = self.message2;
         let message3 = array32(message3);
@@ -147,14 +149,15 @@ impl Verifier {
     pub fn leaf(self, leaf: u8) -> Called
         ensures { λ r. ⌜ given r ≡ spec.leaf (held self) leaf ⌝ }
     {
-        let checked = leaf_checks(self, leaf);
+        let phase = self.phase;
+        let parameters = self.parameters;
+        let checked = leaf_checks(phase, parameters, self.leaf, leaf);
         let Answer::Done = checked else {
             return Called {
                 verifier: self,
                 answer: checked,
             };
         };
-        let parameters = self.parameters;
         let message1 = self.message1;
         let message2 = self.message2;
         let message3 = self.message3;
@@ -176,7 +179,9 @@ impl Verifier {
     pub fn opening(self, message5: &[u8], matrix: &[u8], y: &[u8], work: &mut [u8]) -> Called
         ensures { λ r. ⌜ judged r (now (work .exit)) ≡ spec.opening SHAKE256 (held self) (now (message5 .entry)) (keyOf (now (matrix .entry)) (now (y .entry))) (now (work .entry)) ⌝ }
     {
-        let checked = opening_checks(self, message5, matrix, y, work);
+        let phase = self.phase;
+        let parameters = self.parameters;
+        let checked = opening_checks(phase, parameters, self.leaf, message5, matrix, y, work);
         let Answer::Done = checked else {
             return Called {
                 verifier: self,

@@ -7,6 +7,7 @@ use lib.ListN.{take, length-take, length-drop}
 use lib.Seq.{length-take-le}
 use Rattle.lists.specs.Part.Laws.{tail-back}
 use Rattle.lists.specs.Zeroed.{zeroed}
+use Rattle.layout.specs.Layout.{pointsLength}
 use Rattle.encoding.specs.Written.{front-length}
 use Rattle.auxiliary.specs.Auxiliary.{wantedFor}
 use Rattle.auxiliary.specs.Auxiliary.Laws.{length-q, length-u, left-q, left-u, wanted-made}
@@ -26,7 +27,7 @@ quotient-requires c κs =
     let s : tie.Start = search in
     let f = s .pre .0 in
     let n = put .put-at .kept .0 ∙ f .sized-out in
-    let lo = left-q (s .args .p .k) (s .args .p .w) (s .args .p .t) (put .put-at .last .0) (q .locator .last .1 .1 .0) [] n (f .within .w-least) (q .locator .kept .1 .1 .0) in
+    let lo = left-q (s .args .p .k) (s .args .p .w) (pointsLength (s .args .p)) (put .put-at .last .0) (q .locator .last .1 .1 .0) [] n (f .within .w-least) (q .locator .kept .1 .1 .0) in
     (f .light, f .within .w-least, s .pre .1 ∙ sym (f .sized-x), simp (length-take, length-drop) (omega (arith, lo, n)), s .pre .2, s .pre .3)
 
 products-requires : tie.Need-products-requires
@@ -37,7 +38,7 @@ products-requires c κs =
     let s : tie.Start = search in
     let f = s .pre .0 in
     let n = put .put-at .kept .0 ∙ f .sized-out in
-    let lo = left-u (s .args .p .k) (s .args .p .w) (s .args .p .t) (put .put-at .last .0) (q .locator .last .1 .1 .0) (u .quotient .last .1 .1 .1 .0) n (f .within .w-least) (q .locator .kept .1 .1 .0) (u .quotient .kept .1 .1 .1 .0) in
+    let lo = left-u (s .args .p .k) (s .args .p .w) (pointsLength (s .args .p)) (put .put-at .last .0) (q .locator .last .1 .1 .0) (u .quotient .last .1 .1 .1 .0) n (f .within .w-least) (q .locator .kept .1 .1 .0) (u .quotient .kept .1 .1 .1 .0) in
     (record { within = f .within; sized-drawn = f .sized-drawn; sized-out = simp (length-take, length-drop) (omega (arith, lo, n)) }, s .pre .2, s .pre .3)
 
 returns : tie.Need-returns
@@ -55,11 +56,11 @@ returns c =
     let k : ℕ = s .args .p .k in
     let w : ℕ = s .args .p .w in
     let n = put .kept .0 ∙ f .sized-out in
-    let lo = left-u k w (s .args .p .t) (put .last .0) (q .last .1 .1 .0) (u .last .1 .1 .1 .0) n (f .within .w-least) (q .kept .1 .1 .0) (u .kept .1 .1 .1 .0) in (
+    let lo = left-u k w (pointsLength (s .args .p)) (put .last .0) (q .last .1 .1 .0) (u .last .1 .1 .1 .0) n (f .within .w-least) (q .kept .1 .1 .0) (u .kept .1 .1 .1 .0) in (
       wanted-made k w (s .args .out .now) (put .last .0) _ _ _ _ _ (take k (s .args .x .now)) (q .last .1 .1 .0) (u .last .1 .1 .1 .0) (v .last .1 .1 .0)
           (length-take-le k (s .args .x .now) (omega (arith, f .within .k-most, f .sized-x)))
-          (length-q k w (s .args .p .t) (put .last .0) (q .last .1 .1 .0) [] n (f .within .w-least) (q .kept .1 .1 .0))
-          (length-u k w (s .args .p .t) (put .last .0) (q .last .1 .1 .0) (u .last .1 .1 .1 .0) n (f .within .w-least) (q .kept .1 .1 .0) (u .kept .1 .1 .1 .0))
+          (length-q k w (pointsLength (s .args .p)) (put .last .0) (q .last .1 .1 .0) [] n (f .within .w-least) (q .kept .1 .1 .0))
+          (length-u k w (pointsLength (s .args .p)) (put .last .0) (q .last .1 .1 .0) (u .last .1 .1 .1 .0) n (f .within .w-least) (q .kept .1 .1 .0) (u .kept .1 .1 .1 .0))
           (put .ensures) refl refl (tail-back _ (v .last .1 .1 .0) (k + w + w) (omega (arith, lo, n)))
           ∙ ap₂ (λ (y z : List ℕ). take k (s .args .x .now) ++ (take w y ++ z)) (q .ensures) (ap₂ _++_ (u .ensures .0) (v .ensures)),
       u .ensures .1 ∙ ap (λ (n : ℕ). zeroed n (s .args .work .now)) (f .sized-x),

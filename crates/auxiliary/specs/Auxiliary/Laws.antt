@@ -14,17 +14,19 @@ use lib.Seq.{take-at, take-all, take-append-add, take-append-le, length-take-le}
 use Rattle.lists.specs.Part.{putAt}
 use Rattle.tower.specs.Field.{Point, point, bytesOf, point-bytesOf}
 use Rattle.parameters.specs.declared.Parameters.{Parameters}
+use Rattle.layout.specs.Layout.{atB}
+use Rattle.exchange.specs.Run.{Run}
 use Rattle.exchange.specs.Reading.{pointAt, _⊠_}
 use Rattle.exchange.specs.Values.{aOf, bOf}
 use Rattle.exchange.specs.Messages.{drawn, wanted, ownAux}
 use Rattle.encoding.specs.Written.{middle-kept}
 use Rattle.auxiliary.specs.Auxiliary.{productsOf, wantedFor, auxFor}
 
-pub ownAux-is : (hash : List ℕ → ℕ → List ℕ) (p : Parameters) (x salt root : List ℕ) → ownAux hash p x salt root ≡ auxFor p x (drawn hash p x salt root)
+pub ownAux-is : (hash : List ℕ → ℕ → List ℕ) (p : Parameters) (x : List ℕ) (run : Run) → ownAux hash p x run ≡ auxFor p x (drawn hash p x run)
 unfolding ownAux wanted auxFor wantedFor productsOf
-ownAux-is hash p x salt root = refl
+ownAux-is hash p x run = refl
 
-pub product-made : (p : Parameters) (s : List ℕ) (l : ℕ) (a b c : List ℕ) → a ≡ bytesOf (pointAt s (4 * l)) → b ≡ bytesOf (pointAt s (4 * p .t + 4 * l))
+pub product-made : (p : Parameters) (s : List ℕ) (l : ℕ) (a b c : List ℕ) → a ≡ bytesOf (pointAt s (4 * l)) → b ≡ bytesOf (pointAt s (atB p + 4 * l))
     → c ≡ bytesOf (point a ⊠ point b) → c ≡ bytesOf (productsOf p s l)
 unfolding productsOf aOf bOf
 product-made p s l a b c ea eb ec =
@@ -32,8 +34,8 @@ product-made p s l a b c ea eb ec =
 
 -- ---- four parts, each written over what the one before it left
 
--- q is lent the w + 1 places from k on, u the w places from k + w on
-module _ (k w t : ℕ) (d q u : List ℕ) (sized : length d ≡ k + 2 * w + 4 * t) (some : 1 ≤ w)
+-- q is lent the w + 1 places from k on, u the w places from k + w on, and n are left behind them
+module _ (k w n : ℕ) (d q u : List ℕ) (sized : length d ≡ k + 2 * w + n) (some : 1 ≤ w)
     (eq : length q ≡ length (take (k + w + 1 - k) (drop k d))) where
   abbrev withQ : List ℕ
   withQ = take k d ++ (q ++ drop (k + w + 1 - k) (drop k d))
@@ -51,7 +53,7 @@ module _ (k w t : ℕ) (d q u : List ℕ) (sized : length d ≡ k + 2 * w + 4 * 
     pub left-u : length (take (k + w) withQ ++ (u ++ drop (k + w + w - (k + w)) (drop (k + w) withQ))) ≡ length d
     left-u =
         let e = left-q in
-        let n = length-u in
+        let f = length-u in
         middle-kept (k + w) (k + w + w - (k + w)) u withQ (omega arith) (omega arith) ∙ e
 
 take-front : (k n : ℕ) (a b rest : List ℕ) → length a ≡ k → n ≤ length b → take (k + n) (a ++ (b ++ rest)) ≡ a ++ take n b

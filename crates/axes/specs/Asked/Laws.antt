@@ -1,34 +1,26 @@
--- Share i of D + 1 and its block.
+-- A sum of the work area and its block.
 --
--- blocks-fit      D + 1 blocks take 864 bytes at most
--- share-fits      they lie within their slices
--- row-asked       lent from them, they are what the row of a share takes
+-- blocks-fit      the blocks of all sums take 864 bytes at most
+-- sum-fits        a sum and its block lie within their slices
 use mathlib.Core.Path.{refl}
 use mathlib.Core.List.{List}
-use Prim.Native.Nat.{ℕ, _+_, _-_, _*_, _≤_, _<_}
-use native.Mathlib.Nat.{mul-le-mul-right}
+use Prim.Native.Nat.{ℕ, _+_, _*_, _≤_, _<_}
+use native.Mathlib.Nat.{mul-le-mul}
 use native.Mathlib.Omega.{arith}
-use lib.ListN.{length, take, drop}
+use lib.ListN.{length}
 use Rattle.parameters.specs.declared.Parameters.{Parameters}
 use Rattle.parameters.specs.Limits.{Within}
-use Rattle.layout.specs.Layout.{shareLength}
-use Rattle.encoding.specs.Blocks.{within-blocks, length-block}
-use Rattle.partyrows.specs.Asked.{RowAsked}
-use Rattle.axes.specs.Asked.{AxesAsked}
+use Rattle.layout.specs.Layout.{sumCount, rowLength, shareLength}
+use Rattle.layout.specs.Layout.Bounds.{sums-most}
+use Rattle.encoding.specs.Blocks.{within-blocks}
+use Rattle.axes.specs.Asked.{SumsAsked}
 
-pub blocks-fit : (p : Parameters) → Within p → (p .axes + 1) * (12 * p .t) ≤ 864
-blocks-fit p w = let h : (p .axes + 1) * (12 * p .t) ≤ 9 * (12 * p .t) = mul-le-mul-right (12 * p .t) (omega arith) in omega arith
+pub blocks-fit : (p : Parameters) → Within p → sumCount p * rowLength p ≤ 9 * 96
+blocks-fit p w = let h : rowLength p ≤ 96 = omega (arith, w .t-most) in mul-le-mul (sums-most p w) h
 
-module _ (p : Parameters) (parts blocks sums total hidden : List ℕ) (asked : AxesAsked p parts blocks sums total hidden) (i : ℕ)
-    (below : i < p .axes + 1) where
-  pub share-fits : (i * shareLength p + shareLength p ≤ length parts) × (i * (12 * p .t) + 12 * p .t ≤ length blocks)
-  share-fits = (
-    within-blocks i (p .axes + 1) (shareLength p) _ _ below refl (asked .of .sized-parts),
-    within-blocks i (p .axes + 1) (12 * p .t) _ _ below refl (asked .of .sized-blocks),
-  )
-
-  pub row-asked : RowAsked p (take (i * shareLength p + shareLength p - i * shareLength p) (drop (i * shareLength p) parts))
-      (take (i * (12 * p .t) + 12 * p .t - i * (12 * p .t)) (drop (i * (12 * p .t)) blocks)) sums
-  row-asked =
-      let sized-s = length-block (i * shareLength p) (shareLength p) parts (share-fits .0) in
-      let sized-block = length-block (i * (12 * p .t)) (12 * p .t) blocks (share-fits .1) in search
+pub sum-fits : (p : Parameters) (parts blocks sums : List ℕ) → SumsAsked p parts blocks sums → (i : ℕ) → i < sumCount p
+    → (i * shareLength p + shareLength p ≤ length parts) × (i * rowLength p + rowLength p ≤ length blocks)
+sum-fits p parts blocks sums asked i below = (
+  within-blocks i (sumCount p) (shareLength p) _ _ below refl (asked .sized-parts),
+  within-blocks i (sumCount p) (rowLength p) _ _ below refl (asked .sized-blocks),
+)

@@ -1,82 +1,73 @@
 -- The loop's invariant: the digests of the first j axes are absorbed, and row j starts at b (`streamed-turn`).
 use mathlib.Core.Path.{_≡_, _∙_}
-use Prim.Native.Nat.{_+_, _-_, _*_, _≤_, _<_}
+use mathlib.Core.List.{List}
+use Prim.Native.Nat.{ℕ, _+_, _-_, _*_, _≤_, _<_}
 use native.Mathlib.Omega.{arith}
 use borrow.Author.Needs.{needs}
 use lib.ListN.{length}
 use Rattle.lists.specs.Part.Laws.{part-fits}
+use Rattle.parameters.specs.declared.Parameters.{Parameters}
+use Rattle.layout.specs.Layout.{axisLength}
 use Rattle.axisdigests.specs.Streamed.{streamed, streamed-none, streamed-turn, streamed-end}
 use Rattle.axisdigests.proofs.response_digest.Statement.{statement}
 use Rattle.axisdigests.proofs.response_digest.Tie as tie
 
 abbrev Inv-loop : tie.InvT-loop
-Inv-loop p prefix rows out axes all₀ width b₀ j₀ all b j = (j ≤ p .axes) × (b ≡ j * (24 * p .t)) × (all ≡ streamed p prefix rows j)
+Inv-loop p prefix rows out axes all₀ width b₀ j₀ all b j =
+    (j ≤ p .axes) × (b ≡ j * axisLength p) × (width ≡ axisLength p) × (all ≡ streamed p prefix rows j)
 
 abbrev μ-loop : tie.MeasureT-loop
 μ-loop p prefix rows out axes all₀ width b₀ j₀ all b j = p .axes - j
 
 -- row j lies within the slice
-inside : (q : tie.At-loop Inv-loop μ-loop) → q .loop .j < q .before .before .before .before .before .before .before .args .p .axes
-    → q .loop .b + 24 * q .before .before .before .before .before .before .before .args .p .t ≤ length (q .before .before .before .before .before .before .before .args .rows .now)
-inside q h =
-    let s = q .before .before .before .before .before .before .before in
-    omega (arith, part-fits (q .loop .j) (s .args .p .axes) (24 * s .args .p .t) h, q .loop .inv .1, s .pre .sized-rows)
-
-begin-requires : tie.Need-begin-requires Inv-loop μ-loop
-begin-requires c κs = search needs
-
-begin-requires-2 : tie.Need-begin-requires-2 Inv-loop μ-loop
-begin-requires-2 c κs = search needs
-
-mul-width : tie.Need-mul-width Inv-loop μ-loop
-mul-width c = search needs
+inside : (p : Parameters) (rows : List ℕ) (j b : ℕ) → length rows ≡ p .axes * axisLength p → b ≡ j * axisLength p → j < p .axes → b + axisLength p ≤ length rows
+inside p rows j b sized e h = omega (arith, part-fits j (p .axes) (axisLength p) h)
 
 loop-holds : tie.Need-loop-holds Inv-loop μ-loop
-loop-holds c = (omega arith, omega arith, streamed-none _ _ _ _ (c .before .begin2 .ensures))
+loop-holds c =
+    let width : tie.After-axis-length Inv-loop μ-loop = search in
+    let first : tie.After-begin2 Inv-loop μ-loop = search in
+    (omega arith, omega arith, width .axis-length .ensures, streamed-none _ _ _ _ (first .begin2 .ensures))
 
 add-e : tie.Need-add-e Inv-loop μ-loop
-add-e c = let h = inside (c .before .before) (c .if1 .taken) in omega (arith, h)
-
-sub-add-axis : tie.Need-sub-add-axis Inv-loop μ-loop
-sub-add-axis c = omega arith
-
-part-add-axis-start : tie.Need-part-add-axis-start Inv-loop μ-loop
-part-add-axis-start c = omega arith
+add-e c =
+    let q : tie.At-loop Inv-loop μ-loop = search in
+    let s : tie.Start Inv-loop μ-loop = search in
+    omega (arith, q .loop .inv, inside (s .args .p) (s .args .rows .now) (q .loop .j) (q .loop .b) (s .pre .sized-rows) (q .loop .inv .1) (c .if1 .taken))
 
 part-add-axis-end : tie.Need-part-add-axis-end Inv-loop μ-loop
-part-add-axis-end c = let h = inside (c .before .before) (c .if1 .taken) in omega (arith, h)
+part-add-axis-end c =
+    let q : tie.At-loop Inv-loop μ-loop = search in
+    let s : tie.Start Inv-loop μ-loop = search in
+    omega (arith, q .loop .inv, inside (s .args .p) (s .args .rows .now) (q .loop .j) (q .loop .b) (s .pre .sized-rows) (q .loop .inv .1) (c .if1 .taken))
 
 add-axis-requires : tie.Need-add-axis-requires Inv-loop μ-loop
-add-axis-requires c κs = omega (arith, c .before .if1 .taken, c .before .before .before .before .before .before .before .before .before .before .pre .within .axes-most)
+add-axis-requires c κs = let s : tie.Start Inv-loop μ-loop = search in omega (arith, c .before .if1 .taken, s .pre .within .axes-most)
 
 add-j : tie.Need-add-j Inv-loop μ-loop
-add-j c = omega (arith, c .before .before .if1 .taken, c .before .before .before .before .before .before .before .before .before .before .before .pre .within .axes-most)
-
-loop-less : tie.Need-loop-less Inv-loop μ-loop
-loop-less c = omega (arith, c .before .before .if1 .taken)
+add-j c = let s : tie.Start Inv-loop μ-loop = search in omega (arith, c .before .before .if1 .taken, s .pre .within .axes-most)
 
 loop-again : tie.Need-loop-again Inv-loop μ-loop
 loop-again c =
-    let a = c .before .before .before .before .before .before .before .before .before .before .before .args in
-    let q = c .before .before .before .before .loop in (
+    let q : tie.At-loop Inv-loop μ-loop = search in
+    let axes : tie.After-begin Inv-loop μ-loop = search in
+    let s : tie.Start Inv-loop μ-loop = search in
+    let a = s .args in (
       omega (arith, c .before .before .if1 .taken),
-      omega (arith, q .inv .1),
-      streamed-turn (a .p) (a .prefix .now) (a .rows .now) (q .all) (c .add-axis .result) (q .j) (q .b) (q .inv .1) (q .inv .2)
-          (c .add-axis .ensures (a .prefix .now) (c .before .before .before .before .before .before .before .begin .ensures)),
+      omega (arith, q .loop .inv),
+      q .loop .inv .2,
+      streamed-turn (a .p) (a .prefix .now) (a .rows .now) (q .loop .all) (c .add-axis .result) (q .loop .j) (q .loop .b) _ (q .loop .inv .1) (q .loop .inv .2) (q .loop .inv .3)
+          (c .add-axis .ensures (a .prefix .now) (axes .begin .ensures)),
     )
-
-digest-requires : tie.Need-digest-requires Inv-loop μ-loop
-digest-requires c κs = search needs
-
-same-length : tie.Need-same-length Inv-loop μ-loop
-same-length c = search needs
 
 returns : tie.Need-returns Inv-loop μ-loop
 returns c =
-    let a = c .before .before .before .before .before .before .before .before .before .before .before .before .before .args in
-    let q = c .before .before .before .before .before .before .loop in
-    c .before .before .digest .ensures
-    ∙ streamed-end (a .p) (a .prefix .now) (a .rows .now) (q .all) (q .j) (length (a .out .now)) (omega (arith, c .before .before .before .before .if1 .left)) (q .inv .2)
+    let made : tie.After-digest Inv-loop μ-loop = search in
+    let q : tie.At-loop Inv-loop μ-loop = search in
+    let s : tie.Start Inv-loop μ-loop = search in
+    let a = s .args in
+    made .digest .ensures
+    ∙ streamed-end (a .p) (a .prefix .now) (a .rows .now) (q .loop .all) (q .loop .j) (length (a .out .now)) (omega (arith, q .loop .inv)) (q .loop .inv .3)
 
 pub response-digest-spec : {M : Type 1} → statement M
 response-digest-spec =
@@ -84,18 +75,18 @@ response-digest-spec =
     (tie.spec
     Inv-loop
     μ-loop
-    begin-requires
-    begin-requires-2
-    mul-width
+    (λ c κs. search needs)
+    (λ c κs. search needs)
+    (λ c κs. search needs)
     loop-holds
     add-e
-    sub-add-axis
-    part-add-axis-start
+    (λ c. omega arith)
+    (λ c. omega arith)
     part-add-axis-end
     add-axis-requires
     add-j
-    loop-less
+    (λ c. omega (arith, c .before .before .if1 .taken))
     loop-again
-    digest-requires
-    same-length
+    (λ c κs. search needs)
+    (λ c. search needs)
     returns)

@@ -29,6 +29,7 @@ use Rattle.parameters.specs.declared.Parameters.{Parameters}
 use Rattle.parameters.specs.Limits.{withinLimits}
 use Rattle.relation.specs.Key.{weightOf, vectorOf}
 use Rattle.layout.specs.Layout.{leaves, workLength}
+use Rattle.exchange.specs.Run.{runOf}
 use Rattle.exchange.specs.Values.{Key}
 use Rattle.exchange.specs.Messages.{message1, message3, message5}
 use Rattle.calls.specs.Lengths.{beginLengths, pointsLengths, leafLengths}
@@ -150,10 +151,10 @@ conditions h (leafCall i key work out) =
 
 module _ (hash : List ℕ → ℕ → List ℕ) (h : List Made) where
   unfoldable pub message : Call → List ℕ
-  message (beginCall b work out) = message1 hash (b .parameters) (secretOf b) (b .salt) (b .root)
-  message (pointsCall m2 key work out) = told (lastBegin h) [] (λ b. message3 hash (b .parameters) (secretOf b) (b .salt) (b .root) key m2)
+  message (beginCall b work out) = message1 hash (b .parameters) (secretOf b) (runOf (b .salt) (b .root))
+  message (pointsCall m2 key work out) = told (lastBegin h) [] (λ b. message3 hash (b .parameters) (secretOf b) (runOf (b .salt) (b .root)) key m2)
   message (leafCall i key work out) =
-      told (lastBegin h) [] (λ b. told (pointsSince h) [] (λ m2. message5 hash (b .parameters) (secretOf b) (b .salt) (b .root) key m2 i))
+      told (lastBegin h) [] (λ b. told (pointsSince h) [] (λ m2. message5 hash (b .parameters) (secretOf b) (runOf (b .salt) (b .root)) key m2 i))
 
 unfoldable pub area : List Made → Call → ℕ
 area h (beginCall b work out) = workLength (b .parameters)

@@ -24,6 +24,7 @@ use Rattle.answers.specs.Order.{Conditions, holds, firstOf, answerOf}
 use Rattle.parameters.specs.Limits.{withinLimits}
 use Rattle.relation.specs.Key.{weightOf}
 use Rattle.layout.specs.Layout.{leaves, workLength, message2Length}
+use Rattle.exchange.specs.Run.{runOf}
 use Rattle.exchange.specs.Values.{Key}
 use Rattle.exchange.specs.Messages.{message3, message5}
 use Rattle.prover_phase.specs.declared.Phase.{Phase}
@@ -168,11 +169,11 @@ front n m2 e = take-at m2 (drop (0 + length m2) (replicate 64 0)) n e
 module _ (hash : List ℕ → ℕ → List ℕ) where
   module _ (m2 : List ℕ) (key : Key) (work out : List ℕ) where
     abbrev message3By : Option Begin → List ℕ
-    message3By o = told o [] (λ b. message3 hash (b .parameters) (secretOf b) (b .salt) (b .root) key m2)
+    message3By o = told o [] (λ b. message3 hash (b .parameters) (secretOf b) (runOf (b .salt) (b .root)) key m2)
 
     message3-of : (b : Begin) {x : List ℕ} → x ≡ secretOf b
-        → message3 hash (b .parameters) x (b .salt) (b .root) key m2 ≡ message3By (some b)
-    message3-of b e = ap (λ (x : List ℕ). message3 hash (b .parameters) x (b .salt) (b .root) key m2) e
+        → message3 hash (b .parameters) x (runOf (b .salt) (b .root)) key m2 ≡ message3By (some b)
+    message3-of b e = ap (λ (x : List ℕ). message3 hash (b .parameters) x (runOf (b .salt) (b .root)) key m2) e
 
     points-gives : (o : Option Begin) (q : Option (List ℕ)) (l : Bool) → Orderly o q l → pointsChecks hash (sessionTold o q l) m2 key work out ≡ Done
         → (answered hash (sessionTold o q l) m2 key work out .out ≡ message3By o)
@@ -186,7 +187,7 @@ module _ (hash : List ℕ → ℕ → List ℕ) where
   module _ (i : ℕ) (key : Key) (work out : List ℕ) where
     abbrev message5By : Option Begin → Option (List ℕ) → List ℕ
     message5By o q =
-        told o [] (λ b. told q [] (λ m2. message5 hash (b .parameters) (secretOf b) (b .salt) (b .root) key m2 i))
+        told o [] (λ b. told q [] (λ m2. message5 hash (b .parameters) (secretOf b) (runOf (b .salt) (b .root)) key m2 i))
 
     leaf-gives : (o : Option Begin) (q : Option (List ℕ)) (l : Bool) → Orderly o q l → leafChecks hash (sessionTold o q l) i key work out ≡ Done
         → (opened hash (sessionTold o q l) i key work out .out ≡ message5By o q)

@@ -2,6 +2,7 @@
 --
 -- begin-within, points-within, leaf-within   after a call that was carried out, the parameters held are within their limits
 -- kept-small                                 so each is a byte
+-- begin-unnamed, begin-named                 begin with a set of another count of numbers, and with one of five
 -- call-misfit                                a buffer of another length
 -- call-kept                                  the call on a buffer of the length, from what it answered and what was kept
 use mathlib.Core.Path.{_≡_, refl, sym, ap, _∙_}
@@ -9,22 +10,25 @@ use mathlib.Core.Bool.{not}
 use mathlib.Core.List.{List}
 use Prim.Native.Nat.{ℕ}
 use lib.ListN.{length}
+use Rattle.answers.specs.Number.{refusalNumber}
 use Rattle.answers.specs.Number.Laws.{refused-not-0}
 use Rattle.answers.specs.declared.Answer.{Answer}
 use Rattle.answers.specs.declared.Answer.the-variants.{Done, Refused}
-use Rattle.answers.specs.declared.Refusal.the-variants.{Parameter, NotDue, Closed as ExchangeClosed}
+use Rattle.answers.specs.declared.Refusal.the-variants.{Parameter, Length, NotDue, Closed as ExchangeClosed}
 use Rattle.answers.specs.Checks.Laws.{check-true, check-rest}
 use Rattle.parameters.specs.declared.Parameters.{Parameters}
 use Rattle.parameters.specs.Limits.{withinLimits, Within}
 use Rattle.parameters.specs.Limits.Laws.{test-within}
+use Rattle.parameters.specs.Set.{setLength, parametersOf}
 use Rattle.exchange.specs.Values.{Key}
 use Rattle.calls.specs.Prover.{Prover, Outcome as Called, settle, closed, pointsDue, leafDue, begin, beginChecks, begun, points, pointsChecks, answered, leaf, leafChecks, opened}
 use Rattle.prover.specs.Checks.{points-ready, leaf-ready}
 use Rattle.stored.specs.Parameters.{Small, within-small}
 use Rattle.stored.specs.Prover.{proverSize, proverBytes, proverFrom}
+use Rattle.capi.specs.Set.Laws.{set-not, set-so}
 use Rattle.capi.specs.Session.{Kept, kept, after}
 use Rattle.buffer.specs.Buffer.Laws.{fits-not, fits-so}
-use Rattle.capi.specs.Prover.{given, proverAfter, proverCall}
+use Rattle.capi.specs.Prover.{Outcome, given, proverAfter, proverCall, proverBegin, proverBeginSet}
 
 -- ---- the parameters after a call that was carried out
 
@@ -73,3 +77,15 @@ module _ (b : List ℕ) (m : ℕ) (work out : List ℕ) (call : Prover → Calle
       ap (λ (z : Kept). given (z .number) (z .session) (o .out) (o .work)) is
       ∙ ap (proverAfter b) (o-is ∙ ap call s-is)
       ∙ fits-so b proverSize (proverAfter b (call (proverFrom b))) (given m b out work) e
+
+-- ---- begin with a set
+
+module _ (b ns xA salt root : List ℕ) (key : Key) (work out : List ℕ) where
+  abbrev with : Parameters → Outcome
+  with p = proverBegin b p xA salt root key work out
+
+  pub begin-unnamed : (length ns ≡ setLength → ⊥) → given (refusalNumber Length) b out work ≡ proverBeginSet b ns xA salt root key work out
+  begin-unnamed h = set-not ns with (given (refusalNumber Length) b out work) h
+
+  pub begin-named : (p : Parameters) (r : Outcome) → length ns ≡ setLength → p ≡ parametersOf ns → r ≡ with p → r ≡ proverBeginSet b ns xA salt root key work out
+  begin-named p r e is so = so ∙ set-so ns with (given (refusalNumber Length) b out work) p e is

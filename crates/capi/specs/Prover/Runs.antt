@@ -15,18 +15,20 @@ use Prim.Native.Nat.{ℕ, _+_, _≤_}
 use native.Mathlib.Omega.{arith}
 use lib.Dec.{eqb}
 use lib.ListN.{length}
+use Rattle.parameters.specs.Set.{numbersOf}
 use Rattle.shake256.specs.Fips.{SHAKE256}
 use Rattle.calls.specs.Prover.{Prover}
 use Rattle.calls.specs.Prover.History.{Call, beginCall, pointsCall, leafCall, outcome, after, made, Seen, seen, expected}
 use Rattle.calls.specs.Prover.Told.{told-by-calls}
 use Rattle.calls.specs.Prover.AnySession.{isBegin, isPoints, isLeaf, carriedIn, at-most-one}
 use Rattle.stored.specs.Prover.{proverSize, proverFrom}
+use Rattle.capi.specs.Set.Laws.{set-named}
 use Rattle.capi.specs.Session.{proverNew}
-use Rattle.capi.specs.Prover.{Outcome, proverBegin, proverPoints, proverLeaf}
+use Rattle.capi.specs.Prover.{Outcome, proverBegin, proverBeginSet, proverPoints, proverLeaf}
 use Rattle.capi.specs.Prover.Follows.{Follows, new-follows, new-size, begin-follows, points-follows, leaf-follows}
 
 unfoldable pub onBuffer : List ℕ → Call → Outcome
-onBuffer b (beginCall s work out) = proverBegin b (s .parameters) (s .xA) (s .salt) (s .root) (s .key) work out
+onBuffer b (beginCall s work out) = proverBeginSet b (numbersOf (s .parameters)) (s .xA) (s .salt) (s .root) (s .key) work out
 onBuffer b (pointsCall m2 key work out) = proverPoints b m2 key work out
 onBuffer b (leafCall i key work out) = proverLeaf b i key work out
 
@@ -43,7 +45,9 @@ carriedOn kind b (c ∷ cs) = cond (kind c && eqb (onBuffer b c .number) 0) 1 0 
 
 pub call-follows : (b : List ℕ) → length b ≡ proverSize → (c : Call) → Follows (onBuffer b c) (outcome SHAKE256 (proverFrom b) c)
 unfolding onBuffer outcome
-call-follows b size (beginCall s work out) = begin-follows b size (s .parameters) (s .xA) (s .salt) (s .root) (s .key) work out
+call-follows b size (beginCall s work out) =
+    rw (set-named (s .parameters) (λ p. proverBegin b p (s .xA) (s .salt) (s .root) (s .key) work out) _)
+    (begin-follows b size (s .parameters) (s .xA) (s .salt) (s .root) (s .key) work out)
 call-follows b size (pointsCall m2 key work out) = points-follows b size m2 key work out
 call-follows b size (leafCall i key work out) = leaf-follows b size i key work out
 

@@ -4,6 +4,7 @@
 -- begin-within, points-within, response-within, leaf-within   after a call that was carried out, the parameters held are within their limits
 -- opening-within                  and after an opening that was judged
 -- kept-small, judged-small        so each is a byte
+-- begin-unnamed, begin-named      begin with a set of another count of numbers, and with one of five
 -- call-misfit, opening-misfit     a buffer of another length
 -- call-kept, opening-kept         the call on a buffer of the length, from what it answered and what was kept
 use mathlib.Core.Path.{_≡_, refl, sym, ap, _∙_}
@@ -22,6 +23,7 @@ use Rattle.answers.specs.Checks.Laws.{check-true}
 use Rattle.parameters.specs.declared.Parameters.{Parameters}
 use Rattle.parameters.specs.Limits.{withinLimits, Within}
 use Rattle.parameters.specs.Limits.Laws.{test-within}
+use Rattle.parameters.specs.Set.{setLength, parametersOf}
 use Rattle.shake256.specs.Fips.{SHAKE256}
 use Rattle.exchange.specs.Values.{Key}
 use Rattle.verifier_phase.specs.declared.Phase.{Phase}
@@ -31,9 +33,10 @@ use Rattle.calls.specs.Verifier.{Verifier, Outcome as Called, Judged as Opened,
 use Rattle.verifier.specs.Laws.{Inner, due-intact, held-within, points-passed, opening-passed}
 use Rattle.stored.specs.Parameters.{Small, within-small}
 use Rattle.stored.specs.Verifier.{verifierSize, verifierBytes, verifierFrom}
+use Rattle.capi.specs.Set.Laws.{set-not, set-so}
 use Rattle.capi.specs.Session.{Kept, kept, after}
 use Rattle.buffer.specs.Buffer.Laws.{fits-not, fits-so}
-use Rattle.capi.specs.Verifier.{verifierAfter, verifierCall, Judged, judged, judges, openingAfter, verifierOpening}
+use Rattle.capi.specs.Verifier.{verifierAfter, verifierCall, verifierBegin, verifierBeginSet, Judged, judged, judges, openingAfter, verifierOpening}
 
 -- ---- the parameters after a call that was carried out
 
@@ -78,6 +81,18 @@ module _ (b : List ℕ) (m : ℕ) (call : Verifier → Called) where
   unfolding verifierCall verifierAfter
   call-kept s o n b′ e s-is o-is is =
       is ∙ ap (verifierAfter b) (o-is ∙ ap call s-is) ∙ fits-so b verifierSize (verifierAfter b (call (verifierFrom b))) (kept m b) e
+
+-- ---- begin with a set
+
+module _ (b ns m1 : List ℕ) where
+  abbrev with : Parameters → Kept
+  with p = verifierBegin b p m1
+
+  pub begin-unnamed : (length ns ≡ setLength → ⊥) → kept (refusalNumber Length) b ≡ verifierBeginSet b ns m1
+  begin-unnamed h = set-not ns with (kept (refusalNumber Length) b) h
+
+  pub begin-named : (p : Parameters) (r : Kept) → length ns ≡ setLength → p ≡ parametersOf ns → r ≡ with p → r ≡ verifierBeginSet b ns m1
+  begin-named p r e is so = so ∙ set-so ns with (kept (refusalNumber Length) b) p e is
 
 -- ---- the opening
 

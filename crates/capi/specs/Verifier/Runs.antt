@@ -13,6 +13,7 @@ use mathlib.Core.List.{List, [], _∷_}
 use mathlib.Core.Logic.{_↔_}
 use Prim.Native.Nat.{ℕ}
 use lib.ListN.{length}
+use Rattle.parameters.specs.Set.{numbersOf}
 use Rattle.shake256.specs.Fips.{SHAKE256}
 use Rattle.exchange.specs.Values.{Key}
 use Rattle.calls.specs.Verifier as verifier
@@ -21,15 +22,16 @@ use Rattle.calls.specs.Verifier.History.{Call, beginCall, pointsCall, responseC
 use Rattle.calls.specs.Verifier.Told.{told-by-calls}
 use Rattle.calls.specs.Verifier.Runs.{AcceptedAfter, accepted-exactly}
 use Rattle.stored.specs.Verifier.{verifierSize, verifierFrom}
+use Rattle.capi.specs.Set.Laws.{set-named}
 use Rattle.capi.specs.Session.{Kept, verifierNew}
-use Rattle.capi.specs.Verifier.{verifierBegin, verifierPoints, verifierResponse, verifierLeaf, Judged, judged, verifierOpening}
+use Rattle.capi.specs.Verifier.{verifierBegin, verifierBeginSet, verifierPoints, verifierResponse, verifierLeaf, Judged, judged, verifierOpening}
 use Rattle.capi.specs.Verifier.Follows.{Follows, new-follows, new-size, begin-follows, points-follows, response-follows, leaf-follows, opening-follows}
 
 abbrev plain : Kept → Judged
 plain r = judged (r .number) (r .session) []
 
 unfoldable pub onBuffer : List ℕ → Call → Judged
-onBuffer b (beginCall s) = plain (verifierBegin b (s .parameters) (s .message1))
+onBuffer b (beginCall s) = plain (verifierBeginSet b (numbersOf (s .parameters)) (s .message1))
 onBuffer b (pointsCall m2) = plain (verifierPoints b m2)
 onBuffer b (responseCall m3) = plain (verifierResponse b m3)
 onBuffer b (leafCall i) = plain (verifierLeaf b i)
@@ -57,7 +59,8 @@ plain-follows r o f = record { number = f .number; session = f .session; size = 
 
 pub call-follows : (b : List ℕ) → length b ≡ verifierSize → (c : Call) → FollowsCall (onBuffer b c) (outcome SHAKE256 (verifierFrom b) c)
 unfolding onBuffer outcome
-call-follows b size (beginCall s) = plain-follows _ _ (begin-follows b size (s .parameters) (s .message1))
+call-follows b size (beginCall s) =
+    rw (set-named (s .parameters) (λ p. verifierBegin b p (s .message1)) _) (plain-follows _ _ (begin-follows b size (s .parameters) (s .message1)))
 call-follows b size (pointsCall m2) = plain-follows _ _ (points-follows b size m2)
 call-follows b size (responseCall m3) = plain-follows _ _ (response-follows b size m3)
 call-follows b size (leafCall i) = plain-follows _ _ (leaf-follows b size i)

@@ -10,6 +10,7 @@ use Rattle.answers.specs.Number.{answerNumber}
 use Rattle.parameters.specs.declared.Parameters.{Parameters}
 use Rattle.relation.specs.Key.{vectorOf}
 use Rattle.layout.specs.Layout.{leaves, message2Length, workLength}
+use Rattle.exchange.specs.Run.{runOf}
 use Rattle.exchange.specs.Values.{Key}
 use Rattle.exchange.specs.Messages.{message1, message3, message5}
 use Rattle.exchange.specs.Messages.Laws.{length-message1, length-message3, length-message5}
@@ -34,13 +35,13 @@ module _ (hash : List ℕ → ℕ → List ℕ) (hash-length : (s : List ℕ) (n
   x = vectorOf (key .matrix) (key .y) xA
 
   abbrev m1 : List ℕ
-  m1 = message1 hash p x salt root
+  m1 = message1 hash p x (runOf salt root)
 
   abbrev m3 : List ℕ
-  m3 = message3 hash p x salt root key m2
+  m3 = message3 hash p x (runOf salt root) key m2
 
   abbrev m5 : List ℕ
-  m5 = message5 hash p x salt root key m2 i
+  m5 = message5 hash p x (runOf salt root) key m2 i
 
   call1 : proverBegin hash p key xA s v salt root m2 i lent
       ≡ record { answer = 0; prover = begunProver p x salt root; out = m1; work = zeroed (workLength p) (lent .begin-work) }
@@ -50,7 +51,7 @@ module _ (hash : List ℕ → ℕ → List ℕ) (hash-length : (s : List ℕ) (n
   call2 : verifierBegin hash p key xA s v salt root m2 i lent ≡ record { answer = 0; verifier = verifier.begun p m1 }
   call2 =
       ap (λ (o : prover.Outcome). verifier.begin v p (o .out)) call1
-      ∙ verifierBegin-is p (valid .within) v m1 (length-message1 hash hash-length p x (secret p key xA valid) salt root (start .salt-length))
+      ∙ verifierBegin-is p (valid .within) v m1 (length-message1 hash hash-length p x (secret p key xA valid) (runOf salt root) (start .salt-length))
 
   call3 : verifierPoints hash p key xA s v salt root m2 i lent
       ≡ record { answer = 0; verifier = pointedVerifier p m1 m2 }
@@ -68,7 +69,7 @@ module _ (hash : List ℕ → ℕ → List ℕ) (hash-length : (s : List ℕ) (n
       ≡ record { answer = 0; verifier = respondedVerifier p m1 m2 m3 }
   call5 =
       ap₂ (λ (o : verifier.Outcome) (o′ : prover.Outcome). verifier.response (o .verifier) (o′ .out)) call3 call4
-      ∙ verifierResponse-is p (valid .within) m1 m2 m3 i (length-message3 hash hash-length p x (secret p key xA valid) salt root key m2)
+      ∙ verifierResponse-is p (valid .within) m1 m2 m3 i (length-message3 hash hash-length p x (secret p key xA valid) (runOf salt root) key m2)
 
   call6 : verifierLeaf hash p key xA s v salt root m2 i lent
       ≡ record { answer = 0; verifier = chosenVerifier p m1 m2 m3 i }
@@ -86,9 +87,9 @@ module _ (hash : List ℕ → ℕ → List ℕ) (hash-length : (s : List ℕ) (n
   call8 =
       ap₂ (λ (o : verifier.Outcome) (o′ : prover.Outcome). verifier.opening hash (o .verifier) (o′ .out) key (lent .opening-work) .answer) call6 call7
       ∙ verifierOpening-is p (valid .within) m1 m2 m3 i hash key (valid .lent) m5 (lent .opening-work) size inside
-      (length-message5 hash hash-length p x (secret p key xA valid) salt root key m2 i) (fit .opening-work)
+      (length-message5 hash hash-length p x (secret p key xA valid) (runOf salt root) key m2 i) (fit .opening-work)
       ∙ ap answerNumber
-      (messages-accepted hash hash-length p key xA (valid .long) (valid .lent .y) (secret p key xA valid) salt root m2 i inside (start .salt-length))
+      (messages-accepted hash hash-length p key xA (valid .long) (valid .lent .y) (secret p key xA valid) (runOf salt root) m2 i inside (start .salt-length))
 
   leads : LeadsToAcceptance hash p key xA s v salt root m2 i lent
   leads = record {

@@ -33,6 +33,7 @@ use Rattle.relation.specs.Key.{weightOf, vectorOf}
 use Rattle.relation.specs.Key.Vector.{length-vector, bytes-vector}
 use Rattle.layout.specs.Layout.{leaves, message2Length, message5Length, workLength}
 use Rattle.layout.specs.Layout.Laws.{leaves-pos}
+use Rattle.exchange.specs.Run.{runOf}
 use Rattle.exchange.specs.Values.{Key}
 use Rattle.exchange.specs.Messages.{message1, message3, message5}
 use Rattle.exchange.specs.Messages.Laws.{Secret}
@@ -92,7 +93,7 @@ module _ (hash : List ℕ → ℕ → List ℕ) (p : Parameters) (key : Key) (xA
 
   pub proverBegin-is : (s : Prover) → length salt ≡ 32 → length root ≡ 16 → prover.repeated s salt root ≡ false → (work out : List ℕ) → workLength p ≤ length work → length out ≡ 64
       → prover.begin hash s p xA salt root key work out
-      ≡ record { answer = 0; prover = begunProver p x salt root; out = message1 hash p x salt root; work = zeroed (workLength p) work }
+      ≡ record { answer = 0; prover = begunProver p x salt root; out = message1 hash p x (runOf salt root); work = zeroed (workLength p) work }
   unfolding prover.begin prover.beginChecks prover.begun
   proverBegin-is s salt-length root-length not-repeated work out hw ho =
       rw (
@@ -116,7 +117,7 @@ module _ (hash : List ℕ → ℕ → List ℕ) (p : Parameters) (key : Key) (xA
   module _ (m2 : List ℕ) (size : length m2 ≡ message2Length p) (work out : List ℕ) (hw : workLength p ≤ length work) where
     pub proverPoints-is : length out ≡ 32
         → prover.points hash (begunProver p x salt root) m2 key work out
-        ≡ record { answer = 0; prover = answeredProver p x salt root m2; out = message3 hash p x salt root key m2; work = zeroed (workLength p) work }
+        ≡ record { answer = 0; prover = answeredProver p x salt root m2; out = message3 hash p x (runOf salt root) key m2; work = zeroed (workLength p) work }
     unfolding prover.points prover.pointsChecks prover.closed prover.pointsDue prover.answered prover.heldX
     proverPoints-is ho =
         rw (
@@ -129,7 +130,7 @@ module _ (hash : List ℕ → ℕ → List ℕ) (p : Parameters) (key : Key) (xA
 
     pub proverLeaf-is : (i : ℕ) → i < leaves p → length out ≡ message5Length p i
         → prover.leaf hash (answeredProver p x salt root m2) i key work out
-        ≡ record { answer = 0; prover = closedProver p x salt root m2; out = message5 hash p x salt root key m2 i; work = zeroed (workLength p) work }
+        ≡ record { answer = 0; prover = closedProver p x salt root m2; out = message5 hash p x (runOf salt root) key m2 i; work = zeroed (workLength p) work }
     unfolding prover.leaf prover.leafChecks prover.closed prover.leafDue prover.opened prover.heldX prover.heldMessage2
     proverLeaf-is i inside ho =
         rw (

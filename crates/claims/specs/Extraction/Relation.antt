@@ -24,7 +24,7 @@ use Rattle.exchange.specs.Reading.{points, value, _⊞_, _⊠_, 𝟎}
 use Rattle.exchange.specs.Values.{Key, QOf, POf, aOf, bOf, cOf, pointOf, multiplierOf, F, SOf, alpha, beta, partV}
 use Rattle.exchange.specs.Parties.Cube.{axisPartition, G, GG, leafW, leafV, constantW, constantV, alpha-total, beta-total, partV-total}
 use Rattle.exchange.specs.Parties.Laws.{total-ext}
-use Rattle.exchange.specs.Opening.{Exchange, openedShare, partyAlpha, partyBeta, partyV}
+use Rattle.exchange.specs.Opening.{Exchange, openedShare, announced}
 use Rattle.exchange.specs.Opening.Cube.{openedW, openedV, opened-announced, opened-verified}
 use Rattle.exchange.specs.Extractor.{output}
 use Rattle.claims.specs.Words.{leafShare, xSum, QSum, PSum, aSum, bSum, cSum, Witness}
@@ -116,8 +116,8 @@ module _ (hash : List ℕ → ℕ → List ℕ) (hash-length : (s : List ℕ) (n
         ∙ opened-verified hash p e′ key l (matched .inside′) j c h ∙ verified-second c)
       where
         told : (c : ℕ) → c < side p
-            → (partyAlpha hash p e key j c l ≡ partyAlpha hash p e′ key j c l) × (partyBeta hash p e key j c l ≡ partyBeta hash p e′ key j c l)
-            × (partyV hash p e key j c l ≡ partyV hash p e′ key j c l)
+            → (announced hash p e key j .α c l ≡ announced hash p e′ key j .α c l) × (announced hash p e key j .β c l ≡ announced hash p e′ key j .β c l)
+            × (announced hash p e key j .v c l ≡ announced hash p e′ key j .v c l)
         told c h = axis-same hash hash-length p e e′ (matched .same-prefix) key j same-axis c l h position
 
     totals-are : (alpha p key (e .message2) true all l, beta p key (e .message2) true all l) ≡ hats

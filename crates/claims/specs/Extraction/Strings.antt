@@ -12,10 +12,10 @@
 use mathlib.Core.Path.{_≡_, refl, sym, ap, ap₂, _∙_}
 use mathlib.Core.Bool.{Bool, true, false, cond}
 use mathlib.Core.List.{List, [], _∷_, _++_}
-use Prim.Native.Nat.{ℕ, _+_, _*_, _<_}
+use Prim.Native.Nat.{ℕ, _+_, _<_}
 use lib.ListN.{length, take, drop}
 use Rattle.parameters.specs.declared.Parameters.{Parameters}
-use Rattle.layout.specs.Layout.{side, leaves, isLast, shareLength, message5Length}
+use Rattle.layout.specs.Layout.{side, leaves, isLast, shareLength, atX, message5Length}
 use Rattle.exchange.specs.Sequences.Laws.{append-inj, joined-inj}
 use Rattle.exchange.specs.Strings.{string, string3, string4, string5, string7}
 use Rattle.exchange.specs.Leaf.{share}
@@ -23,7 +23,7 @@ use Rattle.exchange.specs.Leaf.Laws.{length-state}
 use Rattle.exchange.specs.Values.{Key}
 use Rattle.exchange.specs.Parties.{axisString}
 use Rattle.exchange.specs.Parties.Laws.{axisString-inj}
-use Rattle.exchange.specs.Opening.{Exchange, auxOf, openedState, leafString, leafCommitment, commitmentString, partyAlpha, partyBeta, partyV, announced, responseString}
+use Rattle.exchange.specs.Opening.{Exchange, auxOf, openedState, leafString, leafCommitment, commitmentString, announced, responseString}
 use Rattle.exchange.specs.Opening.Laws.{length-commitments}
 
 pub strings-inj : (layer : ℕ) (pre pre′ a b : List ℕ) → pre ≡ pre′ → string layer pre a ≡ string layer pre′ b → a ≡ b
@@ -56,8 +56,8 @@ module _ (p : Parameters) (pre : List ℕ) (i : ℕ) (st st′ aux aux′ : List
       drawn st n = hash (string3 pre i (take 16 st)) n
 
       go : (t : Bool) → (t ≡ true → aux ≡ aux′)
-          → cond t (drawn st (8 * p .t) ++ aux) (drawn st (shareLength p)) ≡ cond t (drawn st′ (8 * p .t) ++ aux′) (drawn st′ (shareLength p))
-      go true h = ap₂ (λ (s a : List ℕ). drawn s (8 * p .t) ++ a) e (h refl)
+          → cond t (drawn st (atX p) ++ aux) (drawn st (shareLength p)) ≡ cond t (drawn st′ (atX p) ++ aux′) (drawn st′ (shareLength p))
+      go true h = ap₂ (λ (s a : List ℕ). drawn s (atX p) ++ a) e (h refl)
       go false h = ap (λ (s : List ℕ). drawn s (shareLength p)) e
 
 pub string4-inj : (p : Parameters) (pre pre′ : List ℕ) (i : ℕ) (st st′ aux aux′ : List ℕ) → pre ≡ pre′ → length st ≡ length st′
@@ -103,8 +103,8 @@ module _ (hash : List ℕ → ℕ → List ℕ) (hash-length : (s : List ℕ) (n
         (strings-inj 7 (e .prefix) (e′ .prefix) _ _ same-prefix q)
 
     pub axis-same : (j : ℕ) → axisStringOf e j ≡ axisStringOf e′ j → (c l : ℕ) → c < side p → l < p .t
-        → (partyAlpha hash p e key j c l ≡ partyAlpha hash p e′ key j c l) × (partyBeta hash p e key j c l ≡ partyBeta hash p e′ key j c l)
-        × (partyV hash p e key j c l ≡ partyV hash p e′ key j c l)
+        → (announced hash p e key j .α c l ≡ announced hash p e′ key j .α c l) × (announced hash p e key j .β c l ≡ announced hash p e′ key j .β c l)
+        × (announced hash p e key j .v c l ≡ announced hash p e′ key j .v c l)
     unfolding announced
     axis-same j q =
         axisString-inj p (e .prefix) j (announced hash p e key j) (announced hash p e′ key j)

@@ -5,7 +5,7 @@
 -- weight-claim          the claim for a hash that gives bytes, and messages of bytes
 use mathlib.Core.Path.{_≡_, sym, _∙_}
 use mathlib.Core.List.{List, [], _∷_}
-use Prim.Native.Nat.{ℕ, _+_, _-_, _*_, _≤_, _<_}
+use Prim.Native.Nat.{ℕ, _+_, _-_, _≤_, _<_}
 use native.Mathlib.Nat.{le-of-eq}
 use native.Mathlib.Decide.{ℕ-discrete}
 use native.Mathlib.Omega.{arith}
@@ -17,7 +17,7 @@ use Rattle.parameters.specs.Limits.{Within}
 use Rattle.polynomial.specs.Bytes.{Bytes}
 use Rattle.polynomial.specs.Interpolant.{interpolantOf}
 use Rattle.relation.specs.Key.{weightOf}
-use Rattle.layout.specs.Layout.{levels, leaves, atQ, workLength, outputLength}
+use Rattle.layout.specs.Layout.{leaves, valuesLength, atQ, siblingsLength, workLength, outputLength}
 use Rattle.exchange.specs.Sequences.Laws.{bytes-drop}
 use Rattle.exchange.specs.Reading.{bytesAt, value, _⊞_, _⊠_}
 use Rattle.exchange.specs.Reading.Laws.{length-bytesAt}
@@ -112,7 +112,7 @@ module _ (hash : List ℕ → ℕ → List ℕ) (hash-length : (s : List ℕ) (n
         given = pair-given hash hash-length p key m1 qs under free i₀ work out work-length out-length .1
 
         bytes-aux : (t : Transcript) → Bytes (t .message5) → Bytes (auxOf p (exchangeOf t))
-        bytes-aux t h = unfold auxOf exchangeOf exchange in bytes-drop (16 * levels p + 32 + 8 * p .t) (t .message5) h
+        bytes-aux t h = unfold auxOf exchangeOf exchange in bytes-drop (siblingsLength p + 32 + valuesLength p) (t .message5) h
 
         -- aux from an opening that discloses leaf n−1
         go : Dec (leaves p - 1 ≡ exchangeOf (q₀ .one) .leaf) → Bytes (auxState p written)

@@ -16,7 +16,8 @@ use Rattle.commitments.proofs.absorb_commitment.Tie as tie
 returns : tie.Need-returns
 unfolding commitmentsAfter
 returns c =
-    let args = c .before .before .before .before .before .args in
+    let start′ : tie.Start = search in
+    let args = start′ .args in
     let own = commitmentAfter (args .start) (args .p) (args .leaf) (stateAt (args .states .now) (args .leaf)) (args .aux .now) in
     c .absorb .ensures
     ∙ ap (λ (t : Bool). absorbed (args .all) (cond t (args .given .now) own)) (sym (eq-eqb (args .leaf) (args .hidden) (c .before .if1 .taken)))
@@ -24,9 +25,10 @@ returns c =
 returns-2 : tie.Need-returns-2
 unfolding commitmentsAfter
 returns-2 c =
+    let test : tie.Else1 = search in
+    let start′ : tie.Start = search in
     let made = c .before .before .before in
-    let test = made .before .before .before in
-    let args = test .before .before .before .before .args in
+    let args = start′ .args in
     let own = commitmentAfter (args .start) (args .p) (args .leaf) (stateAt (args .states .now) (args .leaf)) (args .aux .now) in
     c .absorb2 .ensures
     ∙ ap (absorbed (args .all))

@@ -1,6 +1,7 @@
 -- The loop's invariant: the sponge has absorbed the start of layer 5 and the first i commitments. A turn absorbs one more
 -- (`committed-more`).
 use mathlib.Core.Path.{_≡_, ap, ap₂, _∙_}
+use mathlib.Core.List.{[]}
 use Prim.Native.Nat.{ℕ, _-_, _≤_}
 use native.Mathlib.Omega.{arith}
 use borrow.Author.Needs.{needs}
@@ -9,7 +10,7 @@ use Rattle.shake256.specs.declared.Sponge.{Sponge}
 use Rattle.shake256.specs.Stream.{absorbed}
 use Rattle.shake256.specs.Fips.{SHAKE256}
 use Rattle.exchange.specs.Strings.{string5}
-use Rattle.strings.specs.Digest.{digest}
+use Rattle.strings.specs.Digest.{hashed}
 use Rattle.layout.specs.Layout.Bounds.{leaves-most}
 use Rattle.commitments.specs.Commitments.{commitmentsOf, committed}
 use Rattle.commitments.specs.Commitments.Laws.{commitments-begun, committed-none, committed-more, committed-digest}
@@ -25,7 +26,8 @@ abbrev μ-loop : tie.MeasureT-loop
 
 loop-holds : tie.Need-loop-holds Inv-loop μ-loop
 loop-holds c =
-    let args = c .before .before .before .before .before .before .before .before .args in (
+    let start : tie.Start Inv-loop μ-loop = search in
+    let args = start .args in (
       omega arith,
       c .before .begin2 .ensures
           ∙ committed-none (args .prefix .now)
@@ -34,7 +36,7 @@ loop-holds c =
 
 absorb-commitment-requires : tie.Need-absorb-commitment-requires Inv-loop μ-loop
 absorb-commitment-requires c κs =
-    let start = c .before .before .before .before .before .before .before .before .before .before in
+    let start : tie.Start Inv-loop μ-loop = search in
     let count = c .before .before .leaf-count .ensures in
     record {
       of = record { within = start .pre .within; number = omega (arith, leaves-most (start .args .p) (start .pre .within)) };
@@ -43,13 +45,14 @@ absorb-commitment-requires c κs =
 
 loop-again : tie.Need-loop-again Inv-loop μ-loop
 loop-again c =
+    let first : tie.After-begin Inv-loop μ-loop = search in
+    let start : tie.Start Inv-loop μ-loop = search in
     let head = c .before .before in
     let counted = head .before in
-    let args = counted .before .before .before .before .before .before .before .before .args in
+    let args = start .args in
     let i = head .loop .i in
     let f = commitmentsOf (args .p) (args .prefix .now) (args .states .now) (args .hidden) (args .given .now) (args .aux .now) in
-    let first = counted .before .before .begin in
-    let is = commitments-begun (args .p) (args .prefix .now) (args .states .now) (args .hidden) (args .given .now) (args .aux .now) i (first .result) (first .ensures) in
+    let is = commitments-begun (args .p) (args .prefix .now) (args .states .now) (args .hidden) (args .given .now) (args .aux .now) i (first .begin .result) (first .begin .ensures) in
     (omega arith, c .absorb-commitment .ensures ∙ ap₂ absorbed (head .loop .inv .1) is ∙ committed-more (args .prefix .now) f i)
 
 returns : tie.Need-returns Inv-loop μ-loop
@@ -62,7 +65,7 @@ returns c =
     let size = length (args .out .now) in
     let last : head .loop .i ≡ counted .leaf-count .result = omega arith in
     filled .ensures
-    ∙ ap (λ (s : Sponge). digest s size) (head .loop .inv .1)
+    ∙ ap (λ (s : Sponge). hashed s [] size) (head .loop .inv .1)
     ∙ committed-digest (args .prefix .now) f (head .loop .i) size
     ∙ ap (λ (n : ℕ). SHAKE256 (string5 (args .prefix .now) f n) size) (last ∙ counted .leaf-count .ensures)
 

@@ -9,7 +9,7 @@
 -- commitments-string    the states of an opening's disclosed leaves, its aux and the hidden leaf's commitment: layer 5's string
 use mathlib.Core.Path.{_≡_, refl, sym, ap, ap₂, _∙_}
 use mathlib.Core.Bool.{cond}
-use mathlib.Core.List.{List, _++_}
+use mathlib.Core.List.{List, [], _++_}
 use Prim.Native.Nat.{ℕ, _+_, _≤_, _<_}
 use native.Mathlib.Numerals.{add-one}
 use native.Mathlib.Decide.{ℕ-discrete}
@@ -21,14 +21,15 @@ use Rattle.shake256.specs.Stream.{absorbed}
 use Rattle.shake256.specs.Fips.{SHAKE256}
 use Rattle.parameters.specs.declared.Parameters.{Parameters}
 use Rattle.layout.specs.Layout.{leaves}
+use Rattle.exchange.specs.Run.{Run}
 use Rattle.exchange.specs.Sequences.{joined}
 use Rattle.exchange.specs.Sequences.Laws.{joined-ext}
 use Rattle.exchange.specs.Strings.{string, string5}
 use Rattle.exchange.specs.Leaf.{commitment}
 use Rattle.exchange.specs.Messages.{ownState, ownAux, ownCommitment, message1}
 use Rattle.exchange.specs.Opening.{Exchange, commitmentOf, auxOf, openedState, leafString, leafCommitment, commitmentString}
-use Rattle.strings.specs.Digest.{begun, digest}
-use Rattle.strings.specs.Digest.Laws.{digest-begun, absorbed-joined}
+use Rattle.strings.specs.Digest.{begun, hashed}
+use Rattle.strings.specs.Digest.Laws.{hashed-begun, hashed-streamed, absorbed-joined}
 use Rattle.leaves.specs.After.Laws.{commitment-begun}
 use Rattle.leaves.specs.States.{stateAt}
 use Rattle.commitments.specs.Commitments.{commitmentsOf, commitmentsAfter, committed}
@@ -41,9 +42,9 @@ pub committed-more : (prefix : List ℕ) (f : ℕ → List ℕ) (n : ℕ) → ab
 unfolding committed
 committed-more prefix f n = absorbed-joined (begun 5 prefix) f n ∙ ap (λ (k : ℕ). absorbed (begun 5 prefix) (joined f k)) (sym (add-one n))
 
-pub committed-digest : (prefix : List ℕ) (f : ℕ → List ℕ) (n size : ℕ) → digest (committed prefix f n) size ≡ SHAKE256 (string5 prefix f n) size
+pub committed-digest : (prefix : List ℕ) (f : ℕ → List ℕ) (n size : ℕ) → hashed (committed prefix f n) [] size ≡ SHAKE256 (string5 prefix f n) size
 unfolding committed string5
-committed-digest prefix f n size = digest-begun 5 prefix (joined f n) size
+committed-digest prefix f n size = hashed-streamed (begun 5 prefix) (joined f n) size ∙ hashed-begun 5 prefix (joined f n) size
 
 pub string5-ext : (prefix : List ℕ) (f g : ℕ → List ℕ) (n : ℕ) → ((i : ℕ) → i < n → f i ≡ g i) → string5 prefix f n ≡ string5 prefix g n
 unfolding string5
@@ -65,26 +66,26 @@ module _ (p : Parameters) (prefix states : List ℕ) (hidden : ℕ) (given aux :
 
 -- ---- the prover's
 
-pub own-commitment : (p : Parameters) (x salt root st aux : List ℕ) (i : ℕ) → st ≡ ownState SHAKE256 p x salt root i → aux ≡ ownAux SHAKE256 p x salt root
-    → commitment SHAKE256 p salt i st aux ≡ ownCommitment SHAKE256 p x salt root i
+pub own-commitment : (p : Parameters) (x : List ℕ) (run : Run) (st aux : List ℕ) (i : ℕ) → st ≡ ownState SHAKE256 p x run i → aux ≡ ownAux SHAKE256 p x run
+    → commitment SHAKE256 p (run .prefix) i st aux ≡ ownCommitment SHAKE256 p x run i
 unfolding ownCommitment
-own-commitment p x salt root st aux i own aux-is = ap₂ (commitment SHAKE256 p salt i) own aux-is
+own-commitment p x run st aux i own aux-is = ap₂ (commitment SHAKE256 p (run .prefix) i) own aux-is
 
-module _ (p : Parameters) (x salt root states : List ℕ) (hidden : ℕ) (given aux : List ℕ)
-    (own : (i : ℕ) → i < leaves p → stateAt states i ≡ ownState SHAKE256 p x salt root i)
-    (aux-is : aux ≡ ownAux SHAKE256 p x salt root)
+module _ (p : Parameters) (x : List ℕ) (run : Run) (states : List ℕ) (hidden : ℕ) (given aux : List ℕ)
+    (own : (i : ℕ) → i < leaves p → stateAt states i ≡ ownState SHAKE256 p x run i)
+    (aux-is : aux ≡ ownAux SHAKE256 p x run)
     (none : leaves p ≤ hidden)
   where
-    own-commitments : (i : ℕ) → i < leaves p → commitmentsOf p salt states hidden given aux i ≡ ownCommitment SHAKE256 p x salt root i
+    own-commitments : (i : ℕ) → i < leaves p → commitmentsOf p (run .prefix) states hidden given aux i ≡ ownCommitment SHAKE256 p x run i
     own-commitments i h =
-        commitmentsOf-other p salt states hidden given aux i (λ e. omega arith)
-        ∙ own-commitment p x salt root (stateAt states i) aux i (own i h) aux-is
+        commitmentsOf-other p (run .prefix) states hidden given aux i (λ e. omega arith)
+        ∙ own-commitment p x run (stateAt states i) aux i (own i h) aux-is
 
-    pub commitments-message1 : salt ++ SHAKE256 (string5 salt (commitmentsOf p salt states hidden given aux) (leaves p)) 32 ≡ message1 SHAKE256 p x salt root
+    pub commitments-message1 : run .prefix ++ SHAKE256 (string5 (run .prefix) (commitmentsOf p (run .prefix) states hidden given aux) (leaves p)) 32 ≡ message1 SHAKE256 p x run
     unfolding message1
     commitments-message1 =
-        ap (λ (s : List ℕ). salt ++ SHAKE256 s 32)
-        (string5-ext salt (commitmentsOf p salt states hidden given aux) (ownCommitment SHAKE256 p x salt root) (leaves p) own-commitments)
+        ap (λ (s : List ℕ). run .prefix ++ SHAKE256 s 32)
+        (string5-ext (run .prefix) (commitmentsOf p (run .prefix) states hidden given aux) (ownCommitment SHAKE256 p x run) (leaves p) own-commitments)
 
 -- ---- an opening's
 

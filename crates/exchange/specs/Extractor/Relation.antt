@@ -10,7 +10,7 @@
 use mathlib.Core.Path.{_≡_, refl, sym, ap, ap₂, _∙_}
 use mathlib.Core.Bool.{Bool, true, false, cond}
 use mathlib.Core.List.{List, [], _++_}
-use Prim.Native.Nat.{ℕ, _-_, _*_, _<_}
+use Prim.Native.Nat.{ℕ, _-_, _<_}
 use native.Mathlib.Decide.{ℕ-discrete}
 use borrow.Author.Tests.{eq-eqb, ne-eqb}
 use lib.ListN.{length, take, drop}
@@ -22,7 +22,7 @@ use Rattle.cube.specs.Opening as cube
 use Rattle.cube.specs.Opening.Laws.{totals-all, extraction}
 use Rattle.tower.specs.Field.{Point}
 use Rattle.parameters.specs.declared.Parameters.{Parameters}
-use Rattle.layout.specs.Layout.{side, leaves, digit, isLast, shareLength}
+use Rattle.layout.specs.Layout.{side, leaves, digit, isLast, shareLength, atX}
 use Rattle.layout.specs.Layout.Laws.{isLast-false}
 use Rattle.exchange.specs.Sequences.Laws.{append-inj}
 use Rattle.exchange.specs.Strings.{string3, string4}
@@ -34,7 +34,7 @@ use Rattle.exchange.specs.Values.Relation.{Relation, totalV, totalV-rela
 use Rattle.exchange.specs.Parties.{total, axisString}
 use Rattle.exchange.specs.Parties.Laws.{string-inj, axisString-inj}
 use Rattle.exchange.specs.Parties.Cube.{axisPartition, G, GG, leafW, leafV, constantW, constantV, alpha-total, beta-total, partV-total}
-use Rattle.exchange.specs.Opening.{Exchange, auxOf, openedState, openedShare, leafString, partyAlpha, partyBeta, partyV, announced}
+use Rattle.exchange.specs.Opening.{Exchange, auxOf, openedState, openedShare, leafString, announced}
 use Rattle.exchange.specs.Opening.Cube.{openedW, openedV, opened-announced, opened-verified}
 use Rattle.exchange.specs.Extractor.{stateFrom, auxFrom}
 
@@ -58,8 +58,8 @@ share-ext hash p prefix i st st′ aux aux′ e q = go (isLast p i) q
     drawn st n = hash (string3 prefix i (take 16 st)) n
 
     go : (b : Bool) → cond b aux [] ≡ cond b aux′ []
-        → cond b (drawn st (8 * p .t) ++ aux) (drawn st (shareLength p)) ≡ cond b (drawn st′ (8 * p .t) ++ aux′) (drawn st′ (shareLength p))
-    go true q = ap₂ (λ (s a : List ℕ). drawn s (8 * p .t) ++ a) e q
+        → cond b (drawn st (atX p) ++ aux) (drawn st (shareLength p)) ≡ cond b (drawn st′ (atX p) ++ aux′) (drawn st′ (shareLength p))
+    go true q = ap₂ (λ (s a : List ℕ). drawn s (atX p) ++ a) e q
     go false q = ap (λ (s : List ℕ). drawn s (shareLength p)) e
 
 -- ---- two openings
@@ -146,8 +146,8 @@ module _ (hash : List ℕ → ℕ → List ℕ) (p : Parameters) (prefix h m2 m3
           ap {B = Point × Point → Point} (λ (s : List ℕ) (h : Point × Point). partV p key m2 false s (h .0) (h .1) l) s,
         )
 
-        same-party : (c : ℕ) → c < side p → (partyAlpha hash p e key j c l ≡ partyAlpha hash p e′ key j c l)
-            × (partyBeta hash p e key j c l ≡ partyBeta hash p e′ key j c l) × (partyV hash p e key j c l ≡ partyV hash p e′ key j c l)
+        same-party : (c : ℕ) → c < side p → (announced hash p e key j .α c l ≡ announced hash p e′ key j .α c l)
+            × (announced hash p e key j .β c l ≡ announced hash p e′ key j .β c l) × (announced hash p e key j .v c l ≡ announced hash p e′ key j .v c l)
         unfolding announced
         same-party c hc = axisString-inj p prefix j (announced hash p e key j) (announced hash p e′ key j) strings c l hc hl
 

@@ -8,20 +8,20 @@
 use mathlib.Core.Path.{_≡_, ap₂, _∙_}
 use mathlib.Core.Bool.{Bool, true, false, cond}
 use mathlib.Core.List.{List, _++_}
-use Prim.Native.Nat.{ℕ, _+_, _-_, _*_, _≤_}
+use Prim.Native.Nat.{ℕ, _+_, _-_, _≤_}
 use native.Mathlib.Nat.{le-of-eq}
 use native.Mathlib.Omega.{arith}
 use lib.ListN.{length, take, length-append}
 use Rattle.polynomial.specs.Bytes.{Bytes, bytes-append}
 use Rattle.parameters.specs.declared.Parameters.{Parameters}
-use Rattle.layout.specs.Layout.{leaves, isLast, auxLength, shareLength}
+use Rattle.layout.specs.Layout.{leaves, isLast, auxLength, shareLength, atX}
 use Rattle.layout.specs.Layout.Laws.{isLast-true, isLast-false}
 use Rattle.exchange.specs.Strings.{string3}
 use Rattle.exchange.specs.Leaf.{state, share, commitment}
 
 module _ (hash : List ℕ → ℕ → List ℕ) where
   pub share-last : (p : Parameters) (prefix : List ℕ) (i : ℕ) (st aux : List ℕ) → i ≡ leaves p - 1
-      → share hash p prefix i st aux ≡ hash (string3 prefix i (take 16 st)) (8 * p .t) ++ aux
+      → share hash p prefix i st aux ≡ hash (string3 prefix i (take 16 st)) (atX p) ++ aux
   unfolding share
   share-last p prefix i st aux e = rw (isLast-true p i e)
 
@@ -44,8 +44,8 @@ module _ (hash : List ℕ → ℕ → List ℕ) where
         drawn : ℕ → List ℕ
         drawn n = hash (string3 prefix i (take 16 st)) n
 
-        go : (t : Bool) → Bytes (cond t (drawn (8 * p .t) ++ aux) (drawn (shareLength p)))
-        go true = bytes-append (drawn (8 * p .t)) aux (hash-bytes _ (8 * p .t)) h
+        go : (t : Bool) → Bytes (cond t (drawn (atX p) ++ aux) (drawn (shareLength p)))
+        go true = bytes-append (drawn (atX p)) aux (hash-bytes _ (atX p)) h
         go false = hash-bytes _ (shareLength p)
 
     pub bytes-commitment : (p : Parameters) (prefix : List ℕ) (i : ℕ) (st aux : List ℕ) → Bytes (commitment hash p prefix i st aux)
@@ -67,16 +67,16 @@ module _ (hash : List ℕ → ℕ → List ℕ) where
       unfolding share drawn
       length-share e = go (isLast p i)
         where
-          go : (t : Bool) → length (cond t (drawn (8 * p .t) ++ aux) (drawn (shareLength p))) ≡ shareLength p
-          go true = length-append (drawn (8 * p .t)) aux ∙ ap₂ _+_ (hash-length _ (8 * p .t)) e
+          go : (t : Bool) → length (cond t (drawn (atX p) ++ aux) (drawn (shareLength p))) ≡ shareLength p
+          go true = length-append (drawn (atX p)) aux ∙ ap₂ _+_ (hash-length _ (atX p)) e
           go false = hash-length _ (shareLength p)
 
       pub length-share-le : length aux ≤ auxLength p → length (share hash p prefix i st aux) ≤ shareLength p
       unfolding share drawn
       length-share-le h = go (isLast p i)
         where
-          go : (t : Bool) → length (cond t (drawn (8 * p .t) ++ aux) (drawn (shareLength p))) ≤ shareLength p
-          go true = omega (arith, length-append (drawn (8 * p .t)) aux, hash-length (string3 prefix i (take 16 st)) (8 * p .t))
+          go : (t : Bool) → length (cond t (drawn (atX p) ++ aux) (drawn (shareLength p))) ≤ shareLength p
+          go true = omega (arith, length-append (drawn (atX p)) aux, hash-length (string3 prefix i (take 16 st)) (atX p))
           go false = le-of-eq (hash-length _ (shareLength p))
 
     pub length-commitment : (p : Parameters) (prefix : List ℕ) (i : ℕ) (st aux : List ℕ) → length (commitment hash p prefix i st aux) ≡ 32

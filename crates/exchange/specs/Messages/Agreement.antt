@@ -24,6 +24,7 @@ use Rattle.answers.specs.declared.Answer.the-variants.{Done}
 use Rattle.parameters.specs.declared.Parameters.{Parameters}
 use Rattle.relation.specs.Key.{vectorOf}
 use Rattle.layout.specs.Layout.{side, leaves}
+use Rattle.exchange.specs.Run.{Run}
 use Rattle.exchange.specs.Sequences.Laws.{joined-ext}
 use Rattle.exchange.specs.Strings.{string, string6, string7}
 use Rattle.exchange.specs.Reading.{_⊞_, 𝟎}
@@ -32,25 +33,27 @@ use Rattle.exchange.specs.Values.{Key, alpha, beta, partV}
 use Rattle.exchange.specs.Values.Relation.{totalV, totalV-zero}
 use Rattle.exchange.specs.Parties.{sums, announcedBytes, axisString}
 use Rattle.exchange.specs.Parties.Cube.{axisPartition, G, GG, leafW, leafV, constantW, constantV, alpha-total, beta-total, partV-total, party-announced, party-formula}
-use Rattle.exchange.specs.Opening.{Exchange, exchange, partyAlpha, partyBeta, partyV, announced, responseString, verdict}
+use Rattle.exchange.specs.Announcing.{formulaV}
+use Rattle.exchange.specs.Announcing.Laws.{none-alpha, none-beta, none-v}
+use Rattle.exchange.specs.Opening.{Exchange, exchange, announced, responseString, verdict}
 use Rattle.exchange.specs.Opening.Cube.{openedW, openedV, opened-announced, opened-verified}
 use Rattle.exchange.specs.Opening.Laws.{accepted-when, sums-agree}
-use Rattle.exchange.specs.Messages.{ownShare, ownParty, ownAlpha, ownBeta, ownAnnounced, message1, message3, message5}
+use Rattle.exchange.specs.Messages.{ownShare, ownParty, ownAnnounced, message1, message3, message5}
 use Rattle.exchange.specs.Messages.Laws.{Secret}
 use Rattle.exchange.specs.Messages.Opened.{honest, exchange-is, alpha-is, beta-is, share-is, commitmentString-is}
 use Rattle.exchange.specs.Messages.Sum.{ownSum, relation-of-sum}
 
 module _ (hash : List ℕ → ℕ → List ℕ) (hash-length : (s : List ℕ) (n : ℕ) → length (hash s n) ≡ n)
     (p : Parameters) (key : Key) (xA : List ℕ) (size : length xA ≡ p .k) (sizeY : length (key .y) ≡ p .m - p .k)
-    (secret : Secret p (vectorOf (key .matrix) (key .y) xA)) (salt root m2 : List ℕ) (u : ℕ) (inside : u < leaves p) where
+    (secret : Secret p (vectorOf (key .matrix) (key .y) xA)) (run : Run) (m2 : List ℕ) (u : ℕ) (inside : u < leaves p) where
   abbrev x : List ℕ
   x = vectorOf (key .matrix) (key .y) xA
 
   abbrev own : ℕ → List ℕ
-  own = ownShare hash p x salt root
+  own = ownShare hash p x run
 
   abbrev e : Exchange
-  e = honest hash p x salt root key m2 u
+  e = honest hash p x run key m2 u
 
   -- ---- at a position and on an axis
 
@@ -68,115 +71,116 @@ module _ (hash : List ℕ → ℕ → List ℕ) (hash-length : (s : List ℕ) (n
         go : Dec (i ≡ u) → openedW hash p e key l i ≡ ownW i
         go (yes q) =
             pair-path
-            (cond-eq i u _ _ q ∙ alpha-is hash p x salt root key m2 u hash-length l hl ∙ ap (λ (i : ℕ). alpha p key m2 false (own i) l) (sym q))
-            (cond-eq i u _ _ q ∙ beta-is hash p x salt root key m2 u hash-length l hl ∙ ap (λ (i : ℕ). beta p key m2 false (own i) l) (sym q))
+            (cond-eq i u _ _ q ∙ alpha-is hash p x run key m2 u hash-length l hl ∙ ap (λ (i : ℕ). alpha p key m2 false (own i) l) (sym q))
+            (cond-eq i u _ _ q ∙ beta-is hash p x run key m2 u hash-length l hl ∙ ap (λ (i : ℕ). beta p key m2 false (own i) l) (sym q))
         go (no n) =
             pair-path
-            (cond-ne i u _ _ n ∙ ap (λ (s : List ℕ). alpha p key m2 false s l) (share-is hash p x salt root key m2 u hash-length inside i h n))
-            (cond-ne i u _ _ n ∙ ap (λ (s : List ℕ). beta p key m2 false s l) (share-is hash p x salt root key m2 u hash-length inside i h n))
+            (cond-ne i u _ _ n ∙ ap (λ (s : List ℕ). alpha p key m2 false s l) (share-is hash p x run key m2 u hash-length inside i h n))
+            (cond-ne i u _ _ n ∙ ap (λ (s : List ℕ). beta p key m2 false s l) (share-is hash p x run key m2 u hash-length inside i h n))
 
     V-is : (i : ℕ) → i < leaves p → (i ≡ u → ⊥) → openedV hash p e key l i ≡ ownV i
     unfolding openedV leafV
     V-is i h n =
         ap {B = Point × Point → Point} (λ (s : List ℕ) (z : Point × Point). partV p key m2 false s (z .0) (z .1) l)
-        (share-is hash p x salt root key m2 u hash-length inside i h n)
+        (share-is hash p x run key m2 u hash-length inside i h n)
 
     module _ (j : ℕ) where
       abbrev ownTotals : Point × Point
       ownTotals = cube.totals GG G (axisPartition p j) (constantW p key m2 l) (constantV p key m2 l) ownW
 
-      own-announced : (c : ℕ) → (ownAlpha hash p x salt root key m2 j c l, ownBeta hash p x salt root key m2 j c l)
+      own-announced : (c : ℕ) → c < side p → (ownAnnounced hash p x run key m2 j .α c l, ownAnnounced hash p x run key m2 j .β c l)
           ≡ cube.announced GG G (axisPartition p j) (constantW p key m2 l) (constantV p key m2 l) ownW c
-      unfolding ownAlpha ownBeta ownParty
-      own-announced c = party-announced p key m2 l own j c
+      unfolding ownAnnounced ownParty
+      own-announced c h = pair-path (none-alpha p key m2 _ c l h) (none-beta p key m2 _ c l h) ∙ party-announced p key m2 l own j c
 
-      own-totals : (sums (λ c. ownAlpha hash p x salt root key m2 j c l) (side p), sums (λ c. ownBeta hash p x salt root key m2 j c l) (side p)) ≡ ownTotals
+      own-totals : (sums (λ c. ownAnnounced hash p x run key m2 j .α c l) (side p), sums (λ c. ownAnnounced hash p x run key m2 j .β c l) (side p)) ≡ ownTotals
       unfolding cube.totals
       own-totals =
-          sym (sum-pairs G G (λ c. (ownAlpha hash p x salt root key m2 j c l, ownBeta hash p x salt root key m2 j c l)) (side p))
-          ∙ sum-ext GG (λ c. (ownAlpha hash p x salt root key m2 j c l, ownBeta hash p x salt root key m2 j c l))
-          (cube.announced GG G (axisPartition p j) (constantW p key m2 l) (constantV p key m2 l) ownW) (side p) (λ c h. own-announced c)
+          sym (sum-pairs G G (λ c. (ownAnnounced hash p x run key m2 j .α c l, ownAnnounced hash p x run key m2 j .β c l)) (side p))
+          ∙ sum-ext GG (λ c. (ownAnnounced hash p x run key m2 j .α c l, ownAnnounced hash p x run key m2 j .β c l))
+          (cube.announced GG G (axisPartition p j) (constantW p key m2 l) (constantV p key m2 l) ownW) (side p) own-announced
 
-      own-formula : (c : ℕ) → ownAnnounced hash p x salt root key m2 j .v c l
+      own-formula : (c : ℕ) → c < side p → ownAnnounced hash p x run key m2 j .v c l
           ≡ cube.formula GG G (axisPartition p j) (constantW p key m2 l) (constantV p key m2 l) ownW ownV c
-      unfolding ownAnnounced ownParty
-      own-formula c =
-          party-formula p key m2 l own j c
-          (sums (λ c. ownAlpha hash p x salt root key m2 j c l) (side p), sums (λ c. ownBeta hash p x salt root key m2 j c l) (side p)) own-totals
+      unfolding ownAnnounced ownParty formulaV
+      own-formula c h =
+          none-v p key m2 _ c l h
+          ∙ party-formula p key m2 l own j c
+          (sums (λ c. ownAnnounced hash p x run key m2 j .α c l) (side p), sums (λ c. ownAnnounced hash p x run key m2 j .β c l) (side p)) own-totals
 
       -- α̂ and β̂ are α and β of the sum of all leaves
-      totals-of-sum : (alpha p key m2 true (ownSum hash p x salt root) l, beta p key m2 true (ownSum hash p x salt root) l) ≡ ownTotals
+      totals-of-sum : (alpha p key m2 true (ownSum hash p x run) l, beta p key m2 true (ownSum hash p x run) l) ≡ ownTotals
       unfolding ownSum
       totals-of-sum =
           pair-path (alpha-total p key m2 l true (λ i. true) own (leaves p)) (beta-total p key m2 l true (λ i. true) own (leaves p))
           ∙ sym (ap (GG .add (constantW p key m2 l)) (sum-pairs G G ownW (leaves p)))
           ∙ sym (totals-all GG G (axisPartition p j) (constantW p key m2 l) (constantV p key m2 l) ownW)
 
-      v-of-sum : totalV p key m2 (ownSum hash p x salt root) l ≡ 𝟎
+      v-of-sum : totalV p key m2 (ownSum hash p x run) l ≡ 𝟎
       v-of-sum =
-          totalV-zero p key m2 (ownSum hash p x salt root) l
-          (relation-of-sum hash p x salt root hash-length secret key xA size sizeY refl m2 l hl)
+          totalV-zero p key m2 (ownSum hash p x run) l
+          (relation-of-sum hash p x run hash-length secret key xA size sizeY refl m2 l hl)
 
       zero-sum : constantV p key m2 l ownTotals ⊞ sum G (λ i. ownV i ownTotals) (leaves p) ≡ 𝟎
       unfolding ownSum
       zero-sum =
           sym (partV-total p key m2 l true (λ i. true) own (leaves p) ownTotals)
-          ∙ ap (λ (h : Point × Point). partV p key m2 true (ownSum hash p x salt root) (h .0) (h .1) l) (sym totals-of-sum)
+          ∙ ap (λ (h : Point × Point). partV p key m2 true (ownSum hash p x run) (h .0) (h .1) l) (sym totals-of-sum)
           ∙ v-of-sum
 
       -- ---- what the parties announce
 
-      W-same : (c : ℕ) → _≡_ {A = Point × Point} (partyAlpha hash p e key j c l, partyBeta hash p e key j c l)
-          (ownAlpha hash p x salt root key m2 j c l, ownBeta hash p x salt root key m2 j c l)
-      W-same c =
+      W-same : (c : ℕ) → c < side p → _≡_ {A = Point × Point} (announced hash p e key j .α c l, announced hash p e key j .β c l)
+          (ownAnnounced hash p x run key m2 j .α c l, ownAnnounced hash p x run key m2 j .β c l)
+      W-same c h =
           opened-announced hash p e key l inside j c
           ∙ announced-ext GG G (axisPartition p j) (constantW p key m2 l) (constantV p key m2 l) (openedW hash p e key l) ownW W-is c
-          ∙ sym (own-announced c)
+          ∙ sym (own-announced c h)
 
-      V-same : (c : ℕ) → c < side p → partyV hash p e key j c l ≡ ownAnnounced hash p x salt root key m2 j .v c l
+      V-same : (c : ℕ) → c < side p → announced hash p e key j .v c l ≡ ownAnnounced hash p x run key m2 j .v c l
       V-same c h =
           opened-verified hash p e key l inside j c h
           ∙ verified-ext GG G (axisPartition p j) (constantW p key m2 l) (constantV p key m2 l) (openedW hash p e key l) ownW W-is u
           (openedV hash p e key l) ownV V-is c h
           ∙ completeness GG G (axisPartition p j) (constantW p key m2 l) (constantV p key m2 l) u inside ownW ownV zero-sum c
-          ∙ sym (own-formula c)
+          ∙ sym (own-formula c h)
 
   -- ---- the strings
 
-  announced-same : (j c : ℕ) → c < side p → announcedBytes p (announced hash p e key j) c ≡ announcedBytes p (ownAnnounced hash p x salt root key m2 j) c
+  announced-same : (j c : ℕ) → c < side p → announcedBytes p (announced hash p e key j) c ≡ announcedBytes p (ownAnnounced hash p x run key m2 j) c
   unfolding announcedBytes announced ownAnnounced
   announced-same j c h =
-      ap₂ _++_ (encode-ext _ _ (p .t) (λ l k. ap (λ (z : Point × Point). z .0) (W-same l k j c)))
-      (ap₂ _++_ (encode-ext _ _ (p .t) (λ l k. ap (λ (z : Point × Point). z .1) (W-same l k j c)))
+      ap₂ _++_ (encode-ext _ _ (p .t) (λ l k. ap (λ (z : Point × Point). z .0) (W-same l k j c h)))
+      (ap₂ _++_ (encode-ext _ _ (p .t) (λ l k. ap (λ (z : Point × Point). z .1) (W-same l k j c h)))
       (encode-ext _ _ (p .t) (λ l k. V-same l k j c h)))
 
-  pub axisString-is : (j : ℕ) → axisString p salt j (announced hash p e key j) ≡ axisString p salt j (ownAnnounced hash p x salt root key m2 j)
+  pub axisString-is : (j : ℕ) → axisString p (run .prefix) j (announced hash p e key j) ≡ axisString p (run .prefix) j (ownAnnounced hash p x run key m2 j)
   unfolding axisString string6
   axisString-is j =
-      ap (λ (s : List ℕ). string 6 salt ((j + 1) ∷ s))
-      (joined-ext (announcedBytes p (announced hash p e key j)) (announcedBytes p (ownAnnounced hash p x salt root key m2 j)) (side p) (announced-same j))
+      ap (λ (s : List ℕ). string 6 (run .prefix) ((j + 1) ∷ s))
+      (joined-ext (announcedBytes p (announced hash p e key j)) (announcedBytes p (ownAnnounced hash p x run key m2 j)) (side p) (announced-same j))
 
   pub responseString-is : responseString hash p e key
-      ≡ string7 salt (λ j. hash (axisString p salt j (ownAnnounced hash p x salt root key m2 j)) 32) (p .axes)
+      ≡ string7 (run .prefix) (λ j. hash (axisString p (run .prefix) j (ownAnnounced hash p x run key m2 j)) 32) (p .axes)
   unfolding responseString string7
   responseString-is =
-      ap (string 7 salt)
-      (joined-ext (λ j. hash (axisString p salt j (announced hash p e key j)) 32)
-      (λ j. hash (axisString p salt j (ownAnnounced hash p x salt root key m2 j)) 32) (p .axes)
+      ap (string 7 (run .prefix))
+      (joined-ext (λ j. hash (axisString p (run .prefix) j (announced hash p e key j)) 32)
+      (λ j. hash (axisString p (run .prefix) j (ownAnnounced hash p x run key m2 j)) 32) (p .axes)
       (λ j h. ap (λ (s : List ℕ). hash s 32) (axisString-is j)))
 
-  response-is : hash (responseString hash p e key) 32 ≡ message3 hash p x salt root key m2
+  response-is : hash (responseString hash p e key) 32 ≡ message3 hash p x run key m2
   unfolding message3
   response-is = ap (λ (s : List ℕ). hash s 32) responseString-is
 
-  pub honest-accepted : verdict hash p (honest hash p x salt root key m2 u) key ≡ Done
+  pub honest-accepted : verdict hash p (honest hash p x run key m2 u) key ≡ Done
   honest-accepted =
       accepted-when hash p e key (record {
-        commitment = ap (λ (s : List ℕ). hash s 32) (commitmentString-is hash p x salt root key m2 u hash-length inside);
+        commitment = ap (λ (s : List ℕ). hash s 32) (commitmentString-is hash p x run key m2 u hash-length inside);
         sums-same = λ j h. sums-agree hash p e key j 0;
         response = response-is;
       })
 
-  pub messages-accepted : length salt ≡ 32
-      → verdict hash p (exchange (message1 hash p x salt root) m2 (message3 hash p x salt root key m2) u (message5 hash p x salt root key m2 u)) key ≡ Done
-  messages-accepted h = ap (λ (e : Exchange). verdict hash p e key) (exchange-is hash p x salt root key m2 u h) ∙ honest-accepted
+  pub messages-accepted : length (run .prefix) ≡ 32
+      → verdict hash p (exchange (message1 hash p x run) m2 (message3 hash p x run key m2) u (message5 hash p x run key m2 u)) key ≡ Done
+  messages-accepted h = ap (λ (e : Exchange). verdict hash p e key) (exchange-is hash p x run key m2 u h) ∙ honest-accepted

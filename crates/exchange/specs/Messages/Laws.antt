@@ -10,7 +10,7 @@
 use mathlib.Core.Path.{_≡_, refl, ap₂, _∙_}
 use mathlib.Core.Bool.{Bool, true, false, cond}
 use mathlib.Core.List.{List, [], _++_}
-use Prim.Native.Nat.{ℕ, _+_, _*_, _≤_, _<_}
+use Prim.Native.Nat.{ℕ, _+_, _≤_, _<_}
 use native.Mathlib.Omega.{arith}
 use lib.ListN.{length, take, drop, length-append, length-take, length-drop}
 use Rattle.lists.specs.Sum.Laws.{length-xorList}
@@ -19,15 +19,16 @@ use Rattle.parameters.specs.Limits.{Within}
 use Rattle.polynomial.specs.Bytes.{Bytes, bytes-take, bytes-append, bytes-xorList}
 use Rattle.relation.specs.Key.{weightOf, locatorOf, quotientOf}
 use Rattle.relation.specs.Key.Polynomials.{length-locator, length-quotient, bytes-locator, bytes-quotient}
-use Rattle.layout.specs.Layout.{levels, leaves, isLast, auxLength, shareLength, message5Length}
+use Rattle.layout.specs.Layout.{levels, leaves, isLast, pointsLength, factorLength, valuesLength, auxLength, shareLength, atX, siblingsLength, message5Length}
+use Rattle.exchange.specs.Run.{Run}
 use Rattle.exchange.specs.Sequences.Laws.{bytes-drop}
 use Rattle.exchange.specs.Tree.{siblingSeeds}
 use Rattle.exchange.specs.Tree.Laws.{length-siblingSeeds, bytes-siblingSeeds}
 use Rattle.exchange.specs.Leaf.{share}
 use Rattle.exchange.specs.Leaf.Laws.{length-share, length-share-le, length-commitment, bytes-share, bytes-commitment}
-use Rattle.exchange.specs.Reading.{encode, _⊠_}
+use Rattle.exchange.specs.Reading.{encode}
 use Rattle.exchange.specs.Reading.Laws.{length-encode, bytes-encode}
-use Rattle.exchange.specs.Values.{Key, aOf, bOf}
+use Rattle.exchange.specs.Values.{Key}
 use Rattle.exchange.specs.Parties.Laws.{length-total, bytes-total}
 use Rattle.exchange.specs.Messages.{ownState, drawn, wanted, ownAux, ownShare, ownCommitment, message1, message3, message5}
 
@@ -61,105 +62,105 @@ module _ (p : Parameters) (x : List ℕ) (secret : Secret p x) where
 -- ---- lengths
 
 module _ (hash : List ℕ → ℕ → List ℕ) (hash-length : (s : List ℕ) (n : ℕ) → length (hash s n) ≡ n)
-    (p : Parameters) (x : List ℕ) (secret : Secret p x) (salt root : List ℕ) where
-  pub length-drawn : length (drawn hash p x salt root) ≡ shareLength p
+    (p : Parameters) (x : List ℕ) (secret : Secret p x) (run : Run) where
+  pub length-drawn : length (drawn hash p x run) ≡ shareLength p
   unfolding drawn
   length-drawn =
-      length-total p (λ i. true) (λ i. share hash p salt i (ownState hash p x salt root i) []) (leaves p)
-      (λ i l e. length-share-le hash hash-length p salt i (ownState hash p x salt root i) [] (omega arith))
+      length-total p (λ i. true) (λ i. share hash p (run .prefix) i (ownState hash p x run i) []) (leaves p)
+      (λ i l e. length-share-le hash hash-length p (run .prefix) i (ownState hash p x run i) [] (omega arith))
 
-  length-four : (a b c d : List ℕ) → length a ≡ p .k → length b ≡ p .w → length c ≡ p .w → length d ≡ 4 * p .t
+  length-four : (a b c d : List ℕ) → length a ≡ p .k → length b ≡ p .w → length c ≡ p .w → length d ≡ pointsLength p
       → length (a ++ (b ++ (c ++ d))) ≡ auxLength p
   length-four a b c d ha hb hc hd = simp length-append (omega arith)
 
-  pub length-wanted : length (wanted hash p x salt root) ≡ auxLength p
+  pub length-wanted : length (wanted hash p x run) ≡ auxLength p
   unfolding wanted
   length-wanted =
       length-four (take (p .k) x) (take (p .w) (locatorOf (p .w) x)) (quotientOf (p .w) x) _
       (length-xA p x secret) (length-Q p x secret) (length-P p x secret) (length-encode _ (p .t))
 
-  pub length-aux : length (ownAux hash p x salt root) ≡ auxLength p
+  pub length-aux : length (ownAux hash p x run) ≡ auxLength p
   unfolding ownAux
   length-aux =
       let a = length-wanted in
       let b = length-drawn in
-      let c : length (drop (8 * p .t) (drawn hash p x salt root)) ≡ auxLength p = length-drop (8 * p .t) (drawn hash p x salt root) ∙ omega arith in
-      length-xorList (wanted hash p x salt root) (drop (8 * p .t) (drawn hash p x salt root)) (omega arith) ∙ a
+      let c : length (drop (atX p) (drawn hash p x run)) ≡ auxLength p = length-drop (atX p) (drawn hash p x run) ∙ omega arith in
+      length-xorList (wanted hash p x run) (drop (atX p) (drawn hash p x run)) (omega arith) ∙ a
 
-  pub length-ownShare : (i : ℕ) → length (ownShare hash p x salt root i) ≡ shareLength p
+  pub length-ownShare : (i : ℕ) → length (ownShare hash p x run i) ≡ shareLength p
   unfolding ownShare
-  length-ownShare i = length-share hash hash-length p salt i (ownState hash p x salt root i) (ownAux hash p x salt root) length-aux
+  length-ownShare i = length-share hash hash-length p (run .prefix) i (ownState hash p x run i) (ownAux hash p x run) length-aux
 
-  pub length-ownCommitment : (i : ℕ) → length (ownCommitment hash p x salt root i) ≡ 32
+  pub length-ownCommitment : (i : ℕ) → length (ownCommitment hash p x run i) ≡ 32
   unfolding ownCommitment
-  length-ownCommitment i = length-commitment hash hash-length p salt i (ownState hash p x salt root i) (ownAux hash p x salt root)
+  length-ownCommitment i = length-commitment hash hash-length p (run .prefix) i (ownState hash p x run i) (ownAux hash p x run)
 
-  pub length-message1 : length salt ≡ 32 → length (message1 hash p x salt root) ≡ 64
+  pub length-message1 : length (run .prefix) ≡ 32 → length (message1 hash p x run) ≡ 64
   unfolding message1
-  length-message1 e = length-append salt _ ∙ ap₂ _+_ e (hash-length _ 32)
+  length-message1 e = length-append (run .prefix) _ ∙ ap₂ _+_ e (hash-length _ 32)
 
   module _ (key : Key) (m2 : List ℕ) where
-    pub length-message3 : length (message3 hash p x salt root key m2) ≡ 32
+    pub length-message3 : length (message3 hash p x run key m2) ≡ 32
     unfolding message3
     length-message3 = hash-length _ 32
 
-    length-five : (a b c d e : List ℕ) (r : ℕ) → length a ≡ 16 * levels p → length b ≡ 32 → length c ≡ 4 * p .t → length d ≡ 4 * p .t
-        → length e ≡ r → length (a ++ (b ++ (c ++ (d ++ e)))) ≡ 16 * levels p + 32 + 8 * p .t + r
+    length-five : (a b c d e : List ℕ) (r : ℕ) → length a ≡ siblingsLength p → length b ≡ 32 → length c ≡ factorLength p → length d ≡ factorLength p
+        → length e ≡ r → length (a ++ (b ++ (c ++ (d ++ e)))) ≡ siblingsLength p + 32 + valuesLength p + r
     length-five a b c d e r ha hb hc hd he = simp length-append (omega arith)
 
-    pub length-message5 : (u : ℕ) → length (message5 hash p x salt root key m2 u) ≡ message5Length p u
+    pub length-message5 : (u : ℕ) → length (message5 hash p x run key m2 u) ≡ message5Length p u
     unfolding message5 message5Length
     length-message5 u =
-        length-five (siblingSeeds hash salt (levels p) 1 root u) (ownCommitment hash p x salt root u) (encode _ (p .t)) (encode _ (p .t))
-        (cond (isLast p u) [] (ownAux hash p x salt root)) (cond (isLast p u) 0 (auxLength p))
-        (length-siblingSeeds hash salt hash-length (levels p) 1 root u) (length-ownCommitment u) (length-encode _ (p .t)) (length-encode _ (p .t))
+        length-five (siblingSeeds hash (run .prefix) (levels p) 1 (run .root) u) (ownCommitment hash p x run u) (encode _ (p .t)) (encode _ (p .t))
+        (cond (isLast p u) [] (ownAux hash p x run)) (cond (isLast p u) 0 (auxLength p))
+        (length-siblingSeeds hash (run .prefix) hash-length (levels p) 1 (run .root) u) (length-ownCommitment u) (length-encode _ (p .t)) (length-encode _ (p .t))
         (go (isLast p u))
       where
-        go : (b : Bool) → length (cond b [] (ownAux hash p x salt root)) ≡ cond b 0 (auxLength p)
+        go : (b : Bool) → length (cond b [] (ownAux hash p x run)) ≡ cond b 0 (auxLength p)
         go true = refl
         go false = length-aux
 
 -- ---- bytes
 
 module _ (hash : List ℕ → ℕ → List ℕ) (hash-bytes : (s : List ℕ) (n : ℕ) → Bytes (hash s n))
-    (p : Parameters) (x : List ℕ) (bytes : Bytes x) (salt root : List ℕ) where
-  bytes-drawn : Bytes (drawn hash p x salt root)
+    (p : Parameters) (x : List ℕ) (bytes : Bytes x) (run : Run) where
+  bytes-drawn : Bytes (drawn hash p x run)
   unfolding drawn
   bytes-drawn =
-      bytes-total p (λ i. true) (λ i. share hash p salt i (ownState hash p x salt root i) []) (leaves p)
-      (λ i l e. bytes-share hash hash-bytes p salt i (ownState hash p x salt root i) [] tt)
+      bytes-total p (λ i. true) (λ i. share hash p (run .prefix) i (ownState hash p x run i) []) (leaves p)
+      (λ i l e. bytes-share hash hash-bytes p (run .prefix) i (ownState hash p x run i) [] tt)
 
-  bytes-wanted : Bytes (wanted hash p x salt root)
+  bytes-wanted : Bytes (wanted hash p x run)
   unfolding wanted
   bytes-wanted =
       bytes-append (take (p .k) x) _ (bytes-take (p .k) x bytes)
       (bytes-append (take (p .w) (locatorOf (p .w) x)) _ (bytes-take (p .w) (locatorOf (p .w) x) (bytes-locator (p .w) x))
       (bytes-append (quotientOf (p .w) x) _ (bytes-quotient (p .w) x) (bytes-encode _ (p .t))))
 
-  pub bytes-aux : Bytes (ownAux hash p x salt root)
+  pub bytes-aux : Bytes (ownAux hash p x run)
   unfolding ownAux
-  bytes-aux = bytes-xorList (wanted hash p x salt root) _ bytes-wanted (bytes-drop (8 * p .t) (drawn hash p x salt root) bytes-drawn)
+  bytes-aux = bytes-xorList (wanted hash p x run) _ bytes-wanted (bytes-drop (atX p) (drawn hash p x run) bytes-drawn)
 
-  pub bytes-ownShare : (i : ℕ) → Bytes (ownShare hash p x salt root i)
+  pub bytes-ownShare : (i : ℕ) → Bytes (ownShare hash p x run i)
   unfolding ownShare
-  bytes-ownShare i = bytes-share hash hash-bytes p salt i (ownState hash p x salt root i) (ownAux hash p x salt root) bytes-aux
+  bytes-ownShare i = bytes-share hash hash-bytes p (run .prefix) i (ownState hash p x run i) (ownAux hash p x run) bytes-aux
 
-  pub bytes-message1 : Bytes salt → Bytes (message1 hash p x salt root)
+  pub bytes-message1 : Bytes (run .prefix) → Bytes (message1 hash p x run)
   unfolding message1
-  bytes-message1 h = bytes-append salt _ h (hash-bytes _ 32)
+  bytes-message1 h = bytes-append (run .prefix) _ h (hash-bytes _ 32)
 
   module _ (key : Key) (m2 : List ℕ) where
-    pub bytes-message3 : Bytes (message3 hash p x salt root key m2)
+    pub bytes-message3 : Bytes (message3 hash p x run key m2)
     unfolding message3
     bytes-message3 = hash-bytes _ 32
 
-    pub bytes-message5 : (u : ℕ) → Bytes (message5 hash p x salt root key m2 u)
+    pub bytes-message5 : (u : ℕ) → Bytes (message5 hash p x run key m2 u)
     unfolding message5 ownCommitment
     bytes-message5 u =
-        bytes-append (siblingSeeds hash salt (levels p) 1 root u) _ (bytes-siblingSeeds hash salt hash-bytes (levels p) 1 root u)
-        (bytes-append (ownCommitment hash p x salt root u) _ (bytes-commitment hash hash-bytes p salt u _ _)
+        bytes-append (siblingSeeds hash (run .prefix) (levels p) 1 (run .root) u) _ (bytes-siblingSeeds hash (run .prefix) hash-bytes (levels p) 1 (run .root) u)
+        (bytes-append (ownCommitment hash p x run u) _ (bytes-commitment hash hash-bytes p (run .prefix) u _ _)
         (bytes-append (encode _ (p .t)) _ (bytes-encode _ (p .t)) (bytes-append (encode _ (p .t)) _ (bytes-encode _ (p .t)) (go (isLast p u)))))
       where
-        go : (b : Bool) → Bytes (cond b [] (ownAux hash p x salt root))
+        go : (b : Bool) → Bytes (cond b [] (ownAux hash p x run))
         go true = tt
         go false = bytes-aux

@@ -21,8 +21,9 @@ use Rattle.parameters.specs.declared.Parameters.{Parameters}
 use Rattle.polynomial.specs.Interpolant.{interpolantOf, vanishingOf}
 use Rattle.relation.specs.Key.{rows, vectorOf, locatorOf, quotientOf}
 use Rattle.relation.specs.Key.Polynomials.{locator-monic, key-relation}
-use Rattle.layout.specs.Layout.{leaves, atB, atQ, atP, atC}
+use Rattle.layout.specs.Layout.{leaves, atB, atX, atQ, atP, atC}
 use Rattle.layout.specs.Layout.Laws.{leaves-pos}
+use Rattle.exchange.specs.Run.{Run}
 use Rattle.exchange.specs.Strings.{string3}
 use Rattle.exchange.specs.Leaf.{share}
 use Rattle.exchange.specs.Leaf.Laws.{share-last, share-other}
@@ -45,9 +46,9 @@ added-twice : (f w : List ℕ) → length f ≡ length w → xorList f (xorList 
 added-twice f w e =
     xorList-comm f (xorList w f) ∙ xorList-assoc w f f ∙ ap (xorList w) (xorList-self f) ∙ xorList-zeros w (length f) (le-of-eq e)
 
-module _ (hash : List ℕ → ℕ → List ℕ) (p : Parameters) (x salt root : List ℕ) where
+module _ (hash : List ℕ → ℕ → List ℕ) (p : Parameters) (x : List ℕ) (run : Run) where
   unfoldable pub ownSum : List ℕ
-  ownSum = total p (λ i. true) (ownShare hash p x salt root) (leaves p)
+  ownSum = total p (λ i. true) (ownShare hash p x run) (leaves p)
 
   -- ---- leaf n−1 apart
 
@@ -55,72 +56,72 @@ module _ (hash : List ℕ → ℕ → List ℕ) (p : Parameters) (x salt root : 
   last = leaves p - 1
 
   lastDrawn : List ℕ
-  lastDrawn = hash (string3 salt last (take 16 (ownState hash p x salt root last))) (8 * p .t)
+  lastDrawn = hash (string3 (run .prefix) last (take 16 (ownState hash p x run last))) (atX p)
 
   others : List ℕ
-  others = total p (λ i. true) (λ i. share hash p salt i (ownState hash p x salt root i) []) last
+  others = total p (λ i. true) (λ i. share hash p (run .prefix) i (ownState hash p x run i) []) last
 
   all-leaves : leaves p ≡ suc last
   unfolding last
   all-leaves = let h = leaves-pos p in omega arith
 
-  last-share : (aux : List ℕ) → share hash p salt last (ownState hash p x salt root last) aux ≡ lastDrawn ++ aux
+  last-share : (aux : List ℕ) → share hash p (run .prefix) last (ownState hash p x run last) aux ≡ lastDrawn ++ aux
   unfolding lastDrawn last
-  last-share aux = share-last hash p salt (leaves p - 1) (ownState hash p x salt root (leaves p - 1)) aux refl
+  last-share aux = share-last hash p (run .prefix) (leaves p - 1) (ownState hash p x run (leaves p - 1)) aux refl
 
   other-share : (aux aux′ : List ℕ) (i : ℕ) → i < last
-      → share hash p salt i (ownState hash p x salt root i) aux ≡ share hash p salt i (ownState hash p x salt root i) aux′
+      → share hash p (run .prefix) i (ownState hash p x run i) aux ≡ share hash p (run .prefix) i (ownState hash p x run i) aux′
   unfolding last
   other-share aux aux′ i l =
-      share-other hash p salt i (ownState hash p x salt root i) aux (λ e. omega arith)
-      ∙ sym (share-other hash p salt i (ownState hash p x salt root i) aux′ (λ e. omega arith))
+      share-other hash p (run .prefix) i (ownState hash p x run i) aux (λ e. omega arith)
+      ∙ sym (share-other hash p (run .prefix) i (ownState hash p x run i) aux′ (λ e. omega arith))
 
-  drawn-is : drawn hash p x salt root ≡ xorList others lastDrawn
+  drawn-is : drawn hash p x run ≡ xorList others lastDrawn
   unfolding drawn total others
   drawn-is = rw all-leaves (ap (xorList others) (last-share [] ∙ append-nil lastDrawn))
 
-  sum-is : ownSum ≡ xorList others (lastDrawn ++ ownAux hash p x salt root)
+  sum-is : ownSum ≡ xorList others (lastDrawn ++ ownAux hash p x run)
   unfolding ownSum total others ownShare
   sum-is =
       rw all-leaves
       (ap₂ xorList
-      (total-ext p (λ i. true) (λ i. share hash p salt i (ownState hash p x salt root i) (ownAux hash p x salt root))
-      (λ i. share hash p salt i (ownState hash p x salt root i) []) last (λ i l e. other-share (ownAux hash p x salt root) [] i l))
-      (last-share (ownAux hash p x salt root)))
+      (total-ext p (λ i. true) (λ i. share hash p (run .prefix) i (ownState hash p x run i) (ownAux hash p x run))
+      (λ i. share hash p (run .prefix) i (ownState hash p x run i) []) last (λ i l e. other-share (ownAux hash p x run) [] i l))
+      (last-share (ownAux hash p x run)))
 
   module _ (hash-length : (s : List ℕ) (n : ℕ) → length (hash s n) ≡ n) where
-    length-lastDrawn : length lastDrawn ≡ 8 * p .t
+    length-lastDrawn : length lastDrawn ≡ atX p
     unfolding lastDrawn
-    length-lastDrawn = hash-length _ (8 * p .t)
+    length-lastDrawn = hash-length _ (atX p)
 
-    pub sum-front : take (8 * p .t) ownSum ≡ take (8 * p .t) (drawn hash p x salt root)
+    pub sum-front : take (atX p) ownSum ≡ take (atX p) (drawn hash p x run)
     sum-front =
-        ap (take (8 * p .t)) sum-is ∙ take-xorList (8 * p .t) others (lastDrawn ++ ownAux hash p x salt root)
-        ∙ ap (xorList (take (8 * p .t) others))
-        (take-at lastDrawn (ownAux hash p x salt root) (8 * p .t) length-lastDrawn
-        ∙ sym (take-all (8 * p .t) lastDrawn (le-of-eq length-lastDrawn)))
-        ∙ sym (ap (take (8 * p .t)) drawn-is ∙ take-xorList (8 * p .t) others lastDrawn)
+        ap (take (atX p)) sum-is ∙ take-xorList (atX p) others (lastDrawn ++ ownAux hash p x run)
+        ∙ ap (xorList (take (atX p) others))
+        (take-at lastDrawn (ownAux hash p x run) (atX p) length-lastDrawn
+        ∙ sym (take-all (atX p) lastDrawn (le-of-eq length-lastDrawn)))
+        ∙ sym (ap (take (atX p)) drawn-is ∙ take-xorList (atX p) others lastDrawn)
 
-    drawn-back : drop (8 * p .t) (drawn hash p x salt root) ≡ drop (8 * p .t) others
+    drawn-back : drop (atX p) (drawn hash p x run) ≡ drop (atX p) others
     drawn-back =
-        ap (drop (8 * p .t)) drawn-is ∙ drop-xorList (8 * p .t) others lastDrawn
-        ∙ ap (xorList (drop (8 * p .t) others)) (drop-of-length-le lastDrawn (le-of-eq length-lastDrawn))
-        ∙ xorList-nil (drop (8 * p .t) others)
+        ap (drop (atX p)) drawn-is ∙ drop-xorList (atX p) others lastDrawn
+        ∙ ap (xorList (drop (atX p) others)) (drop-of-length-le lastDrawn (le-of-eq length-lastDrawn))
+        ∙ xorList-nil (drop (atX p) others)
 
     module _ (secret : Secret p x) where
-      pub sum-back : drop (8 * p .t) ownSum ≡ wanted hash p x salt root
+      pub sum-back : drop (atX p) ownSum ≡ wanted hash p x run
       unfolding ownAux
       sum-back =
-          ap (drop (8 * p .t)) sum-is ∙ drop-xorList (8 * p .t) others (lastDrawn ++ ownAux hash p x salt root)
-          ∙ ap (xorList (drop (8 * p .t) others))
-          (drop-at lastDrawn (ownAux hash p x salt root) (8 * p .t) length-lastDrawn ∙ ap (xorList (wanted hash p x salt root)) drawn-back)
-          ∙ added-twice (drop (8 * p .t) others) (wanted hash p x salt root) size
+          ap (drop (atX p)) sum-is ∙ drop-xorList (atX p) others (lastDrawn ++ ownAux hash p x run)
+          ∙ ap (xorList (drop (atX p) others))
+          (drop-at lastDrawn (ownAux hash p x run) (atX p) length-lastDrawn ∙ ap (xorList (wanted hash p x run)) drawn-back)
+          ∙ added-twice (drop (atX p) others) (wanted hash p x run) size
         where
-          size : length (drop (8 * p .t) others) ≡ length (wanted hash p x salt root)
+          size : length (drop (atX p) others) ≡ length (wanted hash p x run)
           size =
-              let a = length-drawn hash hash-length p x secret salt root in
-              let b = length-wanted hash hash-length p x secret salt root in
-              ap length (sym drawn-back) ∙ length-drop (8 * p .t) (drawn hash p x salt root) ∙ omega arith
+              let a = length-drawn hash hash-length p x secret run in
+              let b = length-wanted hash hash-length p x secret run in
+              ap length (sym drawn-back) ∙ length-drop (atX p) (drawn hash p x run) ∙ omega arith
 
       -- ---- the parts of the sum
 
@@ -134,20 +135,20 @@ module _ (hash : List ℕ → ℕ → List ℕ) (p : Parameters) (x salt root : 
       P = quotientOf (p .w) x
 
       products : ℕ → Point
-      products l = aOf p (drawn hash p x salt root) l ⊠ bOf p (drawn hash p x salt root) l
+      products l = aOf p (drawn hash p x run) l ⊠ bOf p (drawn hash p x run) l
 
-      wanted-is : wanted hash p x salt root ≡ xA ++ (Q ++ (P ++ encode products (p .t)))
+      wanted-is : wanted hash p x run ≡ xA ++ (Q ++ (P ++ encode products (p .t)))
       unfolding wanted xA Q P products
       wanted-is = refl
 
-      behind : (i j n : ℕ) → i ≡ 8 * p .t + j → bytesAt ownSum i n ≡ bytesAt (xA ++ (Q ++ (P ++ encode products (p .t)))) j n
+      behind : (i j n : ℕ) → i ≡ atX p + j → bytesAt ownSum i n ≡ bytesAt (xA ++ (Q ++ (P ++ encode products (p .t)))) j n
       behind i j n e =
-          ap (λ (i : ℕ). bytesAt ownSum i n) e ∙ sym (bytesAt-drop (8 * p .t) ownSum j n)
+          ap (λ (i : ℕ). bytesAt ownSum i n) e ∙ sym (bytesAt-drop (atX p) ownSum j n)
           ∙ ap (λ (s : List ℕ). bytesAt s j n) (sum-back ∙ wanted-is)
 
       pub xA-is : xAOf p ownSum ≡ take (p .k) x
       unfolding xAOf xA
-      xA-is = behind (8 * p .t) 0 (p .k) (omega arith) ∙ bytesAt-inside [] xA _ 0 (p .k) refl (length-xA p x secret)
+      xA-is = behind (atX p) 0 (p .k) (omega arith) ∙ bytesAt-inside [] xA _ 0 (p .k) refl (length-xA p x secret)
 
       Q-is : bytesAt ownSum (atQ p) (p .w) ≡ take (p .w) (locatorOf (p .w) x)
       unfolding Q xA
@@ -176,26 +177,26 @@ module _ (hash : List ℕ → ℕ → List ℕ) (p : Parameters) (x salt root : 
       regroup : (a b c d : List ℕ) → a ++ (b ++ (c ++ d)) ≡ ((a ++ b) ++ c) ++ (d ++ [])
       regroup a b c d = simp (append-assoc, append-nil)
 
-      pub c-is : (l : ℕ) → l < p .t → cOf p ownSum l ≡ aOf p (drawn hash p x salt root) l ⊠ bOf p (drawn hash p x salt root) l
+      pub c-is : (l : ℕ) → l < p .t → cOf p ownSum l ≡ aOf p (drawn hash p x run) l ⊠ bOf p (drawn hash p x run) l
       unfolding cOf products
       c-is l h =
-          let q : atC p + 4 * l ≡ 8 * p .t + (p .k + p .w + p .w + 4 * l) = omega arith in
-          ap (pointAt ownSum) q ∙ sym (pointAt-drop (8 * p .t) ownSum (p .k + p .w + p .w + 4 * l))
+          let q : atC p + 4 * l ≡ atX p + (p .k + p .w + p .w + 4 * l) = omega arith in
+          ap (pointAt ownSum) q ∙ sym (pointAt-drop (atX p) ownSum (p .k + p .w + p .w + 4 * l))
           ∙ ap (λ (s : List ℕ). pointAt s (p .k + p .w + p .w + 4 * l)) (sum-back ∙ wanted-is ∙ regroup xA Q P (encode products (p .t)))
           ∙ pointAt-encode ((xA ++ Q) ++ P) products (p .t) [] (p .k + p .w + p .w) l three h
 
       -- a point within the first 8t bytes
-      in-front : (i : ℕ) → i + 4 < 8 * p .t + 1 → pointAt ownSum i ≡ pointAt (drawn hash p x salt root) i
+      in-front : (i : ℕ) → i + 4 < atX p + 1 → pointAt ownSum i ≡ pointAt (drawn hash p x run) i
       in-front i h =
-          pointAt-ext ownSum (drawn hash p x salt root) i i
-          (λ k l. sym (getD-take (8 * p .t) ownSum (i + k) 0 (omega arith)) ∙ ap (λ (s : List ℕ). getD s (i + k) 0) sum-front
-          ∙ getD-take (8 * p .t) (drawn hash p x salt root) (i + k) 0 (omega arith))
+          pointAt-ext ownSum (drawn hash p x run) i i
+          (λ k l. sym (getD-take (atX p) ownSum (i + k) 0 (omega arith)) ∙ ap (λ (s : List ℕ). getD s (i + k) 0) sum-front
+          ∙ getD-take (atX p) (drawn hash p x run) (i + k) 0 (omega arith))
 
-      pub a-is : (l : ℕ) → l < p .t → aOf p ownSum l ≡ aOf p (drawn hash p x salt root) l
+      pub a-is : (l : ℕ) → l < p .t → aOf p ownSum l ≡ aOf p (drawn hash p x run) l
       unfolding aOf
       a-is l h = in-front (4 * l) (omega arith)
 
-      pub b-is : (l : ℕ) → l < p .t → bOf p ownSum l ≡ bOf p (drawn hash p x salt root) l
+      pub b-is : (l : ℕ) → l < p .t → bOf p ownSum l ≡ bOf p (drawn hash p x run) l
       unfolding bOf
       b-is l h = in-front (atB p + 4 * l) (omega arith)
 

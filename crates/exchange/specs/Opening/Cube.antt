@@ -27,7 +27,8 @@ use Rattle.exchange.specs.Reading.{points, _⊞_, 𝟎}
 use Rattle.exchange.specs.Values.{Key}
 use Rattle.exchange.specs.Parties.{partyOf, sums}
 use Rattle.exchange.specs.Parties.Cube.{axisPartition, G, GG, leafW, leafV, constantW, constantV, alpha-total, beta-total, partV-total}
-use Rattle.exchange.specs.Opening.{Exchange, alphaOf, betaOf, openedShare, disclosed, partyAlpha, partyBeta, formulaV, partyV, announced}
+use Rattle.exchange.specs.Announcing.{partyAlpha, partyBeta, formulaV, partyV}
+use Rattle.exchange.specs.Opening.{Exchange, alphaOf, betaOf, hiddenOn, openedShare, disclosed, announced}
 
 module _ (hash : List ℕ → ℕ → List ℕ) (p : Parameters) (e : Exchange) (key : Key) (l : ℕ) where
   unfoldable pub openedW : ℕ → Point × Point
@@ -47,12 +48,12 @@ module _ (hash : List ℕ → ℕ → List ℕ) (p : Parameters) (e : Exchange) 
   kV = constantV p key (e .message2) l
 
   abbrev pub hats : ℕ → Point × Point
-  hats j = (sums (λ c. partyAlpha hash p e key j c l) (side p), sums (λ c. partyBeta hash p e key j c l) (side p))
+  hats j = (sums (λ c. announced hash p e key j .α c l) (side p), sums (λ c. announced hash p e key j .β c l) (side p))
 
   module _ (inside : e .leaf < leaves p) (j : ℕ) where
     pub opened-announced : (c : ℕ)
-        → (partyAlpha hash p e key j c l, partyBeta hash p e key j c l) ≡ cube.announced GG G (axisPartition p j) kW kV openedW c
-    unfolding partyAlpha partyBeta disclosed partyOf cube.announced openedW party disclosedSum
+        → (announced hash p e key j .α c l, announced hash p e key j .β c l) ≡ cube.announced GG G (axisPartition p j) kW kV openedW c
+    unfolding announced partyAlpha partyBeta disclosed partyOf cube.announced openedW party disclosedSum
     opened-announced c =
         pair-path
         (ap (λ (x : Point). x ⊞ cond (eqb c (digit p j (e .leaf))) (alphaOf p e l) 𝟎)
@@ -70,8 +71,8 @@ module _ (hash : List ℕ → ℕ → List ℕ) (p : Parameters) (e : Exchange) 
     pub opened-totals : hats j ≡ cube.totals GG G (axisPartition p j) kW kV openedW
     unfolding cube.totals
     opened-totals =
-        sym (sum-pairs G G (λ c. (partyAlpha hash p e key j c l, partyBeta hash p e key j c l)) (side p))
-        ∙ sum-ext GG (λ c. (partyAlpha hash p e key j c l, partyBeta hash p e key j c l)) (cube.announced GG G (axisPartition p j) kW kV openedW)
+        sym (sum-pairs G G (λ c. (announced hash p e key j .α c l, announced hash p e key j .β c l)) (side p))
+        ∙ sum-ext GG (λ c. (announced hash p e key j .α c l, announced hash p e key j .β c l)) (cube.announced GG G (axisPartition p j) kW kV openedW)
         (side p) (λ c h. opened-announced c)
 
   abbrev disclosedAll : (Point × Point → Point) → Point
@@ -79,7 +80,7 @@ module _ (hash : List ℕ → ℕ → List ℕ) (p : Parameters) (e : Exchange) 
 
   module _ (j : ℕ) where
     pub opened-hats : hats j ≡ (disclosedAll (λ z. z .0) ⊞ alphaOf p e l, disclosedAll (λ z. z .1) ⊞ betaOf p e l)
-    unfolding partyAlpha partyBeta disclosed partyOf disclosedSum
+    unfolding announced partyAlpha partyBeta disclosed partyOf disclosedSum
     opened-hats =
         pair-path
         (sum-ext G _ _ (side p) (λ c h. ap (λ (x : Point). x ⊞ cond (eqb c (digit p j (e .leaf))) (alphaOf p e l) 𝟎)
@@ -89,29 +90,29 @@ module _ (hash : List ℕ → ℕ → List ℕ) (p : Parameters) (e : Exchange) 
         (beta-total p key (e .message2) l (eqb c 0) (λ i. partyOf p j c i && not (eqb i (e .leaf))) (openedShare hash p e) (leaves p)))
         ∙ disclosed-sum G (axisPartition p j) (e .leaf) _ (kW .1) (betaOf p e l) (digit-lt p j (e .leaf)))
 
-    partyV-balanced : (c : ℕ) → partyV hash p e key j c l ≡ balanced G (side p) (digit p j (e .leaf)) (λ c. formulaV hash p e key j c l) c
-    unfolding partyV balanced
+    partyV-balanced : (c : ℕ) → announced hash p e key j .v c l ≡ balanced G (side p) (digit p j (e .leaf)) (λ c. formulaV p key (e .message2) (disclosed hash p e j) (hiddenOn p e j) c l) c
+    unfolding announced partyV balanced
     partyV-balanced c = refl
 
-    pub opened-v-zero : sums (λ c. partyV hash p e key j c l) (side p) ≡ 𝟎
+    pub opened-v-zero : sums (λ c. announced hash p e key j .v c l) (side p) ≡ 𝟎
     opened-v-zero =
-        sum-ext G (λ c. partyV hash p e key j c l) (balanced G (side p) (digit p j (e .leaf)) (λ c. formulaV hash p e key j c l)) (side p)
+        sum-ext G (λ c. announced hash p e key j .v c l) (balanced G (side p) (digit p j (e .leaf)) (λ c. formulaV p key (e .message2) (disclosed hash p e j) (hiddenOn p e j) c l)) (side p)
         (λ c h. partyV-balanced c)
-        ∙ balanced-zero G (side p) (digit p j (e .leaf)) (λ c. formulaV hash p e key j c l) (digit-lt p j (e .leaf))
+        ∙ balanced-zero G (side p) (digit p j (e .leaf)) (λ c. formulaV p key (e .message2) (disclosed hash p e j) (hiddenOn p e j) c l) (digit-lt p j (e .leaf))
 
   module _ (inside : e .leaf < leaves p) (j : ℕ) where
     pub opened-verified : (c : ℕ) → c < side p
-        → partyV hash p e key j c l ≡ cube.verified GG G (axisPartition p j) kW kV (e .leaf) openedW openedV c
+        → announced hash p e key j .v c l ≡ cube.verified GG G (axisPartition p j) kW kV (e .leaf) openedW openedV c
     unfolding cube.verified
     opened-verified c h =
         partyV-balanced j c
-        ∙ balanced-ext G (side p) (digit p j (e .leaf)) (λ c. formulaV hash p e key j c l)
+        ∙ balanced-ext G (side p) (digit p j (e .leaf)) (λ c. formulaV p key (e .message2) (disclosed hash p e j) (hiddenOn p e j) c l)
         (cube.formula GG G (axisPartition p j) kW kV openedW openedV) (λ c h n. formula-is c n) c h
       where
         formula-is : (c : ℕ) → (c ≡ digit p j (e .leaf) → ⊥)
-            → formulaV hash p e key j c l ≡ cube.formula GG G (axisPartition p j) kW kV openedW openedV c
+            → formulaV p key (e .message2) (disclosed hash p e j) (hiddenOn p e j) c l ≡ cube.formula GG G (axisPartition p j) kW kV openedW openedV c
         formula-is c n =
-            unfold formulaV disclosed partyOf cube.formula party memberSum disclosedSum openedV in
+            unfold announced formulaV disclosed partyOf cube.formula party memberSum disclosedSum openedV in
             partV-total p key (e .message2) l (eqb c 0) (λ i. partyOf p j c i && not (eqb i (e .leaf))) (openedShare hash p e) (leaves p) (hats j)
             ∙ ap (λ (x : Point). cond (eqb c 0) (kV (hats j)) 𝟎 ⊞ x)
             (disclosed-all G (axisPartition p j) (e .leaf) (λ i. leafV p key (e .message2) l (openedShare hash p e) i (hats j)) c n)

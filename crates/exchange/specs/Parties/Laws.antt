@@ -11,7 +11,7 @@
 use mathlib.Core.Path.{_≡_, refl, sym, ap, ap₂, _∙_}
 use mathlib.Core.Bool.{Bool, true, false, cond, not}
 use mathlib.Core.List.{List, _++_}
-use Prim.Native.Nat.{ℕ, zero, suc, _+_, _*_, _≤_, _<_}
+use Prim.Native.Nat.{ℕ, zero, suc, _+_, _≤_, _<_}
 use native.Mathlib.Nat.{le-refl}
 use native.Mathlib.Omega.{arith}
 use lib.ListN.{length, drop, replicate, length-append, length-replicate}
@@ -20,7 +20,7 @@ use Rattle.lists.specs.Sum.{xorList}
 use Rattle.lists.specs.Sum.Laws.{length-xorList, xorList-comm, xorList-assoc, xorList-self, xorList-zeros}
 use Rattle.polynomial.specs.Bytes.{Bytes, bytes-xorList}
 use Rattle.parameters.specs.declared.Parameters.{Parameters}
-use Rattle.layout.specs.Layout.{side, shareLength}
+use Rattle.layout.specs.Layout.{side, rowLength, shareLength}
 use Rattle.exchange.specs.Sequences.Laws.{append-inj, joined-inj}
 use Rattle.exchange.specs.Strings.{string, string6}
 use Rattle.exchange.specs.Reading.{encode}
@@ -107,7 +107,7 @@ unfolding string
 string-inj layer prefix a b e = append-inj prefix a prefix b refl (ap (drop 1) e) .1
 
 module _ (p : Parameters) where
-  pub length-announcedBytes : (A : Announced) (c : ℕ) → length (announcedBytes p A c) ≡ 12 * p .t
+  pub length-announcedBytes : (A : Announced) (c : ℕ) → length (announcedBytes p A c) ≡ rowLength p
   unfolding announcedBytes
   length-announcedBytes A c =
       length-append (encode (A .α c) (p .t)) (encode (A .β c) (p .t) ++ encode (A .v c) (p .t))
@@ -134,6 +134,6 @@ module _ (p : Parameters) where
   unfolding axisString string6
   axisString-inj prefix j A B e c l hc hl =
       announced-inj A B c
-      (joined-inj (announcedBytes p A) (announcedBytes p B) (side p) (12 * p .t) (λ c h. length-announcedBytes A c)
+      (joined-inj (announcedBytes p A) (announcedBytes p B) (side p) (rowLength p) (λ c h. length-announcedBytes A c)
       (λ c h. length-announcedBytes B c)
       (ap (drop 1) (string-inj 6 prefix _ _ e)) c hc) l hl

@@ -10,7 +10,7 @@ use Rattle.lists.specs.Part.Laws.{part-append-left, part-fits}
 use Rattle.lists.specs.Zeroed.Laws.{zeroed-front}
 use Rattle.answers.specs.declared.Answer.{Answer}
 use Rattle.parameters.specs.declared.Parameters.{Parameters}
-use Rattle.layout.specs.Layout.{leaves, message5Length, workLength}
+use Rattle.layout.specs.Layout.{leaves, message5Length, workLength, axisLength}
 use Rattle.exchange.specs.Strings.{string}
 use Rattle.exchange.specs.Values.{Key}
 use Rattle.exchange.specs.Opening.{exchange}
@@ -22,7 +22,7 @@ use Rattle.extractor.specs.Judged.{Judged}
 module _ (p : Parameters) (t : Transcript) (key : Key) (r : Answer) (area states rows : List ℕ)
     (checked : Checked p (t .message1) (t .message2) (t .message3) (t .leaf) (t .message5) key r area states rows)
     (below : t .leaf < leaves p) (sized : length (t .message5) ≡ message5Length p (t .leaf))
-    (all : length states ≡ 32 * leaves p) (all-rows : length rows ≡ p .axes * (24 * p .t)) where
+    (all : length states ≡ 32 * leaves p) (all-rows : length rows ≡ p .axes * axisLength p) where
   pub judged : (work : List ℕ) (n : ℕ) → n ≡ workLength p → (other other′ : List ℕ)
       → Judged p t key work r (area ++ drop n work) (states ++ other) (rows ++ other′)
   unfolding exchangeOf exchange
@@ -33,5 +33,5 @@ module _ (p : Parameters) (t : Transcript) (key : Key) (r : Answer) (area states
     row = λ j l.
         checked-row checked j l
         ∙ ap (λ (x : List ℕ). string 6 (take 32 (t .message1)) ((j + 1) ∷ x))
-        (sym (part-append-left rows other′ (j * (24 * p .t)) (24 * p .t) (omega (arith, part-fits j (p .axes) (24 * p .t) l))));
+        (sym (part-append-left rows other′ (j * axisLength p) (axisLength p) (omega (arith, part-fits j (p .axes) (axisLength p) l))));
   }

@@ -6,14 +6,14 @@
 use mathlib.Core.Path.{_≡_, sym, ap, subst}
 use mathlib.Core.List.{List}
 use Prim.Native.Nat.{ℕ, _*_, _≤_}
-use native.Mathlib.Nat.{mul-le-mul}
 use native.Mathlib.Omega.{arith}
 use lib.ListN.{length, take}
 use Rattle.shake256.specs.Fips.{SHAKE256}
 use Rattle.answers.specs.declared.Answer.{Answer}
 use Rattle.parameters.specs.declared.Parameters.{Parameters}
 use Rattle.parameters.specs.Limits.{Within}
-use Rattle.layout.specs.Layout.{leaves}
+use Rattle.layout.specs.Layout.Bounds as bounds
+use Rattle.layout.specs.Layout.{leaves, axisLength}
 use Rattle.exchange.specs.Values.{Key}
 use Rattle.exchange.specs.Opening.{exchange}
 use Rattle.exchange.specs.Extractor.{extract}
@@ -27,8 +27,8 @@ use Rattle.extractor.specs.Judged.{viewOf, Judged, shows, viewed, Openin
 pub states-most : (p : Parameters) → Within p → 32 * leaves p ≤ 8192
 states-most p h = omega (arith, leaves-most p h)
 
-pub rows-most : (p : Parameters) → Within p → p .axes * (24 * p .t) ≤ 1536
-rows-most p h = let e : 24 * p .t ≤ 192 = omega arith in mul-le-mul (h .axes-most) e
+pub rows-most : (p : Parameters) → Within p → p .axes * axisLength p ≤ 1536
+rows-most p h = bounds.rows-most p h
 
 module _ (p : Parameters) (t t′ : Transcript) (key : Key) (work out : List ℕ) (early : Early SHAKE256 p t t′ key work out) where
   module _ (states rows others other-rows : List ℕ) (size : length states ≡ 8192) (rows-size : length rows ≡ 1536) (size′ : length others ≡ 8192)

@@ -33,6 +33,7 @@ use Rattle.answers.specs.Checks.Laws.{Done≢Refused}
 use Rattle.parameters.specs.declared.Parameters.{Parameters}
 use Rattle.parameters.specs.Limits.{withinLimits, Within}
 use Rattle.parameters.specs.Limits.Laws.{test-within}
+use Rattle.parameters.specs.Set.{parametersOf}
 use Rattle.relation.specs.Key.{weightOf}
 use Rattle.relation.specs.Admission.{keyLengths, keyChecks}
 use Rattle.text.specs.Fold.{fold, fold-append}
@@ -45,7 +46,7 @@ use Rattle.keytext.specs.Scan.Fields.{Kept, fresh}
 use Rattle.keytext.specs.Scan.Complete.{complete-form}
 use Rattle.keytext.specs.Scan.Values.{countIn, stored, keyRead, key-read, stored-front, length-stored, matrix-hex, y-hex, xA-hex}
 use Rattle.keylisting.specs.Listing.{refusedLine, keyLines, parametersIn, vectorIn, printed, listingOf}
-use Rattle.keylisting.specs.Finish.{parametersRead, rowsOf, sizeOf, readIn, lengthsRead, vectorRead, weighed, readChecks, finishOf}
+use Rattle.keylisting.specs.Finish.{rowsOf, sizeOf, readIn, lengthsRead, vectorRead, weighed, readChecks, finishOf}
 
 -- ---- the sizes within the limits
 
@@ -191,7 +192,7 @@ pub read-malformed : (s : KeyScan) (m y x : ℕ) → complete s ≡ false → Re
 unfolding readChecks
 read-malformed s m y x e = rw e
 
-module _ (s : KeyScan) (m y x : ℕ) (c : complete s ≡ true) {p : Parameters} (r : p ≡ parametersRead (s .numbers)) where
+module _ (s : KeyScan) (m y x : ℕ) (c : complete s ≡ true) {p : Parameters} (r : p ≡ parametersOf (s .numbers)) where
   pub read-parameter : withinLimits p ≡ false → Refused Parameter ≡ readChecks s m y x
   unfolding readChecks
   read-parameter e = rw (c, ap withinLimits (sym r) ∙ e)
@@ -208,8 +209,8 @@ module _ (s : KeyScan) (m y x : ℕ) (c : complete s ≡ true) {p : Parameters} 
 -- what was read, where the three pass
 pub record Read (s : KeyScan) (m y x : ℕ) : Type 0 where
   pub whole : complete s ≡ true
-  pub limits : withinLimits (parametersRead (s .numbers)) ≡ true
-  pub lengths : lengthsRead (parametersRead (s .numbers)) (s .lengths) m y x ≡ true
+  pub limits : withinLimits (parametersOf (s .numbers)) ≡ true
+  pub lengths : lengthsRead (parametersOf (s .numbers)) (s .lengths) m y x ≡ true
 
 three-pass : (a b c : Bool) → checks ((a, Malformed) ∷ (b, Parameter) ∷ (c, Length) ∷ []) ≡ Done → (a ≡ true) × (b ≡ true) × (c ≡ true)
 three-pass false b c h = absurd (Done≢Refused (sym h))
@@ -220,10 +221,10 @@ three-pass true true true h = (refl, refl, refl)
 pub read-done : (s : KeyScan) (m y x : ℕ) → readChecks s m y x ≡ Done → Read s m y x
 unfolding readChecks
 read-done s m y x h =
-    let f = three-pass (complete s) (withinLimits (parametersRead (s .numbers))) (lengthsRead (parametersRead (s .numbers)) (s .lengths) m y x) h in
+    let f = three-pass (complete s) (withinLimits (parametersOf (s .numbers))) (lengthsRead (parametersOf (s .numbers)) (s .lengths) m y x) h in
     record { whole = f .0; limits = f .1; lengths = f .2 }
 
-module _ (s : KeyScan) {m y x : ℕ} {p : Parameters} (r : p ≡ parametersRead (s .numbers)) (d : Read s m y x) where
+module _ (s : KeyScan) {m y x : ℕ} {p : Parameters} (r : p ≡ parametersOf (s .numbers)) (d : Read s m y x) where
   pub read-within : Within p
   read-within = test-within p (ap withinLimits r ∙ d .limits)
 
@@ -242,11 +243,11 @@ module _ (s : KeyScan) (m y x : List ℕ) where
   pub finish-refused : {r : Refusal} → readChecks s (length m) (length y) (length x) ≡ Refused r → finishOf s m y x ≡ refusedLine r
   unfolding finishOf readChecks
   finish-refused h =
-      let p : Parameters = parametersRead (s .numbers) in
+      let p : Parameters = parametersOf (s .numbers) in
       let v : List ℕ = vectorRead p m y x in
       first-refused (p .w) v (complete s) (withinLimits p) (lengthsRead p (s .lengths) (length m) (length y) (length x)) (leb (weightOf v) (p .w)) h
 
-  pub finish-weighed : {p : Parameters} → p ≡ parametersRead (s .numbers) → Read s (length m) (length y) (length x)
+  pub finish-weighed : {p : Parameters} → p ≡ parametersOf (s .numbers) → Read s (length m) (length y) (length x)
       → finishOf s m y x ≡ weighed (p .w) (vectorRead p m y x)
   unfolding finishOf
   finish-weighed r d = rw (d .whole, d .limits, d .lengths) (ap (λ (q : Parameters). weighed (q .w) (vectorRead q m y x)) (sym r))

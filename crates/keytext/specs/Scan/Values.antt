@@ -30,7 +30,7 @@ use Rattle.text.specs.Scanner.Hex.{hexStart, hexHeld, hexStep}
 use Rattle.text.specs.Scanner.Hex.Laws.{hex-accepts, hex-scan, hex-stored, length-hexOut}
 use Rattle.text.specs.declared.hex.HexScan.{HexScan}
 use Rattle.keytext.specs.declared.KeyScan.{KeyScan}
-use Rattle.keyform.specs.Form.{keyForm, wordOf, lastField, numberAt, bytesAt}
+use Rattle.keyform.specs.Form.{keyForm, wordOf, lastField, numbersIn, bytesAt}
 use Rattle.keytext.specs.Scan.{start, withHex, Held, held, onScan, accepted, savedNumbers, savedLengths, closed, fieldEnd, lineEnd, step}
 use Rattle.keytext.specs.Scan.Keeps.{lineByte}
 use Rattle.keytext.specs.Scan.Fields.{Kept, freshScan, fresh, read, word-read, number-read, matrix-read, y-read, xA-read}
@@ -45,7 +45,7 @@ stored d f = fold hexStep (hexHeld hexStart d) f .out
 abbrev pub keyRead : List ℕ → List ℕ → List ℕ → List ℕ → Kept
 keyRead t m y x =
     record {
-      numbers = numberAt t 1 ∷ numberAt t 2 ∷ numberAt t 3 ∷ numberAt t 4 ∷ numberAt t 5 ∷ [];
+      numbers = numbersIn t;
       lengths = countIn m (bytesAt t 1) ∷ countIn y (bytesAt t 2) ∷ countIn x (bytesAt t 3) ∷ [];
       matrix = stored m (fieldAt t 1 1);
       y = stored y (fieldAt t 2 1);

@@ -3,17 +3,22 @@
 -- levels-most    the seed tree has at most 8 levels
 -- leaves-most    there are at most 256 leaves, so a leaf's number is one byte
 -- parties-most   all axes have at most 16 parties together
+-- sums-most      the work area holds at most 9 sums
+-- sums-fit       which take no more room than it has
+-- side-most      an axis has at most 2 parties
+-- axis-most, rows-most   their rows, and those of all axes
 -- share-most     a share has at most 860 bytes
 -- matrix-most    the matrix has at most 255² bytes
 -- work-most      the work area that a call zeroes has at most 16 · 860 bytes
-use mathlib.Core.Path.{_≡_}
+use mathlib.Core.Path.{_≡_, sym, ap, _∙_}
 use Prim.Native.Nat.{ℕ, _+_, _*_, _-_, _^_, _≤_}
-use native.Mathlib.Nat.{one-mul, mul-le-mul}
+use native.Mathlib.Nat.{add-mul, mul-le-mul, mul-le-mul-right}
 use native.Mathlib.Omega.{arith}
 use lib.Pow.{pow-mono}
 use Rattle.parameters.specs.declared.Parameters.{Parameters}
 use Rattle.parameters.specs.Limits.{Within}
-use Rattle.layout.specs.Layout.{bits, side, levels, leaves, shareLength, workLength}
+use Rattle.layout.specs.Layout.Laws.{side-others}
+use Rattle.layout.specs.Layout.{bits, side, others, sumCount, levels, rowLength, axisLength, leaves, shareLength, sumsLength, workLength}
 
 module _ (p : Parameters) (h : Within p) where
   pub levels-most : levels p ≤ 8
@@ -26,6 +31,26 @@ module _ (p : Parameters) (h : Within p) where
   pub parties-most : side p * p .axes ≤ 16
   unfolding bits
   parties-most = omega (arith, h .axes-most)
+
+  pub sums-most : sumCount p ≤ 9
+  unfolding bits
+  sums-most = omega (arith, h .axes-most)
+
+  pub sums-fit : sumsLength p ≤ workLength p
+  unfolding workLength
+  sums-fit =
+      let e : others p * p .axes + 1 * p .axes ≡ side p * p .axes = sym (add-mul (others p) 1 (p .axes)) ∙ ap (λ (n : ℕ). n * p .axes) (omega (arith, side-others p)) in
+      mul-le-mul-right (shareLength p) (omega (arith, h .axes-least))
+
+  pub side-most : side p ≤ 2
+  unfolding bits
+  side-most = omega arith
+
+  pub axis-most : axisLength p ≤ 2 * 96
+  axis-most = let r : rowLength p ≤ 96 = omega (arith, h .t-most) in mul-le-mul side-most r
+
+  pub rows-most : p .axes * axisLength p ≤ 8 * (2 * 96)
+  rows-most = mul-le-mul (h .axes-most) axis-most
 
   pub share-most : shareLength p ≤ 860
   share-most = omega arith

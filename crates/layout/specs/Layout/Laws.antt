@@ -3,6 +3,9 @@
 -- side-pos, leaves-pos     there is a party on every axis, and a leaf
 -- side-is, leaves-is       'Side N = 2, n = 2^D leaves'
 -- bits-least               a party of an axis takes a bit or more
+-- others-pos, side-others  an axis has a party beside the last one
+-- index-lt                 a party's sum is one of those that the work area holds
+-- digit-last               the last leaf is in the last party of every axis
 -- digit-bit                at side 2 a digit is a bit of the leaf's number
 -- coordinate-bit           'Coordinate j (1 to D) of a leaf is bit j−1 of its number, plus 1'
 -- digit-lt                 a leaf's party on an axis is one of the side
@@ -11,15 +14,16 @@
 -- work-is                  'never shorter than 2·D·(k+2w+12t)'
 -- message5-last, message5-other   the length of message 5, without aux and with it
 use mathlib.Core.Path.{_≡_, refl, sym, ap, ap₂, _∙_}
-use mathlib.Core.Bool.{true, false}
+use mathlib.Core.Bool.{Bool, true, false, cond}
 use Prim.Native.Nat.{ℕ, zero, suc, _+_, _-_, _*_, _/_, _%_, _^_, _<_, _≤_}
-use native.Mathlib.Nat.{mul-zero, mul-suc, one-mul, mod-lt}
+use native.Mathlib.Nat.{mul-zero, mul-suc, one-mul, mul-one, mul-add, mod-lt, mul-le-mul-right}
 use native.Mathlib.Omega.{arith}
 use borrow.Author.Tests.{eqb-true, eq-eqb, ne-eqb}
-use lib.Dec.{lit<}
-use lib.Pow.{pow-pos, shr-lt, shr-shr, split}
+use lib.Arith.{digits-div, digits-mod}
+use lib.Dec.{eqb, lit<}
+use lib.Pow.{pow-pos, pow-mono, shr-lt, shr-shr, split, ones-split, ones-lt}
 use Rattle.parameters.specs.declared.Parameters.{Parameters}
-use Rattle.layout.specs.Layout.{bits, side, levels, leaves, digit, coordinate, isLast, auxLength, shareLength, siblingsLength, valuesLength, message5Length, workLength}
+use Rattle.layout.specs.Layout.{bits, side, others, sumCount, sumIndex, levels, leaves, digit, coordinate, isLast, auxLength, shareLength, siblingsLength, valuesLength, message5Length, workLength}
 
 module _ (p : Parameters) where
   pub side-pos : 0 < side p
@@ -39,6 +43,24 @@ module _ (p : Parameters) where
   pub bits-least : 1 ≤ bits p
   unfolding bits
   bits-least = lit< tt
+
+  side-two : 2 ≤ side p
+  side-two = pow-mono {i = 1} bits-least
+
+  pub others-pos : 1 ≤ others p
+  others-pos = omega (arith, side-two)
+
+  pub side-others : side p ≡ suc (others p)
+  side-others = omega (arith, side-two)
+
+  pub index-lt : (j c : ℕ) → j < p .axes → c < others p → sumIndex p j c < sumCount p
+  index-lt j c hj hc =
+      let e : suc c * p .axes ≤ others p * p .axes = mul-le-mul-right (p .axes) hc in
+      let o : cond (eqb c 0) 0 1 ≤ 1 = either (eqb c 0) in omega arith
+    where
+      either : (b : Bool) → cond b 0 1 ≤ 1
+      either true = omega arith
+      either false = omega arith
 
   -- ---- digits
 
@@ -72,12 +94,30 @@ digits-same b (suc d) i i′ h h′ e =
     lowest : (i : ℕ) → i / 2 ^ (b * 0) % 2 ^ b ≡ i % 2 ^ b
     lowest i = rw mul-zero (let e : i / 1 ≡ i = omega arith in ap (λ (x : ℕ). x % 2 ^ b) e)
 
+-- all digits of b bits are the greatest in 2^(b·d) − 1
+all-ones : (b j d : ℕ) → j < d → (2 ^ (b * d) - 1) / 2 ^ (b * j) % 2 ^ b ≡ 2 ^ b - 1
+all-ones b j d h =
+    ap (λ (n : ℕ). (2 ^ n - 1) / 2 ^ (b * j) % 2 ^ b) whole
+    ∙ ap (λ (x : ℕ). x / 2 ^ (b * j) % 2 ^ b) (ones-split (b * k + b) (b * j))
+    ∙ ap (λ (x : ℕ). x % 2 ^ b) (digits-div (2 ^ (b * k + b) - 1) (ones-lt (b * j)) ∙ ones-split (b * k) b)
+    ∙ digits-mod (2 ^ (b * k) - 1) {m = 2 ^ b} {r = 2 ^ b - 1} (ones-lt b)
+  where
+    k : ℕ
+    k = d - j - 1
+
+    whole : b * d ≡ b * k + b + b * j
+    whole = let e : d ≡ k + 1 + j = omega arith in ap (_*_ b) e ∙ mul-add b (k + 1) j ∙ ap (λ (n : ℕ). n + b * j) (mul-add b k 1 ∙ ap (_+_ (b * k)) (mul-one b))
+
 module _ (p : Parameters) where
   pub digits-inj : (i i′ : ℕ) → i < leaves p → i′ < leaves p → ((j : ℕ) → j < p .axes → digit p j i ≡ digit p j i′) → i ≡ i′
   unfolding digit
   digits-inj i i′ h h′ e = digits-same (bits p) (p .axes) i i′ h h′ e
 
   -- ---- leaf n−1
+
+  pub digit-last : (j : ℕ) → j < p .axes → digit p j (leaves p - 1) ≡ others p
+  unfolding digit
+  digit-last j h = all-ones (bits p) j (p .axes) h
 
   pub isLast-true : (i : ℕ) → i ≡ leaves p - 1 → isLast p i ≡ true
   unfolding isLast

@@ -6,7 +6,7 @@
 -- opened-states   from the leaf seeds that an opening's siblings give: the states of the leaves that it discloses
 use mathlib.Core.Path.{_≡_, sym, ap, _∙_}
 use mathlib.Core.List.{List, _++_}
-use Prim.Native.Nat.{ℕ, _-_, _*_, _≤_, _<_}
+use Prim.Native.Nat.{ℕ, _-_, _≤_, _<_}
 use native.Mathlib.Nat.{one-mul}
 use lib.ListN.{length, take, drop}
 use lib.Seq.{drop-at, length-take-le}
@@ -14,7 +14,8 @@ use Rattle.lists.specs.Part.Laws.{tail-back}
 use Rattle.shake256.specs.Fips.{SHAKE256}
 use Rattle.shake256.proofs.Laws.{length-SHAKE256}
 use Rattle.parameters.specs.declared.Parameters.{Parameters}
-use Rattle.layout.specs.Layout.{bits, levels, leaves}
+use Rattle.layout.specs.Layout.{bits, levels, leaves, siblingsLength}
+use Rattle.exchange.specs.Run.{Run}
 use Rattle.exchange.specs.Tree.{leafSeeds, openedSeeds}
 use Rattle.exchange.specs.Leaf.{state}
 use Rattle.exchange.specs.Messages.{ownState}
@@ -33,21 +34,21 @@ pub levels-is : (p : Parameters) → levels p ≡ p .axes
 unfolding bits
 levels-is p = one-mul (p .axes)
 
-module _ (p : Parameters) (x salt root : List ℕ) (sixteen : length root ≡ 16) where
-  at-levels : (i : ℕ) → i < leaves p → stateAt (statesOf salt (laid (leafSeeds SHAKE256 salt (levels p) 1 root)) (leaves p)) i ≡ ownState SHAKE256 p x salt root i
+module _ (p : Parameters) (x : List ℕ) (run : Run) (sixteen : length (run .root) ≡ 16) where
+  at-levels : (i : ℕ) → i < leaves p → stateAt (statesOf (run .prefix) (laid (leafSeeds SHAKE256 (run .prefix) (levels p) 1 (run .root))) (leaves p)) i ≡ ownState SHAKE256 p x run i
   unfolding ownState
   at-levels i h =
-      stateAt-statesOf salt (laid (leafSeeds SHAKE256 salt (levels p) 1 root)) (leaves p) i h
-      ∙ ap (state SHAKE256 salt i) (leafSeeds-part SHAKE256 salt length-SHAKE256 (levels p) 1 root sixteen i h)
+      stateAt-statesOf (run .prefix) (laid (leafSeeds SHAKE256 (run .prefix) (levels p) 1 (run .root))) (leaves p) i h
+      ∙ ap (state SHAKE256 (run .prefix) i) (leafSeeds-part SHAKE256 (run .prefix) length-SHAKE256 (levels p) 1 (run .root) sixteen i h)
 
-  pub own-states : (i : ℕ) → i < leaves p → stateAt (statesOf salt (laid (leafSeeds SHAKE256 salt (p .axes) 1 root)) (leaves p)) i ≡ ownState SHAKE256 p x salt root i
+  pub own-states : (i : ℕ) → i < leaves p → stateAt (statesOf (run .prefix) (laid (leafSeeds SHAKE256 (run .prefix) (p .axes) 1 (run .root))) (leaves p)) i ≡ ownState SHAKE256 p x run i
   own-states i h =
-      ap (λ (l : ℕ). stateAt (statesOf salt (laid (leafSeeds SHAKE256 salt l 1 root)) (leaves p)) i) (sym (levels-is p)) ∙ at-levels i h
+      ap (λ (l : ℕ). stateAt (statesOf (run .prefix) (laid (leafSeeds SHAKE256 (run .prefix) l 1 (run .root))) (leaves p)) i) (sym (levels-is p)) ∙ at-levels i h
 
-module _ (p : Parameters) (e : Exchange) (is-leaf : e .leaf < leaves p) (long : 16 * levels p ≤ length (e .message5)) where
-  path : length (pathOf p e) ≡ 16 * levels p
+module _ (p : Parameters) (e : Exchange) (is-leaf : e .leaf < leaves p) (long : siblingsLength p ≤ length (e .message5)) where
+  path : length (pathOf p e) ≡ siblingsLength p
   unfolding pathOf
-  path = length-take-le (16 * levels p) (e .message5) long
+  path = length-take-le (siblingsLength p) (e .message5) long
 
   opened-at-levels : (i : ℕ) → i < leaves p → (i ≡ e .leaf → ⊥)
       → stateAt (statesOf (e .prefix) (laid (openedSeeds SHAKE256 (e .prefix) (levels p) 1 (e .leaf) (pathOf p e))) (leaves p)) i ≡ openedState SHAKE256 p e i

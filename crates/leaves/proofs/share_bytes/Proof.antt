@@ -1,25 +1,23 @@
--- The leaf's string, absorbed on from the sponge given, gives the bytes; the seed is the front of the state.
+-- The leaf's string, hashed on from the sponge given, gives the bytes; the seed is the front of the state.
 use mathlib.Core.Path.{sym, ap, _∙_}
+use mathlib.Core.List.{List, append-nil}
+use Prim.Native.Nat.{ℕ}
 use borrow.Author.Needs.{needs}
-use lib.ListN.{length}
+use lib.ListN.{length, take}
 use lib.Seq.{length-take-le}
-use Rattle.shake256.specs.declared.Sponge.{Sponge}
-use Rattle.strings.specs.Digest.{digest}
 use Rattle.leaves.specs.After.{bytesAfter}
 use Rattle.leaves.proofs.share_bytes.Statement.{statement}
 use Rattle.leaves.proofs.share_bytes.Tie as tie
 
-slice-aggregate-absorb-leaf : tie.Need-slice-aggregate-absorb-leaf
-slice-aggregate-absorb-leaf c = let start = c .before .before .before in sym (length-take-le 16 (start .args .state .now) (start .pre .seed))
+slice-aggregate-leaf-hash : tie.Need-slice-aggregate-leaf-hash
+slice-aggregate-leaf-hash c = let s : tie.Start = search in sym (length-take-le 16 (s .args .state .now) (s .pre .seed))
 
 returns : tie.Need-returns
-unfolding bytesAfter
 returns c =
-    let absorbing = c .before .before .before .before in
-    let args = absorbing .before .before .before .before .args in
-    c .before .before .digest .ensures ∙ ap (λ (s : Sponge). digest s (length (args .out .now))) (absorbing .absorb-leaf .ensures)
+    let made : tie.After-leaf-hash = search in
+    let s : tie.Start = search in
+    made .leaf-hash .ensures
+    ∙ ap (λ (m : List ℕ). bytesAfter (s .args .shares) (s .args .leaf) m (length (s .args .out .now))) (append-nil (take 16 (s .args .state .now)))
 
 pub share-bytes-spec : {M : Type 1} → statement M
-share-bytes-spec =
-    tie.close
-    (tie.spec slice-aggregate-absorb-leaf (λ c κs. search needs) (λ c κs. search needs) (λ c. search needs) returns)
+share-bytes-spec = tie.close (tie.spec slice-aggregate-leaf-hash (λ c. search needs) (λ c κs. search needs) (λ c. search needs) returns)

@@ -3,30 +3,29 @@
 -- length-bytesAfter   n bytes
 -- bytes-begun         from the start of a layer, the hash of its string
 -- state-begun, draw-begun, share-begun, commitment-begun   from the start of layers 2, 3, 3 and 4, what document 01 says
-use mathlib.Core.Path.{_≡_, refl, ap₂}
+use mathlib.Core.Path.{_≡_, ap₂}
 use mathlib.Core.Bool.{cond}
 use mathlib.Core.List.{List, [], _∷_, _++_}
-use Prim.Native.Nat.{ℕ, _*_}
+use Prim.Native.Nat.{ℕ}
 use lib.ListN.{length, take}
 use Rattle.shake256.specs.declared.Sponge.{Sponge}
-use Rattle.shake256.specs.Stream.{absorbed}
 use Rattle.shake256.specs.Fips.{SHAKE256}
 use Rattle.parameters.specs.declared.Parameters.{Parameters}
-use Rattle.layout.specs.Layout.{isLast, shareLength}
+use Rattle.layout.specs.Layout.{isLast, valuesLength, shareLength}
 use Rattle.exchange.specs.Strings.{string, string2, string3, string4}
 use Rattle.exchange.specs.Leaf.{state, share, commitment}
 use Rattle.strings.specs.Digest.{begun}
-use Rattle.strings.specs.Digest.Laws.{digest-from, length-digest}
+use Rattle.strings.specs.Digest.Laws.{hashed-from, length-hashed}
 use Rattle.leaves.specs.After.{bytesAfter, stateAfter, shareAfter, commitmentAfter}
 
 pub length-bytesAfter : (s : Sponge) (i : ℕ) (m : List ℕ) (n : ℕ) → length (bytesAfter s i m n) ≡ n
 unfolding bytesAfter
-length-bytesAfter s i m n = length-digest (absorbed s (i ∷ m)) n
+length-bytesAfter s i m n = length-hashed s (i ∷ m) n
 
 pub bytes-begun : (layer : ℕ) (s : Sponge) (prefix : List ℕ) (i : ℕ) (m : List ℕ) (n : ℕ) → s ≡ begun layer prefix
     → bytesAfter s i m n ≡ SHAKE256 (string layer prefix (i ∷ m)) n
 unfolding bytesAfter
-bytes-begun layer s prefix i m n b = digest-from layer prefix (i ∷ m) n s (absorbed s (i ∷ m)) b refl
+bytes-begun layer s prefix i m n b = hashed-from layer prefix (i ∷ m) n s b
 
 module _ (s : Sponge) (prefix : List ℕ) where
   pub state-begun : (i : ℕ) (seed : List ℕ) → s ≡ begun 2 prefix → stateAfter s i seed ≡ state SHAKE256 prefix i seed
@@ -41,7 +40,7 @@ module _ (s : Sponge) (prefix : List ℕ) where
     pub share-begun : s ≡ begun 3 prefix → shareAfter s p i st aux ≡ share SHAKE256 p prefix i st aux
     unfolding shareAfter share
     share-begun b =
-        ap₂ (λ (x y : List ℕ). cond (isLast p i) (x ++ aux) y) (draw-begun i (take 16 st) (8 * p .t) b)
+        ap₂ (λ (x y : List ℕ). cond (isLast p i) (x ++ aux) y) (draw-begun i (take 16 st) (valuesLength p) b)
         (draw-begun i (take 16 st) (shareLength p) b)
 
     pub commitment-begun : s ≡ begun 4 prefix → commitmentAfter s p i st aux ≡ commitment SHAKE256 p prefix i st aux

@@ -26,11 +26,11 @@ same-length-2 c = search needs
 returns : tie.Need-returns
 unfolding sWord
 returns c =
+    let g : tie.After-interpolate = search in
+    let k : tie.After-copy = search in
+    let p : tie.Start = search in
     let v = c .before .before .result-line in
-    let g = c .before .before .before .before .before .before .before .before .interpolate in
-    let k = c .before .before .before .before .before .before .before .before .before .before .before .before .copy in
-    let p = c .before .before .before .before .before .before .before .before .before .before .before .before .before .before .before .before .before in
-    (rw (g .ensures, k .ensures) at (v .ensures .0), omega (arith, v .ensures .1, g .kept .0, k .kept .0, p .pre .2))
+    (rw (g .interpolate .ensures, k .copy .ensures) at (v .ensures .0), omega (arith, v .ensures .1, g .interpolate .kept .0, k .copy .kept .0, p .pre .2))
 
 pub interpolant-line-spec : {M : Type 1} → statement M
 interpolant-line-spec =

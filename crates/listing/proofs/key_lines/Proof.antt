@@ -9,6 +9,9 @@ use Rattle.keylisting.specs.Listing.Laws.{key-written}
 use Rattle.listing.proofs.key_lines.Statement.{statement}
 use Rattle.listing.proofs.key_lines.Tie as tie
 
+abbrev back-to-start : tie.After-result-line-arg → tie.Start
+back-to-start c = search
+
 slice-aggregate-result-line : tie.Need-slice-aggregate-result-line
 slice-aggregate-result-line c = search needs
 
@@ -17,55 +20,64 @@ result-line-requires c κs = search needs
 
 locator-line-requires : tie.Need-locator-line-requires
 locator-line-requires c κs =
-    let r = c .before .before .before .before .result-line in
-    let p = c .before .before .before .before .before .before .before .before .before .before .before .before .before .pre in
+    let r : tie.After-result-line = search in
+    let start : tie.Start = search back-to-start in
+    let p = start .pre in
     let w = p .0 in
-    (w, (p .1 .0 .0, p .1 .0 .1, p .1 .1 .0, omega (arith, r .ensures .1, r .kept .0, w .most, w .short, p .1 .0 .2)))
+    (w, (p .1 .0 .0, p .1 .0 .1, p .1 .1 .0, omega (arith, r .result-line .ensures .1, r .result-line .kept .0, w .most, w .short, p .1 .0 .2)))
 
 interpolant-line-requires : tie.Need-interpolant-line-requires
 interpolant-line-requires c κs =
-    let r = c .before .before .before .before .before .before .before .before .before .before .before .result-line in
-    let q = c .before .before .before .before .before .before .locator-line in
-    let p = c .before .before .before .before .before .before .before .before .before .before .before .before .before .before .before .before .before .before .before .before .pre in
+    let q : tie.After-locator-line = search in
+    let r : tie.After-result-line = search in
+    let start : tie.Start = search back-to-start in
+    let p = start .pre in
     let w = p .0 in
-    (p .1 .0 .0, p .1 .0 .1, p .1 .1 .1, w .short, omega (arith, r .ensures .1, r .kept .0, q .ensures .1, q .kept .0, w .most, w .short, p .1 .0 .2))
+    (p .1 .0 .0, p .1 .0 .1, p .1 .1 .1, w .short, omega (arith, r .result-line .ensures .1, r .result-line .kept .0, q .locator-line .ensures .1, q .locator-line .kept .0, w .most, w .short, p .1 .0 .2))
 
 quotient-line-requires : tie.Need-quotient-line-requires
 quotient-line-requires c κs =
-    let r = c .before .before .before .before .before .before .before .before .before .before .before .before .before .before .before .before .before .before .before .result-line in
-    let q = c .before .before .before .before .before .before .before .before .before .before .before .before .before .before .locator-line in
-    let s = c .before .before .before .before .before .before .before .interpolant-line in
-    let p = c .before .before .before .before .before .before .before .before .before .before .before .before .before .before .before .before .before .before .before .before .before .before .before .before .before .before .before .before .pre in
+    let s : tie.After-interpolant-line = search in
+    let q : tie.After-locator-line = search in
+    let r : tie.After-result-line = search in
+    let start : tie.Start = search back-to-start in
+    let p = start .pre in
     let w = p .0 in (
       w,
       (
         p .1 .0 .0,
         p .1 .0 .1,
-        s .kept .1 .1 .1 .0 ∙ p .1 .1 .1,
+        s .interpolant-line .kept .1 .1 .1 .0 ∙ p .1 .1 .1,
         p .1 .1 .2,
-        omega (arith, r .ensures .1, r .kept .0, q .ensures .1, q .kept .0, s .ensures .1, s .kept .0, w .most, w .short, p .1 .0 .2),
+        omega (arith, r .result-line .ensures .1, r .result-line .kept .0, q .locator-line .ensures .1, q .locator-line .kept .0, s .interpolant-line .ensures .1, s .interpolant-line .kept .0, w .most, w .short, p .1 .0 .2),
       ),
     )
 
 vanishing-line-requires : tie.Need-vanishing-line-requires
 vanishing-line-requires c κs =
-    let r = c .before .before .before .before .before .before .before .before .before .before .before .before .before .before .before .before .before .before .before .before .before .before .before .before .before .before .before .before .result-line in
-    let q = c .before .before .before .before .before .before .before .before .before .before .before .before .before .before .before .before .before .before .before .before .before .before .before .locator-line in
-    let s = c .before .before .before .before .before .before .before .before .before .before .before .before .before .before .before .before .interpolant-line in
-    let t = c .before .before .before .before .before .before .before .before .quotient-line in
-    let p = c .before .before .before .before .before .before .before .before .before .before .before .before .before .before .before .before .before .before .before .before .before .before .before .before .before .before .before .before .before .before .before .before .before .before .before .before .before .pre in
+    let t : tie.After-quotient-line = search in
+    let s : tie.After-interpolant-line = search in
+    let q : tie.After-locator-line = search in
+    let r : tie.After-result-line = search in
+    let start : tie.Start = search back-to-start in
+    let p = start .pre in
     let w = p .0 in
     let f = p .1 .1 .3 in (
       p .1 .0 .0,
       p .1 .0 .1,
       omega (arith, f),
       omega (arith, f, w .short),
-      omega (arith, f, r .ensures .1, r .kept .0, q .ensures .1, q .kept .0, s .ensures .1, s .kept .0, t .ensures .1, t .kept .0, w .most, w .short, p .1 .0 .2),
+      omega (arith, f, r .result-line .ensures .1, r .result-line .kept .0, q .locator-line .ensures .1, q .locator-line .kept .0, s .interpolant-line .ensures .1, s .interpolant-line .kept .0, t .quotient-line .ensures .1, t .quotient-line .kept .0, w .most, w .short, p .1 .0 .2),
     )
 
 same-length : tie.Need-same-length
 same-length c =
-    c .before .before .before .before .vanishing-line .kept .0 ∙ c .before .before .before .before .before .before .before .before .before .before .before .before .before .quotient-line .kept .0 ∙ c .before .before .before .before .before .before .before .before .before .before .before .before .before .before .before .before .before .before .before .before .before .interpolant-line .kept .0 ∙ c .before .before .before .before .before .before .before .before .before .before .before .before .before .before .before .before .before .before .before .before .before .before .before .before .before .before .before .before .locator-line .kept .0 ∙ c .before .before .before .before .before .before .before .before .before .before .before .before .before .before .before .before .before .before .before .before .before .before .before .before .before .before .before .before .before .before .before .before .before .result-line .kept .0
+    let after-vanishing-line : tie.After-vanishing-line = search in
+    let after-quotient-line : tie.After-quotient-line = search in
+    let after-interpolant-line : tie.After-interpolant-line = search in
+    let after-locator-line : tie.After-locator-line = search in
+    let after-result-line : tie.After-result-line = search in
+    after-vanishing-line .vanishing-line .kept .0 ∙ after-quotient-line .quotient-line .kept .0 ∙ after-interpolant-line .interpolant-line .kept .0 ∙ after-locator-line .locator-line .kept .0 ∙ after-result-line .result-line .kept .0
 
 same-length-2 : tie.Need-same-length-2
 same-length-2 c = search needs
@@ -82,19 +94,19 @@ same-length-5 c = search needs
 returns : tie.Need-returns
 unfolding vectorWord
 returns c =
-    let r = c .before .before .before .before .before .before .before .before .before .before .before .before .before .before .before .before .before .before .before .before .before .before .before .before .before .before .before .before .before .before .before .before .before .result-line in
-    let q = c .before .before .before .before .before .before .before .before .before .before .before .before .before .before .before .before .before .before .before .before .before .before .before .before .before .before .before .before .locator-line in
-    let s = c .before .before .before .before .before .before .before .before .before .before .before .before .before .before .before .before .before .before .before .before .before .interpolant-line in
-    let t = c .before .before .before .before .before .before .before .before .before .before .before .before .before .quotient-line in
-    let v = c .before .before .before .before .vanishing-line in
-    let p = c .before .before .before .before .before .before .before .before .before .before .before .before .before .before .before .before .before .before .before .before .before .before .before .before .before .before .before .before .before .before .before .before .before .before .before .before .before .before .before .before .before .before in
+    let v : tie.After-vanishing-line = search in
+    let t : tie.After-quotient-line = search in
+    let s : tie.After-interpolant-line = search in
+    let q : tie.After-locator-line = search in
+    let r : tie.After-result-line = search in
+    let p : tie.Start = search back-to-start in
     let a = p .args in
     let w = p .pre .0 in
     let f = p .pre .1 .1 .3 in
     let n : length (a .f .now) - 1 ≡ length (a .x .now) = omega (arith, f) in
     key-written (a .out .now) (a .w) (a .x .now)
-    (omega (arith, f, r .ensures .1, q .ensures .1, s .ensures .1, t .ensures .1, v .ensures .1, w .most, w .short, p .pre .1 .0 .2))
-    (r .ensures .0) (q .ensures .0) (s .ensures .0) (t .ensures .0) (rw n at (v .ensures .0))
+    (omega (arith, f, r .result-line .ensures .1, q .locator-line .ensures .1, s .interpolant-line .ensures .1, t .quotient-line .ensures .1, v .vanishing-line .ensures .1, w .most, w .short, p .pre .1 .0 .2))
+    (r .result-line .ensures .0) (q .locator-line .ensures .0) (s .interpolant-line .ensures .0) (t .quotient-line .ensures .0) (rw n at (v .vanishing-line .ensures .0))
 
 pub key-lines-spec : {M : Type 1} → statement M
 key-lines-spec =

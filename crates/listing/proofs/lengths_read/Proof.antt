@@ -44,7 +44,8 @@ read-in-requires-3 c κs = search needs
 returns-3 : tie.Need-returns-3
 unfolding lengthsRead
 returns-3 c =
-    rw (sym (c .before .before .before .before .read-in .ensures) ∙ not-false _ (c .before .before .before .if1 .left), sym (c .before .before .read-in2 .ensures) ∙ not-false _ (c .before .if2 .left)) (c .read-in3 .ensures)
+    let after-read-in : tie.After-read-in = search in
+    rw (sym (after-read-in .read-in .ensures) ∙ not-false _ (c .before .before .before .if1 .left), sym (c .before .before .read-in2 .ensures) ∙ not-false _ (c .before .if2 .left)) (c .read-in3 .ensures)
 
 pub lengths-read-spec : {M : Type 1} → statement M
 lengths-read-spec =

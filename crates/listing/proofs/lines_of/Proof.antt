@@ -29,41 +29,53 @@ array-borrow-prefix-q c = search needs
 
 slice-aggregate-key-lines : tie.Need-slice-aggregate-key-lines
 slice-aggregate-key-lines c =
-    sym (length-take-le _ _ (omega (arith, c .before .before .before .before .before .room-256 .ensures, c .before .before .before .before .before .before .before .before .pre .0 .most, c .before .before .before .before .before .before .before .before .pre .0 .short)))
+    let after-room-256 : tie.After-room-256 = search in
+    let start : tie.Start = search in
+    sym (length-take-le _ _ (omega (arith, after-room-256 .room-256 .ensures, start .pre .0 .most, start .pre .0 .short)))
 
 array-borrow-prefix-s : tie.Need-array-borrow-prefix-s
 array-borrow-prefix-s c = search needs
 
 slice-aggregate-key-lines-2 : tie.Need-slice-aggregate-key-lines-2
 slice-aggregate-key-lines-2 c =
-    sym (length-take-le _ _ (omega (arith, c .before .before .before .before .before .room-255 .ensures, c .before .before .before .before .before .before .before .before .before .pre .0 .short)))
+    let after-room-255 : tie.After-room-255 = search in
+    let start : tie.Start = search in
+    sym (length-take-le _ _ (omega (arith, after-room-255 .room-255 .ensures, start .pre .0 .short)))
 
 array-borrow-prefix-p : tie.Need-array-borrow-prefix-p
 array-borrow-prefix-p c = search needs
 
 slice-aggregate-key-lines-3 : tie.Need-slice-aggregate-key-lines-3
 slice-aggregate-key-lines-3 c =
-    sym (length-take-le _ _ (omega (arith, c .before .before .before .before .before .room-2552 .ensures, c .before .before .before .before .before .before .before .before .before .before .pre .0 .most, c .before .before .before .before .before .before .before .before .before .before .pre .0 .short)))
+    let after-room-2552 : tie.After-room-2552 = search in
+    let start : tie.Start = search in
+    sym (length-take-le _ _ (omega (arith, after-room-2552 .room-2552 .ensures, start .pre .0 .most, start .pre .0 .short)))
 
 array-borrow-prefix-f : tie.Need-array-borrow-prefix-f
 array-borrow-prefix-f c = search needs
 
 slice-aggregate-key-lines-4 : tie.Need-slice-aggregate-key-lines-4
 slice-aggregate-key-lines-4 c =
-    sym (length-take-le _ _ (omega (arith, c .before .before .before .before .before .room-2562 .ensures, c .before .before .before .before .before .before .before .before .before .before .before .pre .0 .short)))
+    let after-room-2562 : tie.After-room-2562 = search in
+    let start : tie.Start = search in
+    sym (length-take-le _ _ (omega (arith, after-room-2562 .room-2562 .ensures, start .pre .0 .short)))
 
 key-lines-requires : tie.Need-key-lines-requires
 key-lines-requires c κs =
-    let p = c .before .before .before .before .before .before .before .before .before .before .before in
+    let after-room-2562 : tie.After-room-2562 = search in
+    let after-room-2552 : tie.After-room-2552 = search in
+    let after-room-255 : tie.After-room-255 = search in
+    let after-room-256 : tie.After-room-256 = search in
+    let p : tie.Start = search in
     let w = p .pre .0 in (
       w,
       (
         p .pre .1,
         (
-          length-take-le _ _ (omega (arith, c .before .before .before .before .before .before .before .before .room-256 .ensures, w .most, w .short)),
-          length-take-le _ _ (omega (arith, c .before .before .before .before .before .before .before .room-255 .ensures, w .short)),
-          length-take-le _ _ (omega (arith, c .before .before .before .before .before .before .room-2552 .ensures, w .most, w .short)),
-          length-take-le _ _ (omega (arith, c .before .before .before .before .before .room-2562 .ensures, w .short)),
+          length-take-le _ _ (omega (arith, after-room-256 .room-256 .ensures, w .most, w .short)),
+          length-take-le _ _ (omega (arith, after-room-255 .room-255 .ensures, w .short)),
+          length-take-le _ _ (omega (arith, after-room-2552 .room-2552 .ensures, w .most, w .short)),
+          length-take-le _ _ (omega (arith, after-room-2562 .room-2562 .ensures, w .short)),
         ),
       ),
     )

@@ -21,16 +21,19 @@ array-borrow-prefix-x c = search needs
 
 slice-aggregate-weighed : tie.Need-slice-aggregate-weighed
 slice-aggregate-weighed c =
-    sym (length-take-le _ _ (omega (arith, c .before .room-255 .ensures, c .before .before .before .before .before .before .before .before .pre .0 .m-most)))
+    let start : tie.Start = search in
+    sym (length-take-le _ _ (omega (arith, c .before .room-255 .ensures, start .pre .0 .m-most)))
 
 weighed-requires : tie.Need-weighed-requires
 weighed-requires c κs =
-    let p = c .before .before .before .before .before .before .before .before .before .before .before in
-    let r = c .before .before .before .before .room-255 in
+    let r : tie.After-room-255 = search in
+    let after-power-table : tie.After-power-table = search in
+    let after-log-table : tie.After-log-table = search in
+    let p : tie.Start = search in
     let w = p .pre .0 in
     let q = p .pre .1 in
-    let l = length-take-le (p .args .p .m) (r .result) (omega (arith, r .ensures, w .m-most)) in (
-      (c .before .before .before .before .before .before .log-table .ensures, c .before .before .before .before .before .power-table .ensures, q .3),
+    let l = length-take-le (p .args .p .m) (r .room-255 .result) (omega (arith, r .room-255 .ensures, w .m-most)) in (
+      (after-log-table .log-table .ensures, after-power-table .power-table .ensures, q .3),
       (
         w .w-least,
         omega (arith, l, w .w-most),

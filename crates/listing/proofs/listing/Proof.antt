@@ -49,15 +49,16 @@ finish-requires c κs = search needs
 
 returns : tie.Need-returns
 returns c =
-    let a = c .before .before .before .before .before .before .before .before .before .before .before .before .before .before .before .before .before .args in
-    let f = c .before .before .before .before .before .before .before .before .feed in
-    let m = c .before .before .before .before .before .before .before .before .before .before .before .before .before .before .before .matrix-room in
-    let y = c .before .before .before .before .before .before .before .before .before .before .before .before .before .before .vector-room in
-    let x = c .before .before .before .before .before .before .before .before .before .before .before .before .before .vector-room2 in
-    let s = c .before .before .before .before .before .before .before .before .before .before .before .before .new in
+    let f : tie.After-feed = search in
+    let s : tie.After-new = search in
+    let x : tie.After-vector-room2 = search in
+    let y : tie.After-vector-room = search in
+    let m : tie.After-matrix-room = search in
+    let start : tie.Start = search in
+    let a = start .args in
     let e =
-    ap finished (f .ensures ∙ ap (λ (k : KeyScan). fold step (held k (m .result) (y .result) (x .result)) (a .input .now)) (s .ensures))
-    ∙ finish-listing (a .input .now) (m .result) (y .result) (x .result) (room 16256 (m .ensures) (omega arith)) (room 254 (y .ensures) (omega arith)) (room 254 (x .ensures) (omega arith)) in
+    ap finished (f .feed .ensures ∙ ap (λ (k : KeyScan). fold step (held k (m .matrix-room .result) (y .vector-room .result) (x .vector-room2 .result)) (a .input .now)) (s .new .ensures))
+    ∙ finish-listing (a .input .now) (m .matrix-room .result) (y .vector-room .result) (x .vector-room2 .result) (room 16256 (m .matrix-room .ensures) (omega arith)) (room 254 (y .vector-room .ensures) (omega arith)) (room 254 (x .vector-room2 .ensures) (omega arith)) in
     (c .finish .ensures .0 ∙ ap length e, c .finish .ensures .1 ∙ ap (putAt (a .out .now) 0) e)
 
 pub listing-spec : {M : Type 1} → statement M

@@ -23,10 +23,10 @@ same-length-2 c = search needs
 returns : tie.Need-returns
 unfolding locatorWord
 returns c =
+    let g : tie.After-locator = search in
+    let p : tie.Start = search in
     let v = c .before .before .result-line in
-    let g = c .before .before .before .before .before .before .before .before .locator in
-    let p = c .before .before .before .before .before .before .before .before .before .before .before .before .before in
-    (rw (g .ensures) at (v .ensures .0), omega (arith, v .ensures .1, g .kept .1 .1 .0, p .pre .1 .2))
+    (rw (g .locator .ensures) at (v .ensures .0), omega (arith, v .ensures .1, g .locator .kept .1 .1 .0, p .pre .1 .2))
 
 pub locator-line-spec : {M : Type 1} → statement M
 locator-line-spec =

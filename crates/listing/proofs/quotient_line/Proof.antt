@@ -26,10 +26,10 @@ same-length-3 c = search needs
 returns : tie.Need-returns
 unfolding pWord
 returns c =
+    let g : tie.After-quotient = search in
+    let p : tie.Start = search in
     let v = c .before .before .result-line in
-    let g = c .before .before .before .before .before .before .before .before .before .before .quotient in
-    let p = c .before .before .before .before .before .before .before .before .before .before .before .before .before .before .before .before .before in
-    (rw (g .ensures .0) at (v .ensures .0), omega (arith, v .ensures .1, g .kept .1 .1 .1 .0, p .pre .1 .3))
+    (rw (g .quotient .ensures .0) at (v .ensures .0), omega (arith, v .ensures .1, g .quotient .kept .1 .1 .1 .0, p .pre .1 .3))
 
 pub quotient-line-spec : {M : Type 1} → statement M
 quotient-line-spec =

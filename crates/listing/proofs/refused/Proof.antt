@@ -25,20 +25,26 @@ slice-aggregate-put-at-2 c = search needs
 
 put-at-requires-2 : tie.Need-put-at-requires-2
 put-at-requires-2 c κs =
-    omega (arith, refused-end _ (c .before .before .before .before .put-decimal .ensures .0), c .before .before .before .before .put-decimal .kept .0, c .before .before .before .before .before .before .before .before .put-at .kept .0, c .before .before .before .before .before .before .before .before .before .before .before .before .before .pre)
+    let after-put-decimal : tie.After-put-decimal = search in
+    let after-put-at : tie.After-put-at = search in
+    let start : tie.Start = search in
+    omega (arith, refused-end _ (after-put-decimal .put-decimal .ensures .0), after-put-decimal .put-decimal .kept .0, after-put-at .put-at .kept .0, start .pre)
 
 add-result : tie.Need-add-result
 add-result c =
-    omega (arith, refused-end _ (c .before .before .before .before .before .before .before .put-decimal .ensures .0))
+    let after-put-decimal : tie.After-put-decimal = search in
+    omega (arith, refused-end _ (after-put-decimal .put-decimal .ensures .0))
 
 same-length : tie.Need-same-length
 same-length c = search needs
 
 returns : tie.Need-returns
 returns c =
-    let q = c .before .before .before .before .before .before .before in
-    let p = q .before .before .before .before .before .before .before in
-    refused-written _ (p .before .before .args .r) (p .before .before .pre) (p .refusal-number .ensures) (c .before .before .before .before .before .before .before .before .before .before .before .put-at .ensures) (q .put-decimal .ensures .0) (q .put-decimal .ensures .1)
+    let q : tie.After-put-decimal = search in
+    let after-put-at : tie.After-put-at = search in
+    let p : tie.After-refusal-number = search in
+    let start : tie.Start = search in
+    refused-written _ (start .args .r) (start .pre) (p .refusal-number .ensures) (after-put-at .put-at .ensures) (q .put-decimal .ensures .0) (q .put-decimal .ensures .1)
     (c .before .before .put-at2 .ensures)
 
 pub refused-spec : {M : Type 1} → statement M

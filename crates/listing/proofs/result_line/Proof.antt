@@ -42,9 +42,12 @@ same-length c = search needs
 
 returns : tie.Need-returns
 returns c =
-    let p = c .before .before .before .before .before .before .before .before .before .before .before .before .before .before .before .before .before .before .before .before .before in
+    let after-put-hex : tie.After-put-hex = search in
+    let after-put-at2 : tie.After-put-at2 = search in
+    let after-put-at : tie.After-put-at = search in
+    let p : tie.Start = search in
     let a = p .args in
-    line-written (a .out .now) (a .at) (a .word .now) (a .s .now) (p .pre) (c .before .before .before .before .before .before .before .before .before .before .before .before .before .before .before .before .put-at .ensures) (c .before .before .before .before .before .before .before .before .before .before .before .put-at2 .ensures) (c .before .before .before .before .before .before .before .put-hex .ensures) (c .before .before .put-at3 .ensures)
+    line-written (a .out .now) (a .at) (a .word .now) (a .s .now) (p .pre) (after-put-at .put-at .ensures) (after-put-at2 .put-at2 .ensures) (after-put-hex .put-hex .ensures) (c .before .before .put-at3 .ensures)
 
 pub result-line-spec : {M : Type 1} → statement M
 result-line-spec =

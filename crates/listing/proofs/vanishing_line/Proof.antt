@@ -23,9 +23,9 @@ same-length-2 c = search needs
 returns : tie.Need-returns
 unfolding fWord
 returns c =
+    let g : tie.After-vanishing = search in
     let v = c .before .before .result-line in
-    let g = c .before .before .before .before .before .before .before .before .vanishing in
-    (rw (g .ensures) at (v .ensures .0), omega (arith, v .ensures .1, g .kept .0))
+    (rw (g .vanishing .ensures) at (v .ensures .0), omega (arith, v .ensures .1, g .vanishing .kept .0))
 
 pub vanishing-line-spec : {M : Type 1} → statement M
 vanishing-line-spec =

@@ -24,15 +24,21 @@ same-length-2 c = search needs
 
 returns : tie.Need-returns
 returns c =
-    let v = c .before .before .before .before .before .before .before .before .before .vector .ensures in
-    let a = c .before .before .before .before .before .before .before .before .before .before .before .before .before .before .before .before .args in
-    let e = sym (c .before .before .before .before .before .within-weight .ensures) ∙ not-true _ (c .before .before .before .before .if1 .taken) in
+    let then1 : tie.Then1 = search in
+    let after-within-weight : tie.After-within-weight = search in
+    let after-vector : tie.After-vector = search in
+    let start : tie.Start = search in
+    let v = after-vector .vector .ensures in
+    let a = start .args in
+    let e = sym (after-within-weight .within-weight .ensures) ∙ not-true _ (then1 .if1 .taken) in
     rw (weighed-heavy (a .w) _ (rw v at e)) (c .before .before .refused .ensures)
 
 lines-of-requires : tie.Need-lines-of-requires
 lines-of-requires c κs =
-    let p = c .before .before .before .before .before .before .before .before .before .before .before .before .before .before .pre in
-    let k = c .before .before .before .before .before .before .before .vector .kept .1 .1 .1 .0 in
+    let after-vector : tie.After-vector = search in
+    let start : tie.Start = search in
+    let p = start .pre in
+    let k = after-vector .vector .kept .1 .1 .1 .0 in
     let e = sym (c .before .before .before .within-weight .ensures) ∙ not-false _ (c .before .before .if1 .left) in
     (record { least = p .1 .0; most = omega (arith, k, p .1 .1); light = leb-true _ _ e; short = omega (arith, k, p .1 .2) }, p .0)
 
@@ -44,9 +50,13 @@ same-length-4 c = search needs
 
 returns-2 : tie.Need-returns-2
 returns-2 c =
-    let v = c .before .before .before .before .before .before .before .before .before .before .vector .ensures in
-    let a = c .before .before .before .before .before .before .before .before .before .before .before .before .before .before .before .before .before .args in
-    let e = sym (c .before .before .before .before .before .before .within-weight .ensures) ∙ not-false _ (c .before .before .before .before .before .if1 .left) in
+    let else1 : tie.Else1 = search in
+    let after-within-weight : tie.After-within-weight = search in
+    let after-vector : tie.After-vector = search in
+    let start : tie.Start = search in
+    let v = after-vector .vector .ensures in
+    let a = start .args in
+    let e = sym (after-within-weight .within-weight .ensures) ∙ not-false _ (else1 .if1 .left) in
     rw (weighed-light (a .w) _ (rw v at e)) (rw v at (c .before .before .lines-of .ensures))
 
 pub weighed-spec : {M : Type 1} → statement M

@@ -18,6 +18,7 @@ use native.Mathlib.Omega.{arith}
 use lib.Dec.{eqb}
 use Rattle.algebra.specs.Each.{Each}
 use Rattle.layout.specs.Layout.{leaves}
+use Rattle.exchange.specs.Run.{runOf}
 use Rattle.exchange.specs.Strings.{string4, string5, string7}
 use Rattle.exchange.specs.Parties.{axisString}
 use Rattle.exchange.specs.Messages.{ownState, ownAux, ownCommitment, ownAnnounced}
@@ -38,10 +39,10 @@ module _ (d : ℕ) where
   unfoldable pub ownString : ℕ × ℕ → ℕ × ℕ → List ℕ
   ownString c n =
       cond (eqb (n .0) 7)
-      (string7 salt (λ j. standIn (axisString (p d) salt j (ownAnnounced standIn (p d) x salt root key (message2 (c .0) (c .1)) j)) 32) d)
-      (cond (eqb (n .0) 6) (axisString (p d) salt (n .1 - 1) (ownAnnounced standIn (p d) x salt root key (message2 (c .0) (c .1)) (n .1 - 1)))
-      (cond (eqb (n .0) 5) (string5 salt (ownCommitment standIn (p d) x salt root) (leaves (p d)))
-      (string4 (p d) salt (n .1) (ownState standIn (p d) x salt root (n .1)) (ownAux standIn (p d) x salt root))))
+      (string7 salt (λ j. standIn (axisString (p d) salt j (ownAnnounced standIn (p d) x (runOf salt root) key (message2 (c .0) (c .1)) j)) 32) d)
+      (cond (eqb (n .0) 6) (axisString (p d) salt (n .1 - 1) (ownAnnounced standIn (p d) x (runOf salt root) key (message2 (c .0) (c .1)) (n .1 - 1)))
+      (cond (eqb (n .0) 5) (string5 salt (ownCommitment standIn (p d) x (runOf salt root)) (leaves (p d)))
+      (string4 (p d) salt (n .1) (ownState standIn (p d) x (runOf salt root) (n .1)) (ownAux standIn (p d) x (runOf salt root)))))
 
   unfoldable pub axisColumns : ℕ → List (ℕ × ℕ)
   axisColumns zero = []
@@ -69,18 +70,18 @@ in-axes d (suc n) j l = go (ℕ-discrete j n) (λ h. in-axes d n j h)
 
 module _ (d : ℕ) (axes : Axes d) (r ε u : ℕ) (inside : u < leaves (p d)) where
   abbrev e : Exchange
-  e = honest standIn (p d) x salt root key (message2 r ε) u
+  e = honest standIn (p d) x (runOf salt root) key (message2 r ε) u
 
   honest-is : exchangeOf (transcript d r ε u) ≡ e
   unfolding exchangeOf transcript
-  honest-is = exchange-is standIn (p d) x salt root key (message2 r ε) u refl
+  honest-is = exchange-is standIn (p d) x (runOf salt root) key (message2 r ε) u refl
 
   own : {layer number : ℕ} → Hashed standIn (p d) key e layer number → stringAt standIn (p d) key e layer number ≡ ownString d (r, ε) (layer, number)
   unfolding stringAt ownString
-  own at7 = responseString-is standIn length-standIn (p d) key xA refl refl (secret d axes) salt root (message2 r ε) u inside
-  own (at6 j l) = axisString-is standIn length-standIn (p d) key xA refl refl (secret d axes) salt root (message2 r ε) u inside (j + 1 - 1)
-  own at5 = commitmentString-is standIn (p d) x salt root key (message2 r ε) u length-standIn inside
-  own (at4 i l n) = leafString-is standIn (p d) x salt root key (message2 r ε) u length-standIn inside i l n
+  own at7 = responseString-is standIn length-standIn (p d) key xA refl refl (secret d axes) (runOf salt root) (message2 r ε) u inside
+  own (at6 j l) = axisString-is standIn length-standIn (p d) key xA refl refl (secret d axes) (runOf salt root) (message2 r ε) u inside (j + 1 - 1)
+  own at5 = commitmentString-is standIn (p d) x (runOf salt root) key (message2 r ε) u length-standIn inside
+  own (at4 i l n) = leafString-is standIn (p d) x (runOf salt root) key (message2 r ε) u length-standIn inside i l n
 
 pub record Chosen (d : ℕ) (e : Exchange) : Type 0 where
   pub choice : ℕ × ℕ

@@ -20,6 +20,7 @@ use Rattle.tower.specs.Field.{Point, point}
 use Rattle.answers.specs.declared.Answer.the-variants.{Done}
 use Rattle.parameters.specs.Limits.{Within}
 use Rattle.layout.specs.Layout.{leaves}
+use Rattle.exchange.specs.Run.{runOf}
 use Rattle.exchange.specs.Reading.{bytesAt, pointAt}
 use Rattle.exchange.specs.Values.{pointOf, multiplierOf}
 use Rattle.exchange.specs.Messages.Laws.{Secret, length-message1, length-message3, length-message5, bytes-message5}
@@ -60,11 +61,11 @@ module _ (d : ℕ) (axes : Axes d) where
     pub sent : (u : ℕ) → u < leaves (p d) → Sent (p d) (transcript d r ε u)
     unfolding transcript
     sent u h = record {
-      message1 = length-message1 standIn length-standIn (p d) x secret salt root refl;
+      message1 = length-message1 standIn length-standIn (p d) x secret (runOf salt root) refl;
       message2 = refl;
-      message3 = length-message3 standIn length-standIn (p d) x secret salt root key (message2 r ε);
+      message3 = length-message3 standIn length-standIn (p d) x secret (runOf salt root) key (message2 r ε);
       leaf = h;
-      message5 = length-message5 standIn length-standIn (p d) x secret salt root key (message2 r ε) u;
+      message5 = length-message5 standIn length-standIn (p d) x secret (runOf salt root) key (message2 r ε) u;
     }
 
     pub accepted : (u : ℕ) → u < leaves (p d) → verdict standIn (p d) (exchangeOf (transcript d r ε u)) key ≡ Done
@@ -93,8 +94,8 @@ module _ (d : ℕ) (axes : Axes d) where
       pub in-bytes : InBytes (pair d r ε u u′)
       unfolding pair transcript
       in-bytes = record {
-        one = bytes-message5 standIn bytes-standIn (p d) x (secret .bytes) salt root key (message2 r ε) u;
-        other = bytes-message5 standIn bytes-standIn (p d) x (secret .bytes) salt root key (message2 r ε) u′;
+        one = bytes-message5 standIn bytes-standIn (p d) x (secret .bytes) (runOf salt root) key (message2 r ε) u;
+        other = bytes-message5 standIn bytes-standIn (p d) x (secret .bytes) (runOf salt root) key (message2 r ε) u′;
       }
 
 -- ---- the points

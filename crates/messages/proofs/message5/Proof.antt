@@ -3,6 +3,7 @@ use mathlib.Core.Path.{sym, ap, _∙_}
 use Prim.Native.Nat.{ℕ, _*_}
 use native.Mathlib.Omega.{arith}
 use borrow.Author.Needs.{needs}
+use Rattle.exchange.specs.Run.{runOf}
 use Rattle.encoding.specs.Written.{front-length}
 use Rattle.layout.specs.Layout.Bounds.{leaves-most}
 use Rattle.ownleaves.specs.Own.Laws.{aux-most}
@@ -11,27 +12,37 @@ use Rattle.messages.proofs.message5.Statement.{statement}
 use Rattle.messages.proofs.message5.Tie as tie
 
 mul-size : tie.Need-mul-size
-mul-size c = let s = c .before .before .before .before .before .before .before .before .before in omega (arith, c .leaf-count .ensures, leaves-most (s .args .p) (s .pre .0 .within))
+mul-size c =
+    let s : tie.Start = search in
+    omega (arith, c .leaf-count .ensures, leaves-most (s .args .p) (s .pre .0 .within))
 
 array-borrow-prefix-states : tie.Need-array-borrow-prefix-states
-array-borrow-prefix-states c = let s = c .before .before .before .before .before .before .before .before .before .before .before in omega (arith, c .before .before .leaf-count .ensures, leaves-most (s .args .p) (s .pre .0 .within))
+array-borrow-prefix-states c =
+    let s : tie.Start = search in
+    omega (arith, c .before .before .leaf-count .ensures, leaves-most (s .args .p) (s .pre .0 .within))
 
 slice-aggregate-put-message5 : tie.Need-slice-aggregate-put-message5
 slice-aggregate-put-message5 c =
-    let s = c .before .before .before .before .before .before .before .before .before .before .before .before in front-length _ _ (omega (arith, c .before .before .before .leaf-count .ensures, leaves-most (s .args .p) (s .pre .0 .within)))
+    let s : tie.Start = search in
+    front-length _ _ (omega (arith, c .before .before .before .leaf-count .ensures, leaves-most (s .args .p) (s .pre .0 .within)))
 
 array-borrow-prefix-aux : tie.Need-array-borrow-prefix-aux
-array-borrow-prefix-aux c = let s = c .before .before .before .before .before .before .before .before .before .before .before .before in omega (arith, c .before .before .aux-length .ensures, aux-most (s .args .p) (s .pre .0 .within))
+array-borrow-prefix-aux c =
+    let s : tie.Start = search in
+    omega (arith, c .before .before .aux-length .ensures, aux-most (s .args .p) (s .pre .0 .within))
 
 slice-aggregate-put-message5-2 : tie.Need-slice-aggregate-put-message5-2
 slice-aggregate-put-message5-2 c =
-    let s = c .before .before .before .before .before .before .before .before .before .before .before .before .before in front-length _ _ (omega (arith, c .before .before .before .aux-length .ensures, aux-most (s .args .p) (s .pre .0 .within)))
+    let s : tie.Start = search in
+    front-length _ _ (omega (arith, c .before .before .before .aux-length .ensures, aux-most (s .args .p) (s .pre .0 .within)))
 
 put-message5-requires : tie.Need-put-message5-requires
 put-message5-requires c κs =
-    let s = c .before .before .before .before .before .before .before .before .before .before .before .before .before .before in
-    let n = c .before .before .before .before .before .leaf-count .ensures in
-    let l = c .before .before .before .before .aux-length .ensures in (
+    let after-aux-length : tie.After-aux-length = search in
+    let after-leaf-count : tie.After-leaf-count = search in
+    let s : tie.Start = search in
+    let n = after-leaf-count .leaf-count .ensures in
+    let l = after-aux-length .aux-length .ensures in (
       s .pre .0,
       record { m2-is = s .pre .1 .m2-is; is-leaf = s .pre .2; matrix-is = s .pre .1 .matrix-is; out-is = s .pre .3 },
       sym (front-length _ _ (omega (arith, n, leaves-most (s .args .p) (s .pre .0 .within)))) ∙ ap (λ (n : ℕ). 32 * n) n,
@@ -40,22 +51,13 @@ put-message5-requires c κs =
 
 returns : tie.Need-returns
 returns c =
-    let a = c .before .before .before .before .before .before .before .before .before .before .before .before .before .before .before .before .before .before .before .before .before .args in
-    let made = c .before .before .before .before .before .before .put-message5 .ensures in
-    (made .0 ∙ message5-any (a .p) (a .x .now) (a .salt .now) (a .root .now) (a .matrix .now) (a .y .now) (a .m2 .now) (a .leaf), made .1)
+    let after-put-message5 : tie.After-put-message5 = search in
+    let start : tie.Start = search in
+    let a = start .args in
+    let made = after-put-message5 .put-message5 .ensures in
+    (made .0 ∙ message5-any (a .p) (a .x .now) (runOf (a .prefix .now) (a .root .now)) (a .matrix .now) (a .y .now) (a .m2 .now) (a .leaf), made .1)
 
 pub message5-spec : {M : Type 1} → statement M
-message5-spec =
-    tie.close
-    (tie.spec
-    (λ c κs. search needs)
-    mul-size
-    (λ c κs. search needs)
-    array-borrow-prefix-states
-    slice-aggregate-put-message5
-    array-borrow-prefix-aux
-    slice-aggregate-put-message5-2
-    put-message5-requires
-    (λ c. search needs)
-    (λ c. search needs)
-    returns)
+message5-spec = tie.close (tie.spec (λ c κs. search needs) mul-size (λ c κs. search needs) array-borrow-prefix-states
+    slice-aggregate-put-message5 array-borrow-prefix-aux slice-aggregate-put-message5-2 put-message5-requires
+    (λ c. search needs) (λ c. search needs) returns)

@@ -10,7 +10,7 @@
 use mathlib.Core.Path.{_≡_, refl, sym, ap, ap₂, _∙_}
 use mathlib.Core.Bool.{Bool, true, false, cond}
 use mathlib.Core.List.{List, [], _++_, append-assoc, append-nil}
-use Prim.Native.Nat.{ℕ, _+_, _-_, _*_, _≤_}
+use Prim.Native.Nat.{ℕ, _+_, _-_, _≤_}
 use native.Mathlib.Nat.{le-of-eq}
 use native.Mathlib.Omega.{arith}
 use lib.ListN.{length, take, drop, length-take, length-drop, drop-of-length-le}
@@ -19,7 +19,8 @@ use Rattle.shake256.specs.Fips.{SHAKE256}
 use Rattle.lists.specs.Part.{putAt}
 use Rattle.lists.specs.Part.Laws.{tail-back}
 use Rattle.parameters.specs.declared.Parameters.{Parameters}
-use Rattle.layout.specs.Layout.{bits, isLast, auxLength, message5Length}
+use Rattle.layout.specs.Layout.{levels, isLast, valuesLength, auxLength, siblingsLength, message5Length}
+use Rattle.exchange.specs.Run.{Run}
 use Rattle.exchange.specs.Tree.{siblingSeeds}
 use Rattle.exchange.specs.Leaf.{share, commitment}
 use Rattle.exchange.specs.Reading.{encode}
@@ -27,36 +28,35 @@ use Rattle.exchange.specs.Values.{Key, imageOf, xOf, SOf, alpha, beta, keyOf}
 use Rattle.exchange.specs.Messages.{ownState, ownAux, ownShare, ownCommitment, message5}
 use Rattle.encoding.specs.Written.{front-kept, middle-kept}
 use Rattle.values.specs.Leaf.{leafValues, leafValues-any}
-use Rattle.leafstates.specs.States.Seeds.{levels-is}
 use Rattle.messages.specs.Opening.{leafBytes, openingOf}
 
-pub opening-any : (p : Parameters) (x salt root : List ℕ) (key : Key) (m2 : List ℕ) (leaf : ℕ) (state aux : List ℕ)
-    → state ≡ ownState SHAKE256 p x salt root leaf → aux ≡ ownAux SHAKE256 p x salt root
-    → openingOf p salt root m2 leaf (key .matrix) state aux ≡ message5 SHAKE256 p x salt root key m2 leaf
+pub opening-any : (p : Parameters) (x : List ℕ) (run : Run) (key : Key) (m2 : List ℕ) (leaf : ℕ) (state aux : List ℕ)
+    → state ≡ ownState SHAKE256 p x run leaf → aux ≡ ownAux SHAKE256 p x run
+    → openingOf p run m2 leaf (key .matrix) state aux ≡ message5 SHAKE256 p x run key m2 leaf
 unfolding openingOf leafBytes message5 ownCommitment ownShare
-opening-any p x salt root key m2 leaf state aux es ea =
-    ap₂ (λ (st u : List ℕ). siblingSeeds SHAKE256 salt (p .axes) 1 root leaf
-    ++ ((commitment SHAKE256 p salt leaf st u ++ leafValues p (key .matrix) m2 (share SHAKE256 p salt leaf st u)) ++ cond (isLast p leaf) [] u)) es ea
-    ∙ ap₂ _++_ (ap (λ (l : ℕ). siblingSeeds SHAKE256 salt l 1 root leaf) (sym (levels-is p)))
+opening-any p x run key m2 leaf state aux es ea =
+    ap₂ (λ (st u : List ℕ). siblingSeeds SHAKE256 (run .prefix) (levels p) 1 (run .root) leaf
+    ++ ((commitment SHAKE256 p (run .prefix) leaf st u ++ leafValues p (key .matrix) m2 (share SHAKE256 p (run .prefix) leaf st u)) ++ cond (isLast p leaf) [] u)) es ea
+    ∙ ap (_++_ (siblingSeeds SHAKE256 (run .prefix) (levels p) 1 (run .root) leaf))
     (append-assoc own _ rest
     ∙ ap (_++_ own) (ap (λ (v : List ℕ). v ++ rest) (leafValues-any p key m2 shared) ∙ append-assoc (encode (alpha p key m2 false shared) (p .t)) _ rest))
   where
     own : List ℕ
-    own = commitment SHAKE256 p salt leaf (ownState SHAKE256 p x salt root leaf) (ownAux SHAKE256 p x salt root)
+    own = commitment SHAKE256 p (run .prefix) leaf (ownState SHAKE256 p x run leaf) (ownAux SHAKE256 p x run)
 
     shared : List ℕ
-    shared = share SHAKE256 p salt leaf (ownState SHAKE256 p x salt root leaf) (ownAux SHAKE256 p x salt root)
+    shared = share SHAKE256 p (run .prefix) leaf (ownState SHAKE256 p x run leaf) (ownAux SHAKE256 p x run)
 
     rest : List ℕ
-    rest = cond (isLast p leaf) [] (ownAux SHAKE256 p x salt root)
+    rest = cond (isLast p leaf) [] (ownAux SHAKE256 p x run)
 
-pub message5-any : (p : Parameters) (x salt root matrix y m2 : List ℕ) (leaf : ℕ)
-    → message5 SHAKE256 p x salt root (keyOf matrix []) m2 leaf ≡ message5 SHAKE256 p x salt root (keyOf matrix y) m2 leaf
+pub message5-any : (p : Parameters) (x : List ℕ) (run : Run) (matrix y m2 : List ℕ) (leaf : ℕ)
+    → message5 SHAKE256 p x run (keyOf matrix []) m2 leaf ≡ message5 SHAKE256 p x run (keyOf matrix y) m2 leaf
 unfolding message5 alpha beta SOf xOf imageOf
-message5-any p x salt root matrix y m2 leaf = refl
+message5-any p x run matrix y m2 leaf = refl
 
-pub opening-length : (p : Parameters) (leaf : ℕ) → message5Length p leaf ≡ 16 * p .axes + (32 + 8 * p .t) + cond (isLast p leaf) 0 (auxLength p)
-unfolding message5Length bits
+pub opening-length : (p : Parameters) (leaf : ℕ) → message5Length p leaf ≡ siblingsLength p + (32 + valuesLength p) + cond (isLast p leaf) 0 (auxLength p)
+unfolding message5Length
 opening-length p leaf = omega arith
 
 -- ---- pieces written one after another

@@ -12,7 +12,7 @@ use Rattle.lists.specs.Part.{part}
 use Rattle.answers.specs.declared.Answer.{Answer}
 use Rattle.parameters.specs.declared.Parameters.{Parameters}
 use Rattle.parameters.specs.Limits.{Within}
-use Rattle.layout.specs.Layout.{leaves, message5Length}
+use Rattle.layout.specs.Layout.{leaves, axisLength, message5Length}
 use Rattle.exchange.specs.Strings.{string}
 use Rattle.exchange.specs.Values.{Key}
 use Rattle.exchange.specs.Parties.{axisString}
@@ -56,9 +56,9 @@ module _ {p : Parameters} {m1 m2 m3 : List ℕ} {leaf : ℕ} {m5 : List ℕ} {ke
 
   pub checked-row : (j : ℕ) → j < p .axes
       → axisString p (exchange m1 m2 m3 leaf m5 .prefix) j (announced SHAKE256 p (exchange m1 m2 m3 leaf m5) key j)
-      ≡ string 6 (exchange m1 m2 m3 leaf m5 .prefix) ((j + 1) ∷ part rows (j * (24 * p .t)) (24 * p .t))
+      ≡ string 6 (exchange m1 m2 m3 leaf m5 .prefix) ((j + 1) ∷ part rows (j * axisLength p) (axisLength p))
   checked-row j h =
       sym
       (ap (λ (row : List ℕ). string 6 (exchange m1 m2 m3 leaf m5 .prefix) ((j + 1) ∷ row))
-      (ap (λ (rows : List ℕ). part rows (j * (24 * p .t)) (24 * p .t)) (checked .rows-are) ∙ row-opened p (exchange m1 m2 m3 leaf m5) key j h)
+      (ap (λ (rows : List ℕ). part rows (j * axisLength p) (axisLength p)) (checked .rows-are) ∙ row-opened p (exchange m1 m2 m3 leaf m5) key j h)
       ∙ row-string p (exchange m1 m2 m3 leaf m5) key j)

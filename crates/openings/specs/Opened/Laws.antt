@@ -12,8 +12,7 @@ use lib.ListN.{length}
 use Rattle.shake256.specs.Fips.{SHAKE256}
 use Rattle.lists.specs.Part.{part}
 use Rattle.parameters.specs.declared.Parameters.{Parameters}
-use Rattle.layout.specs.Layout.{side, leaves, message5Length}
-use Rattle.layout.specs.Layout.Laws.{side-is}
+use Rattle.layout.specs.Layout.{side, leaves, rowLength, axisLength, message5Length}
 use Rattle.exchange.specs.Sequences.Laws.{joined-ext, length-joined}
 use Rattle.exchange.specs.Strings.{string, string6, string7}
 use Rattle.exchange.specs.Values.{Key}
@@ -36,19 +35,18 @@ opened-state p e below long i h other =
     opened-states p e below (omega arith) i h other
 
 module _ (p : Parameters) (e : Exchange) (key : Key) where
-  pub length-openedRow : (j : ℕ) → length (openedRow p e key j) ≡ 24 * p .t
+  pub length-openedRow : (j : ℕ) → length (openedRow p e key j) ≡ axisLength p
   unfolding openedRow
   length-openedRow j =
-      length-joined (announcedBytes p (announced SHAKE256 p e key j)) (side p) (12 * p .t) (λ c h. length-announcedBytes p _ c)
-      ∙ ap (λ (n : ℕ). n * (12 * p .t)) (side-is p) ∙ omega arith
+      length-joined (announcedBytes p (announced SHAKE256 p e key j)) (side p) (rowLength p) (λ c h. length-announcedBytes p _ c)
 
-  pub length-openedRows : length (openedRows p e key) ≡ p .axes * (24 * p .t)
+  pub length-openedRows : length (openedRows p e key) ≡ p .axes * axisLength p
   unfolding openedRows
-  length-openedRows = length-joined (openedRow p e key) (p .axes) (24 * p .t) (λ j h. length-openedRow j)
+  length-openedRows = length-joined (openedRow p e key) (p .axes) (axisLength p) (λ j h. length-openedRow j)
 
-  pub row-opened : (j : ℕ) → j < p .axes → part (openedRows p e key) (j * (24 * p .t)) (24 * p .t) ≡ openedRow p e key j
+  pub row-opened : (j : ℕ) → j < p .axes → part (openedRows p e key) (j * axisLength p) (axisLength p) ≡ openedRow p e key j
   unfolding openedRows
-  row-opened j h = part-joined (openedRow p e key) (24 * p .t) (p .axes) (λ j h. length-openedRow j) j h
+  row-opened j h = part-joined (openedRow p e key) (axisLength p) (p .axes) (λ j h. length-openedRow j) j h
 
   pub row-string : (j : ℕ) → string 6 (e .prefix) ((j + 1) ∷ openedRow p e key j) ≡ axisString p (e .prefix) j (announced SHAKE256 p e key j)
   unfolding openedRow axisString string6

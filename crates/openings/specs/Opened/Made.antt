@@ -10,6 +10,7 @@ use mathlib.Core.Path.{_≡_, refl, ap, ap₂, _∙_}
 use mathlib.Core.Bool.{not}
 use mathlib.Core.List.{List, [], _∷_}
 use Prim.Native.Nat.{ℕ, zero, suc, _+_, _-_, _*_, _<_}
+use native.Mathlib.Nat.{zero-mul}
 use native.Mathlib.Omega.{arith}
 use borrow.Author.Tests.{eqb-false, not-true}
 use lib.Dec.{eqb}
@@ -24,7 +25,7 @@ use Rattle.answers.specs.declared.Refusal.the-variants.{Commitment, Response}
 use Rattle.answers.specs.Checks.{checks}
 use Rattle.parameters.specs.declared.Parameters.{Parameters}
 use Rattle.parameters.specs.Limits.{Within}
-use Rattle.layout.specs.Layout.{bits, side, levels, leaves, shareLength, message5Length}
+use Rattle.layout.specs.Layout.{bits, side, leaves, valuesLength, shareLength, siblingsLength, message5Length, sumCount, sumIndex, sumsLength}
 use Rattle.exchange.specs.Sequences.Laws.{joined-ext}
 use Rattle.exchange.specs.Leaf.{share}
 use Rattle.exchange.specs.Values.{Key}
@@ -33,8 +34,10 @@ use Rattle.exchange.specs.Parties.Laws.{total-ext}
 use Rattle.exchange.specs.Opening.{Exchange, exchange, pathOf, commitmentOf, auxOf, openedState, openedShare, disclosed, commitmentString, responseString, verdict}
 use Rattle.leaves.specs.States.{stateAt}
 use Rattle.commitments.specs.Commitments.Laws.{commitments-string}
+use Rattle.parties.specs.Sums.{less, withLast}
 use Rattle.parties.specs.Totals.{disclosedOf}
 use Rattle.parties.specs.Sums.Front.{Known, filled, part-front, front-first, front-second}
+use Rattle.axes.specs.Evaluated.{few-first}
 use Rattle.axes.specs.Announcing.{partyFrom, rowOf}
 use Rattle.axes.specs.Announcing.Strings.{opened-row}
 use Rattle.reader.specs.Message5.{siblingsIn, commitmentIn, valuesIn, auxIn}
@@ -72,11 +75,11 @@ module _ (p : Parameters) (m1 m2 m3 : List ℕ) (leaf : ℕ) (m5 : List ℕ) whe
     area = filled p (take 32 m1) (openedStates p e) leaf (auxIn p m5)
 
     front : List ℕ
-    front = take ((p .axes + 1) * shareLength p) area
+    front = take (sumsLength p) area
 
-    in-front : (j : ℕ) → j < p .axes + 1 → part front (j * shareLength p) (shareLength p) ≡ part area (j * shareLength p) (shareLength p)
+    in-front : (j : ℕ) → j < sumCount p → part front (j * shareLength p) (shareLength p) ≡ part area (j * shareLength p) (shareLength p)
     unfolding front
-    in-front j h = part-front area ((p .axes + 1) * shareLength p) (j * shareLength p) (shareLength p) (part-fits j (p .axes + 1) (shareLength p) h)
+    in-front j h = part-front area (sumsLength p) (j * shareLength p) (shareLength p) (part-fits j (sumCount p) (shareLength p) h)
 
     -- the shares of disclosed leaves
     shares-are : (j c : ℕ)
@@ -87,12 +90,17 @@ module _ (p : Parameters) (m1 m2 m3 : List ℕ) (leaf : ℕ) (m5 : List ℕ) whe
         (λ i l picked. ap (λ (st : List ℕ). share SHAKE256 p (take 32 m1) i st (auxIn p m5))
         (state-is i l (eqb-false i leaf (not-true (eqb i leaf) (and-right (partyOf p j c i) (not (eqb i leaf)) picked)))))
 
+    at-first : (j : ℕ) → j < p .axes → part front (sumIndex p j 0 * shareLength p) (shareLength p) ≡ part area (j * shareLength p) (shareLength p)
+    at-first j h =
+        let e : sumIndex p j 0 ≡ j = omega (arith, zero-mul (p .axes)) in
+        ap (λ (n : ℕ). part front (n * shareLength p) (shareLength p)) e ∙ in-front j (omega (arith, few-first p))
+
     made-parties : (j c : ℕ) → j < p .axes → c < side p → partyFrom p front j c ≡ disclosed SHAKE256 p e j c
-    unfolding partyFrom bits area
+    unfolding partyFrom withLast less bits area
     made-parties j zero hj hc =
-        in-front j (omega arith) ∙ front-first p within (take 32 m1) (openedStates p e) leaf (auxIn p m5) known j hj ∙ shares-are j 0
+        at-first j hj ∙ front-first p within (take 32 m1) (openedStates p e) leaf (auxIn p m5) known j hj ∙ shares-are j 0
     made-parties j (suc zero) hj hc =
-        ap₂ xorList (in-front (p .axes) (omega arith)) (in-front j (omega arith))
+        ap₂ xorList (in-front (p .axes) (omega (arith, few-first p))) (at-first j hj)
         ∙ front-second p within (take 32 m1) (openedStates p e) leaf (auxIn p m5) known j hj ∙ shares-are j 1
     made-parties j (suc (suc c)) hj hc = absurd (omega arith)
 
@@ -103,7 +111,7 @@ module _ (p : Parameters) (m1 m2 m3 : List ℕ) (leaf : ℕ) (m5 : List ℕ) whe
           joined-ext (rowOf p key m2 front leaf (valuesIn p m5)) (openedRow p e key) (p .axes)
           (opened-row SHAKE256 p e key front (valuesIn p m5) below values made-parties)
         where
-          values : valuesIn p m5 ≡ part m5 (16 * levels p + 32) (8 * p .t)
+          values : valuesIn p m5 ≡ part m5 (siblingsLength p + 32) (valuesLength p)
           values = unfold valuesIn in refl
 
       pub verdict-made : judged p m1 m3 leaf (commitmentIn p m5) (auxIn p m5) (openedStates p (exchange m1 m2 m3 leaf m5)) (openedRows p (exchange m1 m2 m3 leaf m5) key)

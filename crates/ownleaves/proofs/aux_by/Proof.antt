@@ -6,14 +6,11 @@ use Rattle.ownleaves.proofs.aux_by.Statement.{statement}
 use Rattle.ownleaves.proofs.aux_by.Tie as tie
 
 returns : tie.Need-returns
-returns c = let s = c .before .before .before .before .before .before .before .before .before .before .before .before .before .before in c .before .before .aux .ensures ∙ ap (auxFor (s .args .p) (s .args .x .now)) (c .before .before .before .before .before .before .before .share-sum .ensures)
+returns c =
+    let after-share-sum : tie.After-share-sum = search in
+    let s : tie.Start = search in
+    c .before .before .aux .ensures ∙ ap (auxFor (s .args .p) (s .args .x .now)) (after-share-sum .share-sum .ensures)
 
 pub aux-by-spec : {M : Type 1} → statement M
-aux-by-spec =
-    tie.close
-    (tie.spec
-    (λ c κs. search needs)
-    (λ c κs. search needs)
-    (λ c. search needs)
-    (λ c. search needs)
-    returns)
+aux-by-spec = tie.close (tie.spec (λ c κs. search needs) (λ c κs. search needs) (λ c. search needs)
+    (λ c. search needs) returns)

@@ -26,7 +26,7 @@ returns c =
     let counted : tie.After-leaf-count = search in
     let s : tie.Start = search in
     filled .leaf-states .ensures
-    ∙ ap₂ (statesOf (s .args .salt .now)) (half-back (s .args .states .now) _ (16 * counted .leaf-count .result) (omega arith) ∙ seeded .leaf-seeds .ensures)
+    ∙ ap₂ (statesOf (s .args .prefix .now)) (half-back (s .args .states .now) _ (16 * counted .leaf-count .result) (omega arith) ∙ seeded .leaf-seeds .ensures)
     (counted .leaf-count .ensures)
 
 pub own-states-spec : {M : Type 1} → statement M

@@ -8,16 +8,15 @@
 use mathlib.Core.Path.{_≡_, refl}
 use mathlib.Core.Bool.{Bool, true, false, cond}
 use mathlib.Core.List.{List, [], _++_, append-nil}
-use Prim.Native.Nat.{ℕ, _*_, _≤_}
+use Prim.Native.Nat.{ℕ, _≤_}
 use native.Mathlib.Omega.{arith}
 use lib.ListN.{length, take}
-use lib.Pow.{pow-mono}
 use lib.Seq.{length-take-le}
 use Rattle.shake256.specs.Fips.{SHAKE256}
 use Rattle.shake256.proofs.Laws.{length-SHAKE256}
 use Rattle.parameters.specs.declared.Parameters.{Parameters}
 use Rattle.parameters.specs.Limits.{Within}
-use Rattle.layout.specs.Layout.{leaves, isLast, shareLength}
+use Rattle.layout.specs.Layout.{leaves, isLast, shareLength, atX}
 use Rattle.layout.specs.Layout.Bounds.{leaves-most}
 use Rattle.exchange.specs.Strings.{string3}
 use Rattle.exchange.specs.Leaf.{share}
@@ -31,7 +30,7 @@ pub drawnLength-le : (p : Parameters) (i : ℕ) → drawnLength p i ≤ shareLen
 unfolding drawnLength
 drawnLength-le p i = go (isLast p i)
   where
-    go : (t : Bool) → cond t (8 * p .t) (shareLength p) ≤ shareLength p
+    go : (t : Bool) → cond t (atX p) (shareLength p) ≤ shareLength p
     go true = omega arith
     go false = omega arith
 
@@ -54,8 +53,8 @@ module _ (p : Parameters) (prefix states : List ℕ) (i : ℕ) where
       bytes : ℕ → List ℕ
       bytes n = SHAKE256 (string3 prefix i (take 16 (stateAt states i))) n
 
-      go : (t : Bool) → cond t (bytes (8 * p .t) ++ []) (bytes (shareLength p)) ≡ bytes (cond t (8 * p .t) (shareLength p))
-      go true = append-nil (bytes (8 * p .t))
+      go : (t : Bool) → cond t (bytes (atX p) ++ []) (bytes (shareLength p)) ≡ bytes (cond t (atX p) (shareLength p))
+      go true = append-nil (bytes (atX p))
       go false = refl
 
   pub length-drawnShare : length (drawnShare p prefix states i) ≡ drawnLength p i

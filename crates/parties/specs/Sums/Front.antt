@@ -26,7 +26,7 @@ use Rattle.shake256.specs.Fips.{SHAKE256}
 use Rattle.shake256.proofs.Laws.{length-SHAKE256}
 use Rattle.parameters.specs.declared.Parameters.{Parameters}
 use Rattle.parameters.specs.Limits.{Within}
-use Rattle.layout.specs.Layout.{bits, side, leaves, auxLength, shareLength, workLength}
+use Rattle.layout.specs.Layout.{bits, side, leaves, auxLength, shareLength, atX, workLength}
 use Rattle.layout.specs.Layout.Laws.{side-pos}
 use Rattle.exchange.specs.Leaf.{share}
 use Rattle.exchange.specs.Leaf.Laws.{length-share-le}
@@ -73,28 +73,28 @@ module _ (p : Parameters) (within : Within p) (d : List ℕ) (area : length d �
 
   module _ (aux : List ℕ) (short : length aux ≤ auxLength p) where
     padded : List ℕ
-    padded = replicate (8 * p .t) 0 ++ aux
+    padded = replicate (atX p) 0 ++ aux
 
-    length-padded : length padded ≡ 8 * p .t + length aux
+    length-padded : length padded ≡ atX p + length aux
     unfolding padded
-    length-padded = length-append (replicate (8 * p .t) 0) aux ∙ ap (λ (n : ℕ). n + length aux) (length-replicate (8 * p .t) 0)
+    length-padded = length-append (replicate (atX p) 0) aux ∙ ap (λ (n : ℕ). n + length aux) (length-replicate (atX p) 0)
 
     inner : withAux p d aux ≡ xorAt d (p .axes * shareLength p) padded
     unfolding padded
-    inner = xorAt-inner d (p .axes * shareLength p) (8 * p .t) aux (omega (arith, second-fits p within))
+    inner = xorAt-inner d (p .axes * shareLength p) (atX p) aux (omega (arith, second-fits p within))
 
     pub aux-first : (j : ℕ) → j < p .axes → part (withAux p d aux) (j * shareLength p) (shareLength p) ≡ part d (j * shareLength p) (shareLength p)
     aux-first j h =
         ap (λ (l : List ℕ). part l (j * shareLength p) (shareLength p)) inner
         ∙ part-kept d padded (shareLength p) (side p * p .axes) (p .axes) j (omega (arith, length-padded)) blocks second-lt (first-lt j h) (λ e. omega arith)
 
-    pub aux-second : part (withAux p d aux) (p .axes * shareLength p) (shareLength p) ≡ xorAt (part d (p .axes * shareLength p) (shareLength p)) (8 * p .t) aux
+    pub aux-second : part (withAux p d aux) (p .axes * shareLength p) (shareLength p) ≡ xorAt (part d (p .axes * shareLength p) (shareLength p)) (atX p) aux
     unfolding padded
     aux-second =
         let size : length (part d (p .axes * shareLength p) (shareLength p)) ≡ shareLength p = length-part d (p .axes * shareLength p) (shareLength p) (omega (arith, second-fits p within)) in
         ap (λ (l : List ℕ). part l (p .axes * shareLength p) (shareLength p)) inner
         ∙ part-added d (p .axes * shareLength p) padded (shareLength p) (omega (arith, length-padded)) (omega (arith, second-fits p within))
-        ∙ sym (xorAt-zeros (part d (p .axes * shareLength p) (shareLength p)) (8 * p .t) aux (omega arith))
+        ∙ sym (xorAt-zeros (part d (p .axes * shareLength p) (shareLength p)) (atX p) aux (omega arith))
 
 -- ---- the sums
 
@@ -148,12 +148,12 @@ module _ (p : Parameters) (within : Within p) (prefix states : List ℕ) (hidden
 
   -- aux in the sum of all disclosed leaves
   with-aux : Dec (hidden ≡ leaves p - 1)
-      → xorAt (total p (λ i. not (eqb i hidden)) drawn (leaves p)) (8 * p .t) aux ≡ total p (λ i. not (eqb i hidden)) shares (leaves p)
+      → xorAt (total p (λ i. not (eqb i hidden)) drawn (leaves p)) (atX p) aux ≡ total p (λ i. not (eqb i hidden)) shares (leaves p)
   unfolding drawnShare
   with-aux (yes e) =
       let size : length (total p (λ i. not (eqb i hidden)) drawn (leaves p)) ≡ shareLength p = length-total p (λ i. not (eqb i hidden)) drawn (leaves p) (λ i l e. short i) in
-      ap (xorAt (total p (λ i. not (eqb i hidden)) drawn (leaves p)) (8 * p .t)) (known .last-hidden e)
-      ∙ xorAt-nil (total p (λ i. not (eqb i hidden)) drawn (leaves p)) (8 * p .t) (omega arith)
+      ap (xorAt (total p (λ i. not (eqb i hidden)) drawn (leaves p)) (atX p)) (known .last-hidden e)
+      ∙ xorAt-nil (total p (λ i. not (eqb i hidden)) drawn (leaves p)) (atX p) (omega arith)
       ∙ total-without-aux SHAKE256 p prefix (stateAt states) [] aux hidden e
   with-aux (no e) = sym (total-with-aux SHAKE256 p prefix (stateAt states) length-SHAKE256 aux hidden e (known .short))
 
@@ -169,7 +169,7 @@ module _ (p : Parameters) (within : Within p) (prefix states : List ℕ) (hidden
   pub front-total : part (filled p prefix states hidden aux) (p .axes * shareLength p) (shareLength p) ≡ total p (λ i. not (eqb i hidden)) (λ i. share SHAKE256 p prefix i (stateAt states i) aux) (leaves p)
   front-total =
       aux-second p within (withTotal p sums) long aux (known .short)
-      ∙ ap (λ (l : List ℕ). xorAt l (8 * p .t) aux)
+      ∙ ap (λ (l : List ℕ). xorAt l (atX p) aux)
       (total-second p within sums (length-sums p drawn hidden short)
       ∙ ap₂ xorList second (ap (λ (n : ℕ). part sums n (shareLength p)) (sym (zero-mul (shareLength p))) ∙ first 0 (within .axes-least))
       ∙ xorList-comm (total p (disclosedOf p hidden 0 1) drawn (leaves p)) (total p (disclosedOf p hidden 0 0) drawn (leaves p))

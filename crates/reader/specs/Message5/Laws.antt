@@ -15,7 +15,7 @@ use lib.ListN.{length, length-drop, drop-of-length-le}
 use lib.Seq.{length-take-le}
 use Rattle.lists.specs.Part.Laws.{length-part}
 use Rattle.parameters.specs.declared.Parameters.{Parameters}
-use Rattle.layout.specs.Layout.{bits, levels, leaves, isLast, auxLength, message5Length}
+use Rattle.layout.specs.Layout.{bits, leaves, isLast, siblingsLength, valuesLength, auxLength, message5Length}
 use Rattle.layout.specs.Layout.Laws.{isLast-true}
 use Rattle.reader.specs.Message5.{commitmentPlace, valuesPlace, auxPlace, siblingsIn, commitmentIn, valuesIn, auxIn}
 
@@ -31,7 +31,7 @@ module _ (p : Parameters) (leaf : ℕ) (m5 : List ℕ) (long : length m5 ≡ mes
   pub aux-inside : auxPlace p ≤ length m5
   aux-inside = let e = whole in omega arith
 
-  pub length-siblingsIn : length (siblingsIn p m5) ≡ 16 * levels p
+  pub length-siblingsIn : length (siblingsIn p m5) ≡ siblingsLength p
   unfolding siblingsIn
   length-siblingsIn = let h = aux-inside in length-take-le (commitmentPlace p) m5 (omega arith)
 
@@ -39,9 +39,9 @@ module _ (p : Parameters) (leaf : ℕ) (m5 : List ℕ) (long : length m5 ≡ mes
   unfolding commitmentIn
   length-commitmentIn = let h = aux-inside in length-part m5 (commitmentPlace p) 32 (omega arith)
 
-  pub length-valuesIn : length (valuesIn p m5) ≡ 8 * p .t
+  pub length-valuesIn : length (valuesIn p m5) ≡ valuesLength p
   unfolding valuesIn
-  length-valuesIn = length-part m5 (valuesPlace p) (8 * p .t) aux-inside
+  length-valuesIn = length-part m5 (valuesPlace p) (valuesLength p) aux-inside
 
   pub message5-most : length m5 ≤ auxPlace p + auxLength p
   message5-most = go (isLast p leaf) whole

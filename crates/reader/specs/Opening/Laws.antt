@@ -2,12 +2,13 @@
 --
 -- front-is                     what was written at the start is the front
 -- room-asked                   room for the longest parts is room enough
--- siblings-front, values-front what is read stands in the fronts
+-- siblings-taken, values-taken what is read stands in the fronts
+-- siblings-front, values-front the same, where the length is written out
 -- rest-inside, rest-is         what is left is aux
 -- front-read                   a front that is lent, filled and comes back is a write at the start
 -- seeds-length, points-length  the fronts that are lent for the sibling seeds, and for α and β
 -- siblings-read, commitment-read, values-read, left-read   what each part becomes, and how much was left
-use mathlib.Core.Path.{_≡_, sym, ap, _∙_}
+use mathlib.Core.Path.{_≡_, refl, sym, ap, _∙_}
 use Prim.Native.Nat.{ℕ, _+_, _-_, _*_, _≤_}
 use native.Mathlib.Nat.{zero-add}
 use native.Mathlib.Omega.{arith}
@@ -18,7 +19,7 @@ use Rattle.lists.specs.Part.{part, putAt}
 use Rattle.lists.specs.Part.Laws.{length-part}
 use Rattle.parameters.specs.declared.Parameters.{Parameters}
 use Rattle.parameters.specs.Limits.{Within}
-use Rattle.layout.specs.Layout.{message5Length}
+use Rattle.layout.specs.Layout.{siblingsLength, valuesLength, message5Length}
 use Rattle.reader.specs.Message5.{commitmentPlace, valuesPlace, auxPlace, siblingsIn, commitmentIn, valuesIn, auxIn}
 use Rattle.reader.specs.Message5.Laws.{siblings-end, length-siblingsIn, length-valuesIn}
 use Rattle.reader.specs.Taken.{taken, behind}
@@ -40,11 +41,17 @@ room-asked p within m5 s c v long in-s in-c in-v = record {
 
 -- what is read stands in the fronts, where message 5 has its length
 module _ (p : Parameters) (leaf : ℕ) (m5 : List ℕ) (long : length m5 ≡ message5Length p leaf) where
-  pub siblings-front : (w : List ℕ) {w′ : List ℕ} → w′ ≡ putAt w 0 (siblingsIn p m5) → take (16 * p .axes) w′ ≡ siblingsIn p m5
-  siblings-front w e = ap (take (16 * p .axes)) e ∙ front-is w (siblingsIn p m5) (16 * p .axes) (length-siblingsIn p leaf m5 long ∙ siblings-end p)
+  pub siblings-taken : (n : ℕ) → n ≡ siblingsLength p → (w : List ℕ) {w′ : List ℕ} → w′ ≡ putAt w 0 (siblingsIn p m5) → take n w′ ≡ siblingsIn p m5
+  siblings-taken n en w e = ap (take n) e ∙ front-is w (siblingsIn p m5) n (length-siblingsIn p leaf m5 long ∙ sym en)
 
-  pub values-front : (w : List ℕ) {w′ : List ℕ} → w′ ≡ putAt w 0 (valuesIn p m5) → take (8 * p .t) w′ ≡ valuesIn p m5
-  values-front w e = ap (take (8 * p .t)) e ∙ front-is w (valuesIn p m5) (8 * p .t) (length-valuesIn p leaf m5 long)
+  pub siblings-front : (w : List ℕ) {w′ : List ℕ} → w′ ≡ putAt w 0 (siblingsIn p m5) → take (16 * p .axes) w′ ≡ siblingsIn p m5
+  siblings-front = siblings-taken (16 * p .axes) (sym (siblings-end p))
+
+  pub values-taken : (n : ℕ) → n ≡ valuesLength p → (w : List ℕ) {w′ : List ℕ} → w′ ≡ putAt w 0 (valuesIn p m5) → take n w′ ≡ valuesIn p m5
+  values-taken n en w e = ap (take n) e ∙ front-is w (valuesIn p m5) n (length-valuesIn p leaf m5 long ∙ sym en)
+
+  pub values-front : (w : List ℕ) {w′ : List ℕ} → w′ ≡ putAt w 0 (valuesIn p m5) → take (valuesLength p) w′ ≡ valuesIn p m5
+  values-front = values-taken (valuesLength p) refl
 
 module _ (p : Parameters) (m5 : List ℕ) (long : auxPlace p ≤ length m5) {n : ℕ} (rest : n ≡ length (auxIn p m5)) where
   pub rest-inside : n ≤ length m5
@@ -65,25 +72,22 @@ front-read m at n w fits long =
     back : (x : List ℕ) → length x ≡ n → x ++ drop n w ≡ putAt w 0 x
     back x e = ap (λ (k : ℕ). x ++ drop k w) (sym e ∙ sym (zero-add (length x)))
 
-module _ (p : Parameters) (m5 s c v : List ℕ) (asked : Asked p m5 s c v) where
+module _ (p : Parameters) (m5 s c v : List ℕ) (asked : Asked p m5 s c v) (ns nv : ℕ) (es : ns ≡ siblingsLength p) (ev : nv ≡ valuesLength p) where
   -- the fronts that are lent
   abbrev seeds : List ℕ
-  seeds = take (16 * p .axes) s
+  seeds = take ns s
 
   abbrev points : List ℕ
-  points = take (8 * p .t) v
+  points = take nv v
 
-  pub seeds-length : length seeds ≡ 16 * p .axes
-  seeds-length = let e = siblings-end p in length-take-le (16 * p .axes) s (omega (arith, asked .siblings-fit))
+  pub seeds-length : length seeds ≡ ns
+  seeds-length = length-take-le ns s (omega (arith, asked .siblings-fit))
 
-  pub points-length : length points ≡ 8 * p .t
-  points-length = length-take-le (8 * p .t) v (asked .values-fit)
-
-  at-seeds : 0 + length seeds ≡ commitmentPlace p
-  at-seeds = let e = siblings-end p in let l = seeds-length in omega arith
+  pub points-length : length points ≡ nv
+  points-length = length-take-le nv v (omega (arith, asked .values-fit))
 
   second-is : second m5 seeds c points ≡ commitmentPlace p
-  second-is = let e = at-seeds in behind-whole m5 0 seeds (omega (arith, asked .long)) ∙ e
+  second-is = let l = seeds-length in behind-whole m5 0 seeds (omega (arith, asked .long)) ∙ omega arith
 
   third-is : third m5 seeds c points ≡ valuesPlace p
   third-is =
@@ -93,15 +97,14 @@ module _ (p : Parameters) (m5 s c v : List ℕ) (asked : Asked p m5 s c v) where
   last-is : last m5 seeds c points ≡ auxPlace p
   last-is =
       let l = points-length in
-      ap (λ (n : ℕ). behind m5 n points) third-is ∙ behind-whole m5 (valuesPlace p) points (omega (arith, asked .long)) ∙ ap (λ (n : ℕ). valuesPlace p + n) l
+      ap (λ (n : ℕ). behind m5 n points) third-is ∙ behind-whole m5 (valuesPlace p) points (omega (arith, asked .long)) ∙ ap (λ (n : ℕ). valuesPlace p + n) (l ∙ ev)
 
   module _ {n : ℕ} {s′ c′ v′ : List ℕ} (parts : Parts m5 seeds c points n s′ c′ v′) where
-    pub siblings-read : s′ ++ drop (16 * p .axes) s ≡ putAt s 0 (siblingsIn p m5)
+    pub siblings-read : s′ ++ drop ns s ≡ putAt s 0 (siblingsIn p m5)
     unfolding siblingsIn part
     siblings-read =
-        let e = siblings-end p in
-        ap (λ (l : List ℕ). l ++ drop (16 * p .axes) s) (parts .siblings-are)
-        ∙ front-read m5 0 (16 * p .axes) s (omega (arith, asked .siblings-fit)) (omega (arith, asked .long)) ∙ ap (λ (k : ℕ). putAt s 0 (take k m5)) (sym e)
+        ap (λ (l : List ℕ). l ++ drop ns s) (parts .siblings-are)
+        ∙ front-read m5 0 ns s (omega (arith, asked .siblings-fit)) (omega (arith, asked .long)) ∙ ap (λ (k : ℕ). putAt s 0 (take k m5)) es
 
     pub commitment-read : c′ ≡ commitmentIn p m5
     unfolding commitmentIn
@@ -109,11 +112,11 @@ module _ (p : Parameters) (m5 s c v : List ℕ) (asked : Asked p m5 s c v) where
         parts .commitment-is ∙ ap (λ (k : ℕ). taken m5 k c) second-is ∙ taken-whole m5 (commitmentPlace p) c (omega (arith, asked .long, asked .commitment-is))
         ∙ ap (part m5 (commitmentPlace p)) (asked .commitment-is)
 
-    pub values-read : v′ ++ drop (8 * p .t) v ≡ putAt v 0 (valuesIn p m5)
+    pub values-read : v′ ++ drop nv v ≡ putAt v 0 (valuesIn p m5)
     unfolding valuesIn
     values-read =
-        ap (λ (l : List ℕ). l ++ drop (8 * p .t) v) (parts .values-are ∙ ap (λ (k : ℕ). taken m5 k points) third-is)
-        ∙ front-read m5 (valuesPlace p) (8 * p .t) v (asked .values-fit) (asked .long)
+        ap (λ (l : List ℕ). l ++ drop nv v) (parts .values-are ∙ ap (λ (k : ℕ). taken m5 k points) third-is)
+        ∙ front-read m5 (valuesPlace p) nv v (omega (arith, asked .values-fit)) (omega (arith, asked .long)) ∙ ap (λ (k : ℕ). putAt v 0 (part m5 (valuesPlace p) k)) ev
 
     pub left-read : n ≡ length (auxIn p m5)
     unfolding auxIn

@@ -7,10 +7,11 @@ use Rattle.report.proofs.message_line.Tie as tie
 
 returns : tie.Need-returns
 returns c =
-    let n = c .before .before .before .before in
-    let t = n .before .before in
-    let s = t .before .before .before in
-    let a = s .before .before .before .before .args in
+    let n : tie.After-number-field = search in
+    let t : tie.After-put = search in
+    let s : tie.After-shake256 = search in
+    let start : tie.Start = search in
+    let a = start .args in
     let v = rw (s .shake256 .ensures) at (c .result-line .ensures .0) in
     message-written (a .out .now) (a .name .now) (a .message .now) (omega (arith, c .result-line .ensures .1, n .number-field .ensures .1, t .put .ensures .next)) (t .put .ensures) (n .number-field .ensures .0) v
 

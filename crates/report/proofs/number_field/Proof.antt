@@ -7,8 +7,8 @@ use Rattle.report.proofs.number_field.Tie as tie
 
 returns : tie.Need-returns
 returns c =
+    let t : tie.After-put = search in
     let n = c .before .before in
-    let t = n .before .before .before .before in
     let v = n .put-number .ensures in
     (lines-written (omega (arith, v .1, t .put .ensures .next)) (t .put .ensures) (v .0), omega (arith, v .1, t .put .ensures .next))
 

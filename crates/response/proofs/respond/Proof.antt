@@ -18,7 +18,7 @@ returns c =
     let s = c .before .before .before .before .before .before .before .before .before .before .before .before .before .before .before .before .before .before in
     let a = s .args in
     c .before .before .response-digest .ensures
-    ∙ ap₂ (λ (r : List ℕ) (l : ℕ). SHAKE256 (rowsString SHAKE256 (a .p) (a .salt .now) r) l)
+    ∙ ap₂ (λ (r : List ℕ) (l : ℕ). SHAKE256 (rowsString SHAKE256 (a .p) (a .prefix .now) r) l)
     (c .before .before .before .before .before .before .before .axis-rows .ensures .0
     ∙ ap (λ (n : ℕ). joined (rowOf (a .p) (keyOf (a .matrix .now) (a .y .now)) (a .m2 .now) (a .parts .now) n (a .hidden .now)) (a .p .axes))
     (c .before .before .before .before .before .before .before .before .before .leaf-count .ensures))

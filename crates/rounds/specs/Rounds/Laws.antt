@@ -13,15 +13,15 @@ use Rattle.lists.specs.Zeroed.{zeroed}
 use Rattle.lists.specs.Zeroed.Laws.{zeroed-front}
 use Rattle.parameters.specs.declared.Parameters.{Parameters}
 use Rattle.parameters.specs.Limits.{Within}
-use Rattle.relation.specs.Light.{Light}
 use Rattle.layout.specs.Layout.{message2Length, workLength}
+use Rattle.exchange.specs.Run.{Run}
 use Rattle.ownleaves.specs.Asked.{Held}
 use Rattle.rounds.specs.Rounds.{Arrays}
 
 pub m2-fits : (p : Parameters) → Within p → (m2 : List ℕ) → length m2 ≡ 64 → (e : ℕ) → e ≡ message2Length p → e ≤ length m2
 m2-fits p h m2 l e f = omega (arith, h)
 
-module _ (p : Parameters) (x salt root work : List ℕ) (h : Arrays p x salt root work) where
+module _ (p : Parameters) (x : List ℕ) (run : Run) (work : List ℕ) (h : Arrays p x run work) where
   pub x-fits : p .m ≤ length x
   x-fits = let a = h .within in omega arith
 
@@ -29,7 +29,7 @@ module _ (p : Parameters) (x salt root work : List ℕ) (h : Arrays p x salt roo
     pub work-fits : n ≤ length work
     work-fits = omega arith
 
-    pub front-held : Held p (take (p .m) x) salt root (take n work)
+    pub front-held : Held p (take (p .m) x) run (take n work)
     front-held =
         let a = h .within in
         let l : length (take (p .m) x) ≡ p .m = length-take-le (p .m) x x-fits in
@@ -37,7 +37,6 @@ module _ (p : Parameters) (x salt root work : List ℕ) (h : Arrays p x salt roo
           within = h .within;
           light = record { light = h .light; fits = omega arith; short = omega arith };
           x-is = l;
-          salt-is = h .salt-is;
           root-is = h .root-is;
           area-is = length-take-le n work work-fits ∙ e;
         }

@@ -4,7 +4,9 @@ use Rattle.seedtree.proofs.leaf_seeds.Statement.{statement}
 use Rattle.seedtree.proofs.leaf_seeds.Tie as tie
 
 returns : tie.Need-returns
-returns c = c .before .before .below .ensures _ (c .before .before .before .before .begin .ensures)
+returns c =
+    let after-begin : tie.After-begin = search in
+    c .before .before .below .ensures _ (after-begin .begin .ensures)
 
 pub leaf-seeds-spec : {M : Type 1} → statement M
 leaf-seeds-spec = tie.close (tie.spec (λ c κs. search needs) (λ c κs. search needs) (λ c. search needs) returns)

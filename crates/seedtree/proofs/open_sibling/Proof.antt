@@ -16,17 +16,17 @@ use Rattle.seedtree.proofs.open_sibling.Statement.{statement}
 use Rattle.seedtree.proofs.open_sibling.Tie as tie
 
 sub-from : tie.Need-sub-from
-sub-from c = omega (arith, c .skipped .ensures, skipped-le (c .before .before .before .before .args .way))
+sub-from c = let start : tie.Start = search in omega (arith, c .skipped .ensures, skipped-le (start .args .way))
 
 sub-below : tie.Need-sub-below
-sub-below c = omega (arith, c .side .ensures, side-le (c .before .before .before .before .before .before .args .way))
+sub-below c = let start : tie.Start = search in omega (arith, c .side .ensures, side-le (start .args .way))
 
 returns : tie.Need-returns
 returns c prefix b =
+    let sided : tie.After-side = search in
+    let skipping : tie.After-skipped = search in
+    let start : tie.Start = search in
     let filled = c .before .before .below in
-    let sided = c .before .before .before .before in
-    let skipping = sided .before .before in
-    let start = skipping .before .before .before .before in
     let args = start .args in
     let w = args .way in
     let d = args .seeds .now in

@@ -33,7 +33,7 @@ abbrev μ-loop : tie.MeasureT-loop
 
 loop-holds : tie.Need-loop-holds Inv-loop μ-loop
 loop-holds c =
-    let start = c .before .before .before .before .before in
+    let start : tie.Start Inv-loop μ-loop = search in
     let args = start .args in
     let shape = start .pre in
     let way-is = c .root-way .ensures in
@@ -47,8 +47,8 @@ loop-holds c =
 
 open-sibling-requires : tie.Need-open-sibling-requires Inv-loop μ-loop
 open-sibling-requires c κs =
+    let start : tie.Start Inv-loop μ-loop = search in
     let head = c .before .before .before in
-    let start = head .before .before .before .before .before .before in
     let shape = start .pre in
     let d = start .args .d in
     let k = head .loop .k in
@@ -73,21 +73,23 @@ mul-at : tie.Need-mul-at Inv-loop μ-loop
 mul-at c = omega (arith, skipped-fits c)
 
 add-at : tie.Need-add-at Inv-loop μ-loop
-add-at c = omega (arith, skipped-fits c, c .before .before .before .before .before .before .before .loop .inv .long)
+add-at c = let at-loop : tie.At-loop Inv-loop μ-loop = search in omega (arith, skipped-fits c, at-loop .loop .inv .long)
 
 next-requires : tie.Need-next-requires Inv-loop μ-loop
 next-requires c κs =
-    let test = c .before .before .before .before .before .before in
-    let head = test .before in
-    let start = head .before .before .before .before .before .before in
+    let test : tie.In-loop Inv-loop μ-loop = search in
+    let head : tie.At-loop Inv-loop μ-loop = search in
+    let start : tie.Start Inv-loop μ-loop = search in
     omega (arith, onWay-node (start .args .d) (head .loop .k) (head .loop .way) (test .loop-test .taken) (head .loop .inv .on) (start .pre .levels))
 
 loop-again : tie.Need-loop-again Inv-loop μ-loop
 loop-again c =
-    let filled = c .before .before .before .before .open-sibling in
-    let test = c .before .before .before .before .before .before .before in
-    let head = test .before in
-    let start = head .before .before .before .before .before .before in
+    let after-open-sibling : tie.After-open-sibling Inv-loop μ-loop = search in
+    let test : tie.In-loop Inv-loop μ-loop = search in
+    let head : tie.At-loop Inv-loop μ-loop = search in
+    let after-begin : tie.After-begin Inv-loop μ-loop = search in
+    let start : tie.Start Inv-loop μ-loop = search in
+    let filled = after-open-sibling .open-sibling in
     let args = start .args in
     let prefix = args .prefix .now in
     let d = args .d in
@@ -97,7 +99,7 @@ loop-again c =
     let s = args .siblings .now in
     let inv = head .loop .inv in
     let less = test .loop-test .taken in
-    let begun-is = head .before .before .begin .ensures in
+    let begun-is = after-begin .begin .ensures in
     let next-is : c .next .result ≡ next w = c .next .ensures in
     let skipped-is : c .before .skipped .result ≡ skipped w = c .before .skipped .ensures in
     let seeds-is : filled .last .1 .1 .1 .1 .0 ≡ putAt seeds (head .loop .at + 16 * (w .size / 2 - skipped w)) (beside SHAKE256 prefix length-SHAKE256 d s k w) =
@@ -119,21 +121,26 @@ last-level c = omega (arith, c .before .loop .inv .on .within)
 
 last-room : (c : tie.After-loop Inv-loop μ-loop) → c .before .loop .at + 16 ≤ length (c .before .loop .seeds)
 last-room c =
+    let start : tie.Start Inv-loop μ-loop = search in
     let inv = c .before .loop .inv in
-    let d = c .before .before .before .before .before .before .before .args .d in
+    let d = start .args .d in
     omega (arith, inv .room, inv .on .leaf)
 
 put-at-requires : tie.Need-put-at-requires Inv-loop μ-loop
 put-at-requires c κs = last-room (c .before .before)
 
 same-length : tie.Need-same-length Inv-loop μ-loop
-same-length c = c .before .before .put-at .kept .0 ∙ c .before .before .before .before .before .before .loop .inv .long
+same-length c =
+    let at-loop : tie.At-loop Inv-loop μ-loop = search in
+    c .before .before .put-at .kept .0 ∙ at-loop .loop .inv .long
 
 returns : tie.Need-returns Inv-loop μ-loop
 returns c =
-    let last = c .before .before .before .before .before in
-    let head = last .before .loop in
-    let args = last .before .before .before .before .before .before .before .args in
+    let last : tie.After-loop Inv-loop μ-loop = search in
+    let at-loop : tie.At-loop Inv-loop μ-loop = search in
+    let start : tie.Start Inv-loop μ-loop = search in
+    let head = at-loop .loop in
+    let args = start .args in
     c .before .before .put-at .ensures
     ∙ sym (head .inv .rest
     ∙ opened-all SHAKE256 (args .prefix .now) length-SHAKE256 (args .d) (args .siblings .now) (head .k) (head .way) (head .seeds) (head .at) (last-level last))

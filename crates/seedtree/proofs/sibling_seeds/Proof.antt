@@ -39,7 +39,7 @@ written root e =
 
 loop-holds : tie.Need-loop-holds Inv-loop μ-loop
 loop-holds c =
-    let start = c .before .before .before .before .before .before .before .before in
+    let start : tie.Start Inv-loop μ-loop = search in
     let args = start .args in
     let pair = c .before .put-at .last .0 in
     let w = c .before .before .before .root-way .result in
@@ -61,42 +61,49 @@ level c = omega (arith, c .loop-test .taken, c .before .loop .inv .0)
 
 expand-requires : tie.Need-expand-requires Inv-loop μ-loop
 expand-requires c κs =
+    let start : tie.Start Inv-loop μ-loop = search in
     let head = c .before .before in
-    let start = head .before .before .before .before .before .before .before .before .before in
     let inv = head .loop .inv .1 in
     let low = onWay-node (start .args .d) (start .args .d - head .loop .left) (head .loop .way) (level (c .before)) (inv .on) (start .pre .levels) in
     record { node = omega arith; seed = omega (arith, inv .owned, inv .whole); room = omega (arith, inv .whole) }
 
 mul-own : tie.Need-mul-own Inv-loop μ-loop
-mul-own c = omega (arith, c .side .ensures, side-le (c .before .before .before .before .before .loop .way))
+mul-own c =
+    let at-loop : tie.At-loop Inv-loop μ-loop = search in
+    omega (arith, c .side .ensures, side-le (at-loop .loop .way))
 
 sub-other : tie.Need-sub-other Inv-loop μ-loop
-sub-other c = omega (arith, c .side .ensures, side-le (c .before .before .before .before .before .loop .way))
+sub-other c =
+    let at-loop : tie.At-loop Inv-loop μ-loop = search in
+    omega (arith, c .side .ensures, side-le (at-loop .loop .way))
 
 put-at-requires-2 : tie.Need-put-at-requires-2 Inv-loop μ-loop
 put-at-requires-2 c κs =
-    let made = c .before .before .before .before .before in
-    let head = made .before .before .before in
-    let start = head .before .before .before .before .before .before .before .before .before in
+    let made : tie.After-expand Inv-loop μ-loop = search in
+    let in-loop : tie.In-loop Inv-loop μ-loop = search in
+    let head : tie.At-loop Inv-loop μ-loop = search in
+    let start : tie.Start Inv-loop μ-loop = search in
     let both = made .expand .last .1 .1 .0 in
     let size : length both ≡ 32 = made .expand .kept .1 .1 .0 ∙ head .loop .inv .1 .whole in
     let other = 16 - 16 * c .before .before .before .side .result in
-    omega (arith, lent-length both other 16 (omega arith), head .loop .inv .1 .long, start .pre .size, level (made .before .before))
+    omega (arith, lent-length both other 16 (omega arith), head .loop .inv .1 .long, start .pre .size, level in-loop)
 
 next-requires : tie.Need-next-requires Inv-loop μ-loop
 next-requires c κs =
-    let head = c .before .before .before .before .before .before .before .before .before .before .before in
-    let start = head .before .before .before .before .before .before .before .before .before in
-    let test = c .before .before .before .before .before .before .before .before .before .before in
+    let test : tie.In-loop Inv-loop μ-loop = search in
+    let head : tie.At-loop Inv-loop μ-loop = search in
+    let start : tie.Start Inv-loop μ-loop = search in
     omega (arith, onWay-node (start .args .d) (start .args .d - head .loop .left) (head .loop .way) (level test) (head .loop .inv .1 .on) (start .pre .levels))
 
 loop-again : tie.Need-loop-again Inv-loop μ-loop
 loop-again c =
+    let sided : tie.After-side Inv-loop μ-loop = search in
+    let made : tie.After-expand Inv-loop μ-loop = search in
+    let in-loop : tie.In-loop Inv-loop μ-loop = search in
+    let head : tie.At-loop Inv-loop μ-loop = search in
+    let after-begin : tie.After-begin Inv-loop μ-loop = search in
+    let start : tie.Start Inv-loop μ-loop = search in
     let copied = c .before .before .before in
-    let sided = copied .before .before .before .before in
-    let made = sided .before .before in
-    let head = made .before .before .before in
-    let start = head .before .before .before .before .before .before .before .before .before in
     let args = start .args in
     let prefix = args .prefix .now in
     let d = args .d in
@@ -107,8 +114,8 @@ loop-again c =
     let seed = part pair (head .loop .own) 16 in
     let inv = head .loop .inv .1 in
     let both = made .expand .last .1 .1 .0 in
-    let less = level (made .before .before) in
-    let begun-is = head .before .before .before .before .before .begin .ensures in
+    let less = level in-loop in
+    let begun-is = after-begin .begin .ensures in
     let both-is : both ≡ children SHAKE256 prefix (w .node) seed =
     made .expand .ensures prefix begun-is
     ∙ putAt-whole pair (children SHAKE256 prefix (w .node) seed) (length-children SHAKE256 prefix length-SHAKE256 (w .node) seed ∙ sym (inv .whole)) in
@@ -127,7 +134,7 @@ loop-again c =
           ∙ sym (λ t. take (16 * (k + 1)) (out-is t)
           ++ siblingSeeds SHAKE256 prefix (d - (k + 1)) (next-is t .node) (part both (16 * side-is t) 16) (next-is t .leaf));
     } in
-    let one-less : k + 1 ≡ d - (head .loop .left - 1) = omega (arith, made .before .before .loop-test .taken, head .loop .inv .0) in (
+    let one-less : k + 1 ≡ d - (head .loop .left - 1) = omega (arith, in-loop .loop-test .taken, head .loop .inv .0) in (
       omega (arith, head .loop .inv .0),
       subst (Inv prefix d (args .root .now) (args .leaf) (args .out .now) (copied .put-at2 .last .0) (c .next .result) both (16 * sided .side .result)) one-less further,
     )
@@ -137,8 +144,8 @@ same-length c = c .before .loop .inv .1 .long
 
 returns : tie.Need-returns Inv-loop μ-loop
 returns c =
+    let start : tie.Start Inv-loop μ-loop = search in
     let head = c .before .loop in
-    let start = c .before .before .before .before .before .before .before .before .before .before in
     let args = start .args in
     let inv = head .inv .1 in
     let last : args .d - head .left ≡ args .d = omega arith in

@@ -1,11 +1,10 @@
 -- x_A is gathered in front, the words behind it become zero (`prepared-made`), then H'x_A, and y is added where `first` (`vector-made`).
-use mathlib.Core.Path.{_≡_, sym, ap, _∙_}
+use mathlib.Core.Path.{_≡_, sym, ap₂, _∙_}
 use mathlib.Core.List.{_++_}
 use Prim.Native.Nat.{_-_, _≤_}
 use native.Mathlib.Omega.{arith}
 use borrow.Author.Needs.{needs}
 use lib.ListN.{length, take, drop, replicate}
-use Rattle.layout.specs.Layout.{atX}
 use Rattle.exchange.specs.Reading.{bytesAt}
 use Rattle.encoding.specs.Written.{front-length}
 use Rattle.sidebyside.specs.Shares.{shareOf}
@@ -52,6 +51,7 @@ returns c =
     let v : tie.After-image = search in
     let z : tie.After-clear = search in
     let d : tie.After-gather = search in
+    let x : tie.After-at-x = search in
     let s = back-to-start d in
     let y : tie.After-shared-slice-known3 = search in
     let a = s .args in
@@ -59,10 +59,10 @@ returns c =
     λ i h. vector-made p (a .matrix .now) (a .y .now) (a .first) (shareOf p (a .shares .now) i) i h (λ k. omega (arith, y .shared-slice-known3 .given k))
     (s .pre .sized-y) _ _ (v .image .last .0) (u .add-where .last .1 .0) (below s) (gathered d) (prepared z) (v .image .kept .0) (v .image .ensures .0)
     (v .image .ensures .1 i h) (u .add-where .ensures)
-    (d .gather .ensures i ∙ ap (bytesAt (shareOf p (a .shares .now) i) (atX p)) (sym (front s)))
+    (d .gather .ensures i ∙ ap₂ (bytesAt (shareOf p (a .shares .now) i)) (x .at-x .ensures) (sym (front s)))
 
 pub vectors-spec : {M : Type 1} → statement M
-vectors-spec = tie.close (tie.spec (λ c. search needs) (λ c. search needs) (λ c. let s : tie.Start = search in front s)
-    (λ c κs. let s : tie.Start = search in let e = front s in search needs) (λ c. search needs) (λ c. search needs) (λ c. search needs) (λ c. search needs)
+vectors-spec = tie.close (tie.spec (λ c κs. search needs) (λ c. search needs) (λ c. let s : tie.Start = search in front s)
+    (λ c κs. let x : tie.After-at-x = search in let s : tie.Start = search in let e = front s in omega (arith, x .at-x, s .pre)) (λ c. search needs) (λ c. search needs) (λ c. search needs) (λ c. search needs)
     (λ c κs. search needs) image-requires (λ c. search needs) (λ c. search needs) (λ c. search needs) (λ c. search needs) (λ c κs. search needs)
     (λ c. search needs) returns)

@@ -7,14 +7,19 @@ use Rattle.stored.proofs.read_prover.Tie as tie
 
 returns : tie.Need-returns
 unfolding proverFrom part
-returns c = λ i. record {
-  phase = c .before .before .before .before .before .before .before .before .before .phase-from .ensures i;
-  parameters = c .before .before .before .before .before .before .before .before .read-parameters .ensures i;
-  x = c .before .before .before .before .before .before .array255 .ensures i;
-  salt = c .before .before .before .before .array32 .ensures i;
-  root = c .before .before .array16 .ensures i;
-  message2 = c .array64 .ensures i;
-}
+returns c =
+    let after-array32 : tie.After-array32 = search in
+    let after-array255 : tie.After-array255 = search in
+    let after-read-parameters : tie.After-read-parameters = search in
+    let after-phase-from : tie.After-phase-from = search in
+    λ i. record {
+      phase = after-phase-from .phase-from .ensures i;
+      parameters = after-read-parameters .read-parameters .ensures i;
+      x = after-array255 .array255 .ensures i;
+      salt = after-array32 .array32 .ensures i;
+      root = c .before .before .array16 .ensures i;
+      message2 = c .array64 .ensures i;
+    }
 
 pub read-prover-spec : {M : Type 1} → statement M
 read-prover-spec =

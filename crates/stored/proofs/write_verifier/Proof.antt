@@ -18,11 +18,17 @@ lengths c = record {
 }
 
 write-parts-requires : tie.Need-write-parts-requires
-write-parts-requires c κs = omega (arith, lengths (c .before .before .before .before .before .before .before .before .before .before .before .before .before), ap length (c .before .before .before .before .before .before .before .before .before .head .ensures))
+write-parts-requires c κs =
+    let after-head : tie.After-head = search in
+    let start : tie.Start = search in
+    omega (arith, lengths start, ap length (after-head .head .ensures))
 
 returns : tie.Need-returns
 unfolding verifierBytes
-returns c = rw (c .before .before .write-parts .ensures, c .before .before .before .before .before .before .before .before .before .before .before .before .head .ensures, c .before .before .before .before .before .before .before .before .before .before .before .before .before .phase-byte .ensures)
+returns c =
+    let after-head : tie.After-head = search in
+    let after-phase-byte : tie.After-phase-byte = search in
+    rw (c .before .before .write-parts .ensures, after-head .head .ensures, after-phase-byte .phase-byte .ensures)
 
 pub write-verifier-spec : {M : Type 1} → statement M
 write-verifier-spec =

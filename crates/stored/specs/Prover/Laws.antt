@@ -7,13 +7,15 @@
 use mathlib.Core.Path.{_≡_, refl, ap, _∙_}
 use Prim.Native.Nat.{ℕ, _+_}
 use native.Mathlib.Omega.{arith}
-use mathlib.Core.List.{_∷_, _++_}
+use mathlib.Core.List.{[], _∷_, _++_}
 use lib.ListN.{length, length-append}
 use Rattle.lists.specs.Part.{part}
 use Rattle.lists.specs.Part.Laws.{part-whole}
 use Rattle.prover_phase.specs.Phases.{proverPhaseByte}
 use Rattle.prover_phase.specs.Phases.Laws.{phase-back}
 use Rattle.calls.specs.Prover.{Prover, fresh}
+use Rattle.parameters.specs.Set.{setLength, numbersOf, parametersOf}
+use Rattle.parameters.specs.Set.Laws.{length-numbers}
 use Rattle.stored.specs.Parameters.{Small, parameterBytes}
 use Rattle.stored.specs.Parts.{read-front, read-behind}
 use Rattle.stored.specs.Prover.{proverSize, proverBytes, proverFrom}
@@ -32,7 +34,7 @@ pub prover-back : (s : Prover) → ProverLengths s → proverFrom (proverBytes s
 unfolding proverBytes proverFrom
 prover-back s h = λ i. record {
   phase = phase-back (s .phase) i;
-  parameters = s .parameters;
+  parameters = ap parametersOf set i;
   x = (behind 0 255 ∙ read-front (s .x) _ 255 (h .x)) i;
   salt = (behind 255 32 ∙ read-behind (s .x) _ 255 0 32 (h .x) ∙ read-front (s .salt) _ 32 (h .salt)) i;
   root = (behind 287 16 ∙ read-behind (s .x) _ 255 32 16 (h .x) ∙ read-behind (s .salt) _ 32 0 16 (h .salt) ∙ read-front (s .root) _ 16 (h .root)) i;
@@ -41,9 +43,14 @@ prover-back s h = λ i. record {
       ∙ read-behind (s .root) _ 16 0 64 (h .root) ∙ part-whole (s .message2) 64 (omega arith)) i;
 }
   where
+    set : part (proverBytes s) 1 setLength ≡ numbersOf (s .parameters)
+    set =
+        read-behind (proverPhaseByte (s .phase) ∷ []) _ 1 0 setLength refl
+        ∙ read-front (numbersOf (s .parameters)) _ setLength (length-numbers (s .parameters))
+
     behind : (at n : ℕ) → part (proverBytes s) (6 + at) n ≡ part (s .x ++ (s .salt ++ (s .root ++ s .message2))) at n
     behind at n = read-behind (proverPhaseByte (s .phase) ∷ parameterBytes (s .parameters)) _ 6 at n refl
 
 pub fresh-small : (s : Prover) → s ≡ fresh → Small (s .parameters)
 unfolding fresh
-fresh-small s e = rw (ap (λ (z : Prover). z .parameters) e) record { m = omega arith; k = omega arith; w = omega arith; axes = omega arith; t = omega arith }
+fresh-small s e = rw (ap (λ (z : Prover). z .parameters) e) (omega arith, (omega arith, (omega arith, (omega arith, (omega arith, tt)))))

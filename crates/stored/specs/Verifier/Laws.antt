@@ -14,6 +14,8 @@ use Rattle.lists.specs.Part.Laws.{getD-part, part-whole}
 use Rattle.verifier_phase.specs.Phases.{verifierPhaseByte}
 use Rattle.verifier_phase.specs.Phases.Laws.{phase-back}
 use Rattle.calls.specs.Verifier.{Verifier, fresh}
+use Rattle.parameters.specs.Set.{setLength, numbersOf, parametersOf}
+use Rattle.parameters.specs.Set.Laws.{length-numbers}
 use Rattle.stored.specs.Parameters.{Small, parameterBytes}
 use Rattle.stored.specs.Parts.{read-front, read-behind}
 use Rattle.stored.specs.Verifier.{verifierSize, verifierBytes, verifierFrom}
@@ -31,7 +33,7 @@ pub verifier-back : (s : Verifier) → VerifierLengths s → verifierFrom (verif
 unfolding verifierBytes verifierFrom
 verifier-back s h = λ i. record {
   phase = phase-back (s .phase) i;
-  parameters = s .parameters;
+  parameters = ap parametersOf set i;
   message1 = (behind 0 64 ∙ read-front (s .message1) _ 64 (h .message1)) i;
   message2 = (behind 64 64 ∙ read-behind (s .message1) _ 64 0 64 (h .message1) ∙ read-front (s .message2) _ 64 (h .message2)) i;
   message3 =
@@ -44,9 +46,14 @@ verifier-back s h = λ i. record {
       ∙ read-behind (s .message3) _ 32 0 1 (h .message3) ∙ part-whole (s .leaf ∷ []) 1 (omega arith))) i;
 }
   where
+    set : part (verifierBytes s) 1 setLength ≡ numbersOf (s .parameters)
+    set =
+        read-behind (verifierPhaseByte (s .phase) ∷ []) _ 1 0 setLength refl
+        ∙ read-front (numbersOf (s .parameters)) _ setLength (length-numbers (s .parameters))
+
     behind : (at n : ℕ) → part (verifierBytes s) (6 + at) n ≡ part (s .message1 ++ (s .message2 ++ (s .message3 ++ (s .leaf ∷ [])))) at n
     behind at n = read-behind (verifierPhaseByte (s .phase) ∷ parameterBytes (s .parameters)) _ 6 at n refl
 
 pub fresh-small : (s : Verifier) → s ≡ fresh → Small (s .parameters)
 unfolding fresh
-fresh-small s e = rw (ap (λ (z : Verifier). z .parameters) e) record { m = omega arith; k = omega arith; w = omega arith; axes = omega arith; t = omega arith }
+fresh-small s e = rw (ap (λ (z : Verifier). z .parameters) e) (omega arith, (omega arith, (omega arith, (omega arith, (omega arith, tt)))))

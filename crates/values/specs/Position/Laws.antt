@@ -18,6 +18,7 @@ use Rattle.lists.specs.Part.{part, putAt}
 use Rattle.lists.specs.Part.Laws.{length-part, lent-back, part-fits, part-putAt-same, part-putAt-before, part-putAt-behind}
 use Rattle.tower.specs.Field.{Point, bytesOf}
 use Rattle.parameters.specs.declared.Parameters.{Parameters}
+use Rattle.layout.specs.Layout.{rowLength, atV, factorLength}
 use Rattle.exchange.specs.Reading.{encode}
 use Rattle.exchange.specs.Values.{Key, alpha, beta}
 use Rattle.sidebyside.specs.Shares.{shareOf}
@@ -29,90 +30,90 @@ use Rattle.values.specs.Position.{writtenAt, announcedAt, EachAnnounced}
 
 -- three blocks of points, each filled up to position n
 pub record Announced (p : Parameters) (α β γ : ℕ → Point) (out : List ℕ) (n : ℕ) : Type 0 where
-  pub sized : length out ≡ 12 * p .t
+  pub sized : length out ≡ rowLength p
   pub alphas : Filled α out 0 n
-  pub betas : Filled β out (4 * p .t) n
-  pub gammas : Filled γ out (8 * p .t) n
+  pub betas : Filled β out (factorLength p) n
+  pub gammas : Filled γ out (atV p) n
 
 module _ (p : Parameters) (α β γ : ℕ → Point) (out : List ℕ) where
-  announced-none : length out ≡ 12 * p .t → Announced p α β γ out 0
+  announced-none : length out ≡ rowLength p → Announced p α β γ out 0
   announced-none e = record { sized = e; alphas = λ i h. absurd (omega arith); betas = λ i h. absurd (omega arith); gammas = λ i h. absurd (omega arith) }
 
   announced-turn : (next : List ℕ) (l : ℕ) → l < p .t → next ≡ writtenAt p l (α l) (β l) (γ l) out → Announced p α β γ out l → Announced p α β γ next (l + 1)
   unfolding writtenAt
   announced-turn next l h en g =
       let n = g .sized in
-      let t = 4 * p .t + 4 * l in
-      let u = 8 * p .t + 4 * l in
+      let t = factorLength p + 4 * l in
+      let u = atV p + 4 * l in
       let a : List ℕ = putAt out (4 * l) (bytesOf (α l)) in
       let na = length-point out (4 * l) (α l) (omega arith) in
       let b : List ℕ = putAt a t (bytesOf (β l)) in
       let nb = length-point a t (β l) (omega arith) in
       let αs = filled-more out (4 * l) (α l) (omega arith) α 0 l (omega arith) refl (g .alphas) in
-      let βs = filled-keep out (4 * l) (α l) (omega arith) β (4 * p .t) l (inl (omega arith)) (g .betas) in
-      let γs = filled-keep out (4 * l) (α l) (omega arith) γ (8 * p .t) l (inl (omega arith)) (g .gammas) in
+      let βs = filled-keep out (4 * l) (α l) (omega arith) β (factorLength p) l (inl (omega arith)) (g .betas) in
+      let γs = filled-keep out (4 * l) (α l) (omega arith) γ (atV p) l (inl (omega arith)) (g .gammas) in
       let αs₂ = filled-keep a t (β l) (omega arith) α 0 (l + 1) (inr (omega arith)) αs in
-      let βs₂ = filled-more a t (β l) (omega arith) β (4 * p .t) l refl refl βs in
-      let γs₂ = filled-keep a t (β l) (omega arith) γ (8 * p .t) l (inl (omega arith)) γs in
+      let βs₂ = filled-more a t (β l) (omega arith) β (factorLength p) l refl refl βs in
+      let γs₂ = filled-keep a t (β l) (omega arith) γ (atV p) l (inl (omega arith)) γs in
       subst (λ (q : List ℕ). Announced p α β γ q (l + 1)) (sym en) record {
         sized = length-point b u (γ l) (omega arith) ∙ nb ∙ na ∙ n;
         alphas = filled-keep b u (γ l) (omega arith) α 0 (l + 1) (inr (omega arith)) αs₂;
-        betas = filled-keep b u (γ l) (omega arith) β (4 * p .t) (l + 1) (inr (omega arith)) βs₂;
-        gammas = filled-more b u (γ l) (omega arith) γ (8 * p .t) l refl refl γs₂;
+        betas = filled-keep b u (γ l) (omega arith) β (factorLength p) (l + 1) (inr (omega arith)) βs₂;
+        gammas = filled-more b u (γ l) (omega arith) γ (atV p) l refl refl γs₂;
       }
 
   announced-end : Announced p α β γ out (p .t) → out ≡ encode α (p .t) ++ (encode β (p .t) ++ encode γ (p .t))
   unfolding part
   announced-end g =
       let n = g .sized in
-      let e : 4 * p .t + 4 * p .t ≡ 8 * p .t = omega arith in
-      let k = length-drop (8 * p .t) out in
-      sym (take-append-drop (4 * p .t) out)
+      let e : factorLength p + factorLength p ≡ atV p = omega arith in
+      let k = length-drop (atV p) out in
+      sym (take-append-drop (factorLength p) out)
       ∙ ap₂ _++_ (filled-block α out 0 (p .t) (g .alphas))
-      (sym (take-append-drop (4 * p .t) (drop (4 * p .t) out))
-      ∙ ap₂ _++_ (filled-block β out (4 * p .t) (p .t) (g .betas))
-      (drop-drop (4 * p .t) (4 * p .t) out ∙ ap (λ (k : ℕ). drop k out) e ∙ sym (take-all (4 * p .t) (drop (8 * p .t) out) (omega arith))
-      ∙ filled-block γ out (8 * p .t) (p .t) (g .gammas)))
+      (sym (take-append-drop (factorLength p) (drop (factorLength p) out))
+      ∙ ap₂ _++_ (filled-block β out (factorLength p) (p .t) (g .betas))
+      (drop-drop (factorLength p) (factorLength p) out ∙ ap (λ (k : ℕ). drop k out) e ∙ sym (take-all (factorLength p) (drop (atV p) out) (omega arith))
+      ∙ filled-block γ out (atV p) (p .t) (g .gammas)))
 
 -- ---- all shares at one position
 
 abbrev pub Left : Parameters → List ℕ → List ℕ → ℕ → ℕ → Type 0
 Left p before out i n = (j : ℕ) → i ≤ j → j < n → blockOf p out j ≡ blockOf p before j
 
--- u is what announcing share i leaves in its part of out, which starts at b
-module _ (p : Parameters) (before out u next : List ℕ) (n i b : ℕ) (below : i < n)
-    (sized : length out ≡ n * (12 * p .t)) (eb : b ≡ i * (12 * p .t)) (eu : length u ≡ 12 * p .t)
-    (en : next ≡ take b out ++ (u ++ drop (b + 12 * p .t - b) (drop b out))) where
-  put : next ≡ putAt out (i * (12 * p .t)) u
-  put = en ∙ lent-back out u b (b + 12 * p .t) (omega arith) (eu ∙ omega arith) ∙ ap (λ (m : ℕ). putAt out m u) eb
+-- u is what announcing share i leaves in its part of out, which starts at b; room is how long it is
+module _ (p : Parameters) (before out u next : List ℕ) (n i b room : ℕ) (er : room ≡ rowLength p) (below : i < n)
+    (sized : length out ≡ n * rowLength p) (eb : b ≡ i * rowLength p) (eu : length u ≡ rowLength p)
+    (en : next ≡ take b out ++ (u ++ drop (b + room - b) (drop b out))) where
+  put : next ≡ putAt out (i * rowLength p) u
+  put = en ∙ lent-back out u b (b + room) (omega arith) (eu ∙ omega arith) ∙ ap (λ (m : ℕ). putAt out m u) eb
 
-  fits : i * (12 * p .t) + length u ≤ length out
-  fits = let f = part-fits i n (12 * p .t) below in omega arith
+  fits : i * rowLength p + length u ≤ length out
+  fits = let f = part-fits i n (rowLength p) below in omega arith
 
   other : (j : ℕ) → j < n → (j ≡ i → ⊥) → blockOf p next j ≡ blockOf p out j
   other j h o = ap (λ (q : List ℕ). blockOf p q j) put ∙ go (decLt j i)
     where
-      go : Dec (j < i) → blockOf p (putAt out (i * (12 * p .t)) u) j ≡ blockOf p out j
-      go (yes q) = part-putAt-before out (i * (12 * p .t)) u fits (j * (12 * p .t)) (12 * p .t) (part-fits j i (12 * p .t) q)
+      go : Dec (j < i) → blockOf p (putAt out (i * rowLength p) u) j ≡ blockOf p out j
+      go (yes q) = part-putAt-before out (i * rowLength p) u fits (j * rowLength p) (rowLength p) (part-fits j i (rowLength p) q)
       go (no q) =
-          let f = part-fits i j (12 * p .t) (omega arith) in
-          part-putAt-behind out (i * (12 * p .t)) u fits (j * (12 * p .t)) (12 * p .t) (omega arith)
+          let f = part-fits i j (rowLength p) (omega arith) in
+          part-putAt-behind out (i * rowLength p) u fits (j * rowLength p) (rowLength p) (omega arith)
 
   own : blockOf p next i ≡ u
-  own = ap₂ (λ (q : List ℕ) (m : ℕ). part q (i * (12 * p .t)) m) put (sym eu) ∙ part-putAt-same out (i * (12 * p .t)) u fits
+  own = ap₂ (λ (q : List ℕ) (m : ℕ). part q (i * rowLength p) m) put (sym eu) ∙ part-putAt-same out (i * rowLength p) u fits
 
   pub left-turn : Left p before out i n → Left p before next (i + 1) n
   left-turn h j k m = other j m (λ e. omega arith) ∙ h j (omega arith) m
 
   module _ (key : Key) (m2 : List ℕ) (first : Bool) (shares : List ℕ) (l : ℕ) where
-    pub each-turn : u ≡ announcedAt p key m2 first (shareOf p shares i) l (take (b + 12 * p .t - b) (drop b out))
+    pub each-turn : u ≡ announcedAt p key m2 first (shareOf p shares i) l (take (b + room - b) (drop b out))
         → Left p before out i n → EachAnnounced p key m2 first shares l before out i → EachAnnounced p key m2 first shares l before next (i + 1)
     unfolding part
     each-turn e left h j k = go (ℕ-discrete j i)
       where
         same : u ≡ announcedAt p key m2 first (shareOf p shares i) l (blockOf p before i)
         same =
-            let s : b + 12 * p .t - b ≡ 12 * p .t = omega arith in
+            let s : b + room - b ≡ rowLength p = omega arith in
             e ∙ ap₂ (λ (m m′ : ℕ). announcedAt p key m2 first (shareOf p shares i) l (take m (drop m′ out))) s eb
             ∙ ap (announcedAt p key m2 first (shareOf p shares i) l) (left i (omega arith) below)
 
@@ -126,10 +127,10 @@ module _ (p : Parameters) (key : Key) (m2 : List ℕ) (first : Bool) (n : ℕ) (
   abbrev pub EachTo : List ℕ → ℕ → Type 0
   EachTo out l = (i : ℕ) → i < n → let s = shareOf p shares i in Announced p (alpha p key m2 first s) (beta p key m2 first s) (gamma p m2 s) (blockOf p out i) l
 
-  pub to-none : (out : List ℕ) → length out ≡ n * (12 * p .t) → EachTo out 0
+  pub to-none : (out : List ℕ) → length out ≡ n * rowLength p → EachTo out 0
   to-none out e i h =
       announced-none p _ _ _ (blockOf p out i)
-      (length-part out (i * (12 * p .t)) (12 * p .t) (within-blocks i n (12 * p .t) (i * (12 * p .t)) (length out) h refl e))
+      (length-part out (i * rowLength p) (rowLength p) (within-blocks i n (rowLength p) (i * rowLength p) (length out) h refl e))
 
   pub to-turn : (out next : List ℕ) (l : ℕ) → l < p .t → EachAnnounced p key m2 first shares l out next n → EachTo out l → EachTo next (l + 1)
   to-turn out next l h g to i b = announced-turn p _ _ _ (blockOf p out i) (blockOf p next i) l h (g i b) (to i b)

@@ -1,50 +1,49 @@
--- Share and block of the axis lie within those of all axes (`share-fits`).
-use mathlib.Core.Path.{ap, ap₂, _∙_}
+-- The rows by the formula, with the hidden leaf's added to its party's (`hide-joined`).
+use mathlib.Core.Path.{sym, ap₂, _∙_}
+use mathlib.Core.Bool.{cond}
 use mathlib.Core.List.{List}
-use Prim.Native.Nat.{ℕ, _+_, _*_, _≤_}
+use Prim.Native.Nat.{ℕ, _*_, _≤_}
 use native.Mathlib.Omega.{arith}
 use borrow.Author.Needs.{needs}
-use lib.ListN.{length}
-use Rattle.layout.specs.Layout.{shareLength}
-use Rattle.sidebyside.specs.Shares.{shareOf}
-use Rattle.values.specs.Shares.{blockOf}
-use Rattle.partyrows.specs.Row.{axisBy}
-use Rattle.axes.specs.Asked.Laws.{share-fits, row-asked}
-use Rattle.axes.specs.Slices.{middle-part}
+use lib.Dec.{ltb}
+use Rattle.lists.specs.Sum.{xorAt}
+use Rattle.layout.specs.Layout.{side, rowLength}
+use Rattle.encoding.specs.Written.{front-length}
+use Rattle.partyrows.specs.Row.{hiddenParty, axisBy}
+use Rattle.axes.specs.Axes.{partyRow, formulaRows}
+use Rattle.axes.specs.Rows.{length-partyRow, hide-joined}
 use Rattle.axes.proofs.axis.put_axis.Statement.{statement}
 use Rattle.axes.proofs.axis.put_axis.Tie as tie
 
-abbrev back-to-start : tie.After-slice-known → tie.Start
-back-to-start c = search
+abbrev back : tie.After-row-length → tie.Start
+back o = search
 
-inside : (s : tie.Start)
-    → (s .args .axis * shareLength (s .args .p) + shareLength (s .args .p) ≤ length (s .args .parts .now))
-    × (s .args .axis * (12 * s .args .p .t) + 12 * s .args .p .t ≤ length (s .args .blocks .now))
-inside s = let h = s .pre .1 in share-fits _ _ _ _ _ _ (s .pre .0) (s .args .axis) (omega arith)
-
-axis-row-requires : tie.Need-axis-row-requires
-axis-row-requires c κs =
-    let s : tie.Start = search back-to-start in
-    let (f, h, n, l, p) = s .pre in
-    let row = row-asked (s .args .p) _ _ _ _ _ f (s .args .axis) (omega arith) in (search, n, l, p)
+abbrev back-to-length : tie.After-put-rows-of → tie.After-row-length
+back-to-length r = search
 
 returns : tie.Need-returns
+unfolding axisBy formulaRows
 returns c =
-    let party : tie.After-hidden-party = search in
-    let start : tie.Start = search back-to-start in
-    let a = start .args in
-    c .before .before .axis-row .ensures
-    ∙ ap₂ (λ (x y : List ℕ). axisBy (a .p) x y (a .sums .now) (a .total .now) (party .hidden-party .result) (a .hidden .now))
-    (middle-part (a .parts .now) (a .axis * shareLength (a .p)) (shareLength (a .p)))
-    (middle-part (a .blocks .now) (a .axis * (12 * a .p .t)) (12 * a .p .t))
-    ∙ ap (λ (h : ℕ). axisBy (a .p) (shareOf (a .p) (a .parts .now) (a .axis)) (blockOf (a .p) (a .blocks .now) (a .axis)) (a .sums .now) (a .total .now) h (a .hidden .now))
-    (party .hidden-party .ensures)
+    let e : tie.After-hide = search in
+    let h : tie.After-hidden-party = search in
+    let r : tie.After-put-rows-of = search in
+    let s = back (back-to-length r) in
+    let a = s .args in
+    let (f, j, t, g, w, l, m) = s .pre in
+    e .hide .ensures
+    ∙ ap₂ (λ (n : ℕ) (z : List ℕ). cond (ltb n (side (a .p))) (xorAt z (n * rowLength (a .p)) (a .hiding .now)) z) (h .hidden-party .ensures) (r .put-rows-of .ensures .0)
+    ∙ hide-joined (a .p) (a .total .now) (partyRow (a .p) (a .parts .now) (a .blocks .now) (a .sums .now) (a .axis)) t
+    (length-partyRow (a .p) (a .parts .now) (a .blocks .now) (a .sums .now) (f .sized-blocks) (a .axis) j) (hiddenParty (a .p) (a .leaf) (a .axis)) (a .hiding .now) g
+
+small : (o : tie.After-row-length) → let s : tie.Start = search in o .row-length .result ≤ 96
+small o = let s : tie.Start = search in omega (arith, o .row-length .ensures, s .pre .0 .within .t-most)
 
 pub put-axis-spec : {M : Type 1} → statement M
-put-axis-spec = tie.close (tie.spec (λ c. search needs) (λ c. search needs) (λ c. search needs) (λ c. search needs) (λ c. search needs) (λ c. search needs)
-    (λ c. let s : tie.Start = search back-to-start in omega (arith, inside s .0)) (λ c. search needs)
-    (λ c. let s : tie.Start = search back-to-start in omega (arith, inside s .1))
-    (λ c. let s : tie.Start = search back-to-start in omega (arith, inside s .0)) (λ c. search needs)
-    (λ c. let s : tie.Start = search back-to-start in omega (arith, inside s .1)) (λ c κs. search needs) (λ c. search needs) (λ c. search needs)
-    (λ c. let s : tie.Start = search back-to-start in omega (arith, inside s .0)) (λ c. search needs) (λ c. search needs)
-    (λ c. let s : tie.Start = search back-to-start in omega (arith, inside s .1)) axis-row-requires (λ c. search needs) returns)
+put-axis-spec =
+    tie.close
+    (tie.spec (λ c κs. search needs) (λ c. let o : tie.After-row-length = search in small o) (λ c. let o : tie.After-row-length = search in front-length _ _ (small o))
+    (λ c κs. let o : tie.After-row-length = search in let s : tie.Start = search in let (f, j, t, g, w, l, m) = s .pre in
+    (f, j, t, w, sym (front-length _ _ (small o)) ∙ o .row-length .ensures, l, m))
+    (λ c κs. let r : tie.After-put-rows-of = search in let s = back (back-to-length r) in (s .pre .0 .within, s .pre .1))
+    (λ c κs. let r : tie.After-put-rows-of = search in let s = back (back-to-length r) in
+    (s .pre .0 .within, s .pre .3, omega (arith, r .put-rows-of, s .pre .4))) (λ c. search needs) returns)

@@ -11,9 +11,9 @@ returns : tie.Need-returns
 returns c =
     let e : tie.After-announce-each = search in
     let d : tie.After-interpolate-each = search in
-    (record { announcements = e .announce-each .ensures .0 _ (d .interpolate-each .ensures) }, e .announce-each .ensures .1)
+    (e .announce-each .ensures .0 _ (d .interpolate-each .ensures), e .announce-each .ensures .1)
 
 pub evaluate-with-spec : {M : Type 1} → statement M
-evaluate-with-spec = tie.close (tie.spec (λ c. search needs) (λ c κs. let s : tie.Start = search in let (f, rows, l, p) = s .pre in (omega arith, l, p))
+evaluate-with-spec = tie.close (tie.spec (λ c κs. let s : tie.Start = search in let (f, rows, l, p) = s .pre in (omega arith, l, p))
     (λ c κs. let d : tie.After-interpolate-each = search in let (f, rows, l, p) = back-to-start d .pre in (omega (arith, d .interpolate-each), l, p))
     (λ c. search needs) (λ c. search needs) returns)

@@ -18,8 +18,10 @@ write-prover-requires c κs = (c .before .before .if1 .left, fresh-small _ (c .b
 
 returns-2 : tie.Need-returns-2
 returns-2 c =
-    let whole = c .before .before .before .before .before .if1 .left in
-    ap (λ (l : List ℕ). kept 0 l) (c .before .before .write-prover .ensures ∙ ap proverBytes (c .before .before .before .before .fresh .ensures))
+    let after-fresh : tie.After-fresh = search in
+    let else1 : tie.Else1 = search in
+    let whole = else1 .if1 .left in
+    ap (λ (l : List ℕ). kept 0 l) (c .before .before .write-prover .ensures ∙ ap proverBytes (after-fresh .fresh .ensures))
     ∙ fits-so _ proverSize _ _ whole
 
 pub unlock-prover-new-spec : {M : Type 1} → statement M

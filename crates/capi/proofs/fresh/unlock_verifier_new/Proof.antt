@@ -18,8 +18,10 @@ write-verifier-requires c κs = (c .before .before .if1 .left, fresh-small _ (c 
 
 returns-2 : tie.Need-returns-2
 returns-2 c =
-    let whole = c .before .before .before .before .before .if1 .left in
-    ap (λ (l : List ℕ). kept 0 l) (c .before .before .write-verifier .ensures ∙ ap verifierBytes (c .before .before .before .before .fresh .ensures))
+    let after-fresh : tie.After-fresh = search in
+    let else1 : tie.Else1 = search in
+    let whole = else1 .if1 .left in
+    ap (λ (l : List ℕ). kept 0 l) (c .before .before .write-verifier .ensures ∙ ap verifierBytes (after-fresh .fresh .ensures))
     ∙ fits-so _ verifierSize _ _ whole
 
 pub unlock-verifier-new-spec : {M : Type 1} → statement M

@@ -10,12 +10,17 @@ returns : tie.Need-returns
 returns c = call-misfit _ _ _ _ _ _ refl (c .if1 .taken)
 
 keep-requires : tie.Need-keep-requires
-keep-requires c κs = (c .before .before .before .before .before .before .before .before .before .before .if1 .left, kept-small _ _ (c .before .before .before .before .before .points .ensures) (points-within _ _ _ _ _ _))
+keep-requires c κs =
+    let after-points : tie.After-points = search in
+    let else1 : tie.Else1 = search in
+    (else1 .if1 .left, kept-small _ _ (after-points .points .ensures) (points-within _ _ _ _ _ _))
 
 returns-2 : tie.Need-returns-2
 returns-2 c =
-    let q = c .before .before .before .before .before .before .before .before in
-    call-kept _ _ _ _ _ (held (q .before .before .before .read-prover .result)) _ _ _ (q .before .before .before .before .before .if1 .left) (q .before .before .before .read-prover .ensures)
+    let q : tie.After-points = search in
+    let after-read-prover : tie.After-read-prover = search in
+    let else1 : tie.Else1 = search in
+    call-kept _ _ _ _ _ (held (after-read-prover .read-prover .result)) _ _ _ (else1 .if1 .left) (after-read-prover .read-prover .ensures)
     (q .points .ensures) (c .before .before .keep .ensures)
 
 pub unlock-prover-points-spec : {M : Type 1} → statement M

@@ -18,10 +18,13 @@ so : (c : tie.Else1) → judges (answerNumber (c .before .before .before .before
 so c = sym (ap judges (c .before .before .answer-number .ensures)) ∙ sym (c .before .is-judged .ensures) ∙ not-false _ (c .if1 .left)
 
 write-verifier-requires : tie.Need-write-verifier-requires
-write-verifier-requires c κs = let start = c .before .before .before .before .before .before in (start .pre .0, start .pre .1 (so (c .before .before)))
+write-verifier-requires c κs = let start : tie.Start = search in (start .pre .0, start .pre .1 (so (c .before .before)))
 
 returns-2 : tie.Need-returns-2
-returns-2 c = rw (c .before .before .before .before .before .before .before .answer-number .ensures, c .before .before .write-verifier .ensures, so (c .before .before .before .before .before))
+returns-2 c =
+    let else1 : tie.Else1 = search in
+    let after-answer-number : tie.After-answer-number = search in
+    rw (after-answer-number .answer-number .ensures, c .before .before .write-verifier .ensures, so else1)
 
 pub keep-opening-spec : {M : Type 1} → statement M
 keep-opening-spec = tie.close (tie.spec (λ c κs. search needs) (λ c κs. search needs) returns write-verifier-requires (λ c. search needs) returns-2)

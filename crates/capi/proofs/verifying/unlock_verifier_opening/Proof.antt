@@ -9,12 +9,16 @@ returns : tie.Need-returns
 returns c = opening-misfit _ _ _ _ (c .if1 .taken)
 
 keep-opening-requires : tie.Need-keep-opening-requires
-keep-opening-requires c κs = (c .before .before .before .before .before .before .before .if1 .left, judged-small _ _ (c .before .before .before .opening .ensures) (opening-within _ _ _ _ _))
+keep-opening-requires c κs =
+    let else1 : tie.Else1 = search in
+    (else1 .if1 .left, judged-small _ _ (c .before .before .before .opening .ensures) (opening-within _ _ _ _ _))
 
 returns-2 : tie.Need-returns-2
 returns-2 c =
-    let q = c .before .before .before .before .before .before in
-    opening-kept _ _ _ _ (held (q .before .before .read-verifier .result)) _ _ _ (q .before .before .before .before .if1 .left) (q .before .before .read-verifier .ensures)
+    let q : tie.After-opening = search in
+    let after-read-verifier : tie.After-read-verifier = search in
+    let else1 : tie.Else1 = search in
+    opening-kept _ _ _ _ (held (after-read-verifier .read-verifier .result)) _ _ _ (else1 .if1 .left) (after-read-verifier .read-verifier .ensures)
     (q .opening .ensures) (c .before .before .keep-opening .ensures)
 
 pub unlock-verifier-opening-spec : {M : Type 1} → statement M

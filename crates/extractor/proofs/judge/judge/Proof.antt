@@ -5,32 +5,40 @@ use native.Mathlib.Omega.{arith}
 use borrow.Author.Needs.{needs}
 use lib.ListN.{length, take}
 use lib.Seq.{length-take-le}
+use Rattle.layout.specs.Layout.{leaves, axisLength, workLength}
 use Rattle.extractor.specs.Judged.Laws.{judged}
+use Rattle.extractor.specs.Judged.Pair.{rows-most}
 use Rattle.extractor.proofs.judge.judge.Statement.{statement}
 use Rattle.extractor.proofs.judge.judge.Tie as tie
 
-area-size : (c : tie.After-leaf-count) → length (take (c .before .work-length .result) (c .before .before .before .before .before .before .before .before .before .before .before .args .work .now)) ≡ c .before .work-length .result
-area-size c = length-take-le _ _ (omega (arith, c .before .work-length .ensures, c .before .before .before .before .before .before .before .before .before .before .before .pre .lent .work-fits))
+area-size : (s : tie.Start) (n : ℕ) → n ≡ workLength (s .args .p) → length (take n (s .args .work .now)) ≡ n
+area-size s n e = length-take-le _ _ (omega (arith, s .pre .lent .work-fits))
 
-states-size : (c : tie.After-leaf-count) → length (take (32 * c .leaf-count .result) (c .before .before .before .before .before .before .before .before .before .before .before .args .states .now)) ≡ 32 * c .leaf-count .result
-states-size c = length-take-le _ _ (omega (arith, c .leaf-count .ensures, c .before .before .before .before .before .before .before .before .before .before .before .pre .states-fit))
+states-size : (s : tie.Start) (n : ℕ) → n ≡ leaves (s .args .p) → length (take (32 * n) (s .args .states .now)) ≡ 32 * n
+states-size s n e = length-take-le _ _ (omega (arith, s .pre .states-fit))
 
-rows-size : (c : tie.After-leaf-count) → length (take (c .before .before .before .before .before .before .before .before .before .before .before .args .p .axes * (24 * c .before .before .before .before .before .before .before .before .before .before .before .args .p .t)) (c .before .before .before .before .before .before .before .before .before .before .before .args .rows .now)) ≡ c .before .before .before .before .before .before .before .before .before .before .before .args .p .axes * (24 * c .before .before .before .before .before .before .before .before .before .before .before .args .p .t)
-rows-size c = length-take-le _ _ (c .before .before .before .before .before .before .before .before .before .before .before .pre .rows-fit)
+rows-size : (s : tie.Start) (n : ℕ) → n ≡ axisLength (s .args .p) → length (take (s .args .p .axes * n) (s .args .rows .now)) ≡ s .args .p .axes * n
+rows-size s n e = length-take-le _ _ (omega (arith, ap (_*_ (s .args .p .axes)) e, s .pre .rows-fit))
 
-slice-aggregate-check-opening : tie.Need-slice-aggregate-check-opening
-slice-aggregate-check-opening c = sym (area-size (c .before .before .before))
+mul-all-rows : tie.Need-mul-all-rows
+mul-all-rows c =
+    let row : tie.After-axis-length = search in
+    let s : tie.Start = search in
+    omega (arith, ap (_*_ (s .args .p .axes)) (row .axis-length .ensures), rows-most (s .args .p) (s .pre .within))
 
-slice-aggregate-check-opening-2 : tie.Need-slice-aggregate-check-opening-2
-slice-aggregate-check-opening-2 c = sym (states-size (c .before .before .before .before))
-
-slice-aggregate-check-opening-3 : tie.Need-slice-aggregate-check-opening-3
-slice-aggregate-check-opening-3 c = sym (rows-size (c .before .before .before .before .before))
+slice-relend-prefix-check-opening-3 : tie.Need-slice-relend-prefix-check-opening-3
+slice-relend-prefix-check-opening-3 c =
+    let row : tie.After-axis-length = search in
+    let s : tie.Start = search in
+    omega (arith, ap (_*_ (s .args .p .axes)) (row .axis-length .ensures), s .pre .rows-fit)
 
 check-opening-requires : tie.Need-check-opening-requires
 check-opening-requires c κs =
-    let sizes = c .before .before .before .before .before in
-    let asked = sizes .before .before .before .before .before .before .before .before .before .before .before .pre in
+    let row : tie.After-axis-length = search in
+    let count : tie.After-leaf-count = search in
+    let area : tie.After-work-length = search in
+    let s : tie.Start = search in
+    let asked = s .pre in
     record {
       within = asked .within;
       message1 = asked .sent .size1;
@@ -40,38 +48,32 @@ check-opening-requires c κs =
       message5 = asked .sent .size5;
       matrix-is = asked .lent .matrix-is;
       y-is = asked .lent .y-is;
-      area-is = area-size sizes ∙ sizes .before .work-length .ensures;
-      states-are = states-size sizes ∙ ap (λ (n : ℕ). 32 * n) (sizes .leaf-count .ensures);
-      rows-are = rows-size sizes;
+      area-is = area-size s _ (area .work-length .ensures) ∙ area .work-length .ensures;
+      states-are = states-size s _ (count .leaf-count .ensures) ∙ ap (λ (n : ℕ). 32 * n) (count .leaf-count .ensures);
+      rows-are = rows-size s _ (row .axis-length .ensures) ∙ ap (_*_ (s .args .p .axes)) (row .axis-length .ensures);
     }
+
+abbrev back-to-start : tie.After-axis-length → tie.Start
+back-to-start c = search
 
 returns : tie.Need-returns
 returns c =
-    let checked = c .before .before .before .before .before .before .check-opening in
-    let sizes = c .before .before .before .before .before .before .before .before .before .before .before .before in
-    let start = sizes .before .before .before .before .before .before .before .before .before .before .before in
-    judged _ _ _ _ _ _ _ (checked .ensures) (start .pre .below) (start .pre .sent .size5)
-    (checked .kept .1 .1 .1 .1 .1 .1 .1 .1 .1 .0 ∙ states-size sizes ∙ ap (λ (n : ℕ). 32 * n) (sizes .leaf-count .ensures))
-    (checked .kept .1 .1 .1 .1 .1 .1 .1 .1 .1 .1 .0 ∙ rows-size sizes)
-    _ _ (sizes .before .work-length .ensures) _ _
+    let checked : tie.After-check-opening = search in
+    let row : tie.After-axis-length = search in
+    let count : tie.After-leaf-count = search in
+    let area : tie.After-work-length = search in
+    let s = back-to-start row in
+    judged _ _ _ _ _ _ _ (checked .check-opening .ensures) (s .pre .below) (s .pre .sent .size5)
+    (checked .check-opening .kept .1 .1 .1 .1 .1 .1 .1 .1 .1 .0 ∙ states-size s _ (count .leaf-count .ensures) ∙ ap (λ (n : ℕ). 32 * n) (count .leaf-count .ensures))
+    (checked .check-opening .kept .1 .1 .1 .1 .1 .1 .1 .1 .1 .1 .0 ∙ rows-size s _ (row .axis-length .ensures) ∙ ap (_*_ (s .args .p .axes)) (row .axis-length .ensures))
+    _ _ (area .work-length .ensures) _ _
 
 pub judge-spec : {M : Type 1} → statement M
 judge-spec =
     tie.close
-    (tie.spec
-    (λ c κs. search needs)
-    (λ c κs. search needs)
-    (λ c. search needs)
-    (λ c. search needs)
-    (λ c. search needs)
-    (λ c. search needs)
-    slice-aggregate-check-opening
-    (λ c. search needs)
-    slice-aggregate-check-opening-2
-    (λ c. search needs)
-    slice-aggregate-check-opening-3
-    check-opening-requires
-    (λ c. search needs)
-    (λ c. search needs)
-    (λ c. search needs)
-    returns)
+    (tie.spec (λ c κs. search needs) (λ c κs. search needs) (λ c. search needs) (λ c κs. search needs) mul-all-rows (λ c. search needs)
+    (λ c. let area : tie.After-work-length = search in let s : tie.Start = search in sym (area-size s _ (area .work-length .ensures))) (λ c. search needs)
+    (λ c. let count : tie.After-leaf-count = search in let s : tie.Start = search in sym (states-size s _ (count .leaf-count .ensures)))
+    slice-relend-prefix-check-opening-3
+    (λ c. let row : tie.After-axis-length = search in let s : tie.Start = search in sym (rows-size s _ (row .axis-length .ensures)))
+    check-opening-requires (λ c. search needs) (λ c. search needs) (λ c. search needs) returns)

@@ -10,7 +10,8 @@ broken-requires c κs = search needs
 
 returns : tie.Need-returns
 returns c =
-    let a = c .before .before .before .before .before .before .args in
+    let start : tie.Start = search in
+    let a = start .args in
     let h = held (a .self) (a .matrix .now) (a .y .now) (a .x-a .now) in
     byte-past h (a .b) (c .before .if1 .taken) (c .broken .ensures)
 
@@ -19,7 +20,8 @@ word-byte-requires c κs = search needs
 
 returns-2 : tie.Need-returns-2
 returns-2 c =
-    let a = c .before .before .before .before .before .before .before .before .args in
+    let start : tie.Start = search in
+    let a = start .args in
     let h = held (a .self) (a .matrix .now) (a .y .now) (a .x-a .now) in
     byte-word h (a .b) (c .before .before .before .if1 .left) (c .before .if2 .taken) (c .word-byte .ensures)
 
@@ -28,9 +30,11 @@ number-byte-requires c κs = search needs
 
 returns-3 : tie.Need-returns-3
 returns-3 c =
-    let a = c .before .before .before .before .before .before .before .before .before .before .args in
+    let else1 : tie.Else1 = search in
+    let start : tie.Start = search in
+    let a = start .args in
     let h = held (a .self) (a .matrix .now) (a .y .now) (a .x-a .now) in
-    byte-number h (a .b) (c .before .before .before .before .before .if1 .left) (c .before .before .before .if2 .left) (c .before .if3 .taken) (c .number-byte .ensures)
+    byte-number h (a .b) (else1 .if1 .left) (c .before .before .before .if2 .left) (c .before .if3 .taken) (c .number-byte .ensures)
 
 hex-byte-requires : tie.Need-hex-byte-requires
 hex-byte-requires c κs = search needs
@@ -40,9 +44,14 @@ same-length c = search needs
 
 returns-4 : tie.Need-returns-4
 returns-4 c =
-    let a = c .before .before .before .before .before .before .before .before .before .before .before .before .before .before .before .args in
+    let then4 : tie.Then4 = search in
+    let else3 : tie.Else3 = search in
+    let else2 : tie.Else2 = search in
+    let else1 : tie.Else1 = search in
+    let start : tie.Start = search in
+    let a = start .args in
     let h = held (a .self) (a .matrix .now) (a .y .now) (a .x-a .now) in
-    byte-matrix h (a .b) (c .before .before .before .before .before .before .before .before .before .before .if1 .left) (c .before .before .before .before .before .before .before .before .if2 .left) (c .before .before .before .before .before .before .if3 .left) (c .before .before .before .before .if4 .taken) (c .before .before .hex-byte .ensures)
+    byte-matrix h (a .b) (else1 .if1 .left) (else2 .if2 .left) (else3 .if3 .left) (then4 .if4 .taken) (c .before .before .hex-byte .ensures)
 
 hex-byte-requires-2 : tie.Need-hex-byte-requires-2
 hex-byte-requires-2 c κs = search needs
@@ -52,9 +61,15 @@ same-length-2 c = search needs
 
 returns-5 : tie.Need-returns-5
 returns-5 c =
-    let a = c .before .before .before .before .before .before .before .before .before .before .before .before .before .before .before .before .before .args in
+    let then5 : tie.Then5 = search in
+    let else4 : tie.Else4 = search in
+    let else3 : tie.Else3 = search in
+    let else2 : tie.Else2 = search in
+    let else1 : tie.Else1 = search in
+    let start : tie.Start = search in
+    let a = start .args in
     let h = held (a .self) (a .matrix .now) (a .y .now) (a .x-a .now) in
-    byte-y h (a .b) (c .before .before .before .before .before .before .before .before .before .before .before .before .if1 .left) (c .before .before .before .before .before .before .before .before .before .before .if2 .left) (c .before .before .before .before .before .before .before .before .if3 .left) (c .before .before .before .before .before .before .if4 .left) (c .before .before .before .before .if5 .taken) (c .before .before .hex-byte2 .ensures)
+    byte-y h (a .b) (else1 .if1 .left) (else2 .if2 .left) (else3 .if3 .left) (else4 .if4 .left) (then5 .if5 .taken) (c .before .before .hex-byte2 .ensures)
 
 hex-byte-requires-3 : tie.Need-hex-byte-requires-3
 hex-byte-requires-3 c κs = search needs
@@ -64,9 +79,15 @@ same-length-3 c = search needs
 
 returns-6 : tie.Need-returns-6
 returns-6 c =
-    let a = c .before .before .before .before .before .before .before .before .before .before .before .before .before .before .before .before .before .args in
+    let else5 : tie.Else5 = search in
+    let else4 : tie.Else4 = search in
+    let else3 : tie.Else3 = search in
+    let else2 : tie.Else2 = search in
+    let else1 : tie.Else1 = search in
+    let start : tie.Start = search in
+    let a = start .args in
     let h = held (a .self) (a .matrix .now) (a .y .now) (a .x-a .now) in
-    byte-xA h (a .b) (c .before .before .before .before .before .before .before .before .before .before .before .before .if1 .left) (c .before .before .before .before .before .before .before .before .before .before .if2 .left) (c .before .before .before .before .before .before .before .before .if3 .left) (c .before .before .before .before .before .before .if4 .left) (c .before .before .before .before .if5 .left) (c .before .before .hex-byte3 .ensures)
+    byte-xA h (a .b) (else1 .if1 .left) (else2 .if2 .left) (else3 .if3 .left) (else4 .if4 .left) (else5 .if5 .left) (c .before .before .hex-byte3 .ensures)
 
 pub byte-spec : {M : Type 1} → statement M
 byte-spec =

@@ -28,8 +28,10 @@ lengths-kept-requires c κs = search needs
 returns : tie.Need-returns
 unfolding closed
 returns c =
-    let p = c .before .before .before .before in
-    rw (c .lengths-kept .ensures, c .before .numbers-kept .ensures, c .before .before .new3 .ensures, c .before .before .before .new2 .ensures, p .new .ensures, p .before .both .ensures, p .before .before .accepts .ensures)
+    let p : tie.After-new = search in
+    let after-both : tie.After-both = search in
+    let after-accepts : tie.After-accepts = search in
+    rw (c .lengths-kept .ensures, c .before .numbers-kept .ensures, c .before .before .new3 .ensures, c .before .before .before .new2 .ensures, p .new .ensures, after-both .both .ensures, after-accepts .accepts .ensures)
 
 pub closed-spec : {M : Type 1} → statement M
 closed-spec =

@@ -31,22 +31,22 @@ step-requires : tie.Need-step-requires Inv-loop μ-loop
 step-requires c κs = search needs
 
 add-i : tie.Need-add-i Inv-loop μ-loop
-add-i c =
-    omega (arith, c .before .before .before .before .before .before .before .before .before .before .before)
+add-i c = let in-loop : tie.In-loop Inv-loop μ-loop = search in omega (arith, in-loop)
 
 loop-less : tie.Need-loop-less Inv-loop μ-loop
-loop-less c =
-    omega (arith, c .before .before .before .before .before .before .before .before .before .before .before)
+loop-less c = let in-loop : tie.In-loop Inv-loop μ-loop = search in omega (arith, in-loop)
 
 loop-again : tie.Need-loop-again Inv-loop μ-loop
 loop-again c =
-    let p = c .before .before .before .before .before .before .before .before .before .before .before .before in
-    let s = c .before .before .before .before .before .before .step in
+    let s : tie.After-step Inv-loop μ-loop = search in
+    let in-loop : tie.In-loop Inv-loop μ-loop = search in
+    let p : tie.At-loop Inv-loop μ-loop = search in
+    let start : tie.Start Inv-loop μ-loop = search in
     let l = p .loop in
     let k = l .inv .2 in (
-      omega (arith, c .before .before .before .before .before .before .before .before .before .before .before),
-      fold-more (p .before .before .before .before .before .args .piece .now) (l .i) (held (l .scan) (l .matrix) (l .y) (l .x-a)) (omega (arith, c .before .before .before .before .before .before .before .before .before .before .before)) (s .ensures) ∙ l .inv .1,
-      (s .kept .1 .1 .0 ∙ k .0, s .kept .1 .1 .1 .0 ∙ k .1, s .kept .1 .1 .1 .1 .0 ∙ k .2),
+      omega (arith, in-loop),
+      fold-more (start .args .piece .now) (l .i) (held (l .scan) (l .matrix) (l .y) (l .x-a)) (omega (arith, in-loop)) (s .step .ensures) ∙ l .inv .1,
+      (s .step .kept .1 .1 .0 ∙ k .0, s .step .kept .1 .1 .1 .0 ∙ k .1, s .step .kept .1 .1 .1 .1 .0 ∙ k .2),
     )
 
 same-length : tie.Need-same-length Inv-loop μ-loop
@@ -60,8 +60,9 @@ same-length-3 c = c .before .loop .inv .2 .2
 
 returns : tie.Need-returns Inv-loop μ-loop
 returns c =
+    let start : tie.Start Inv-loop μ-loop = search in
     let p = c .before in
-    let t = p .before .before .before .before .before .args .piece .now in
+    let t = start .args .piece .now in
     let l = p .loop in
     let e : drop (l .i) t ≡ [] = drop-of-length-le t {i = l .i} (omega arith) in
     ap (λ (r : List ℕ). fold step (held (l .scan) (l .matrix) (l .y) (l .x-a)) r) (sym e) ∙ l .inv .1

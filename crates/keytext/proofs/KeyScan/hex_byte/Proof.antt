@@ -14,8 +14,9 @@ same-length c = search needs
 
 returns : tie.Need-returns
 returns c =
+    let start : tie.Start = search in
     let p = c .before .before in
-    ap (λ (g : HexHeld). (withHex (p .before .before .before .before .args .self) (g .scan), g .out)) (p .push .ensures)
+    ap (λ (g : HexHeld). (withHex (start .args .self) (g .scan), g .out)) (p .push .ensures)
 
 pub hex-byte-spec : {M : Type 1} → statement M
 hex-byte-spec = tie.close (tie.spec push-requires same-length returns)

@@ -13,13 +13,15 @@ returns c = rw (lt-leb 1 (c .before .before .before .args .self .field) (omega a
 returns-2 : tie.Need-returns-2
 unfolding savedLengths
 returns-2 c =
-    let s = c .before .before .before .before .args .self in
+    let start : tie.Start = search in
+    let s = start .args .self in
     rw (le-leb 1 (s .field) (omega arith), lt-leb 1 (s .line) (omega arith))
 
 returns-3 : tie.Need-returns-3
 unfolding savedLengths
 returns-3 c =
-    let s = c .before .before .before .before .before .args .self in
+    let start : tie.Start = search in
+    let s = start .args .self in
     rw (le-leb 1 (s .field) (omega arith), le-leb 1 (s .line) (omega arith), lt-leb _ _ (c .if3 .taken))
 
 sub-lengths : tie.Need-sub-lengths
@@ -34,7 +36,8 @@ array-write-lengths c = search needs
 returns-4 : tie.Need-returns-4
 unfolding savedLengths
 returns-4 c =
-    let s = c .before .before .before .before .before .args .self in
+    let start : tie.Start = search in
+    let s = start .args .self in
     rw (le-leb 1 (s .field) (omega arith), le-leb 1 (s .line) (omega arith), le-leb _ _ (c .if3 .left))
 
 pub lengths-kept-spec : {M : Type 1} → statement M

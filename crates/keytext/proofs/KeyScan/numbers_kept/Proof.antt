@@ -13,13 +13,15 @@ returns c = rw (ne-eqb _ _ (c .if1 .taken))
 returns-2 : tie.Need-returns-2
 unfolding savedNumbers
 returns-2 c =
-    let s = c .before .before .before .before .args .self in
+    let start : tie.Start = search in
+    let s = start .args .self in
     rw (eq-eqb _ _ (c .before .if1 .left), lt-leb 1 (s .field) (omega arith))
 
 returns-3 : tie.Need-returns-3
 unfolding savedNumbers
 returns-3 c =
-    let s = c .before .before .before .before .before .args .self in
+    let start : tie.Start = search in
+    let s = start .args .self in
     rw (eq-eqb _ _ (c .before .before .if1 .left), le-leb 1 (s .field) (omega arith), lt-leb _ _ (c .if3 .taken))
 
 sub-numbers : tie.Need-sub-numbers
@@ -34,7 +36,8 @@ array-write-numbers c = search needs
 returns-4 : tie.Need-returns-4
 unfolding savedNumbers
 returns-4 c =
-    let s = c .before .before .before .before .before .args .self in
+    let start : tie.Start = search in
+    let s = start .args .self in
     rw (eq-eqb _ _ (c .before .before .if1 .left), le-leb 1 (s .field) (omega arith), le-leb _ _ (c .if3 .left))
 
 pub numbers-kept-spec : {M : Type 1} → statement M

@@ -10,7 +10,8 @@ line-end-requires c κs = search needs
 
 returns : tie.Need-returns
 returns c =
-    let a = c .before .before .before .before .before .args in
+    let start : tie.Start = search in
+    let a = start .args in
     let h = held (a .self) (a .matrix .now) (a .y .now) (a .x-a .now) in
     step-line h (a .b) (c .before .if1 .taken) (c .line-end .ensures)
 
@@ -19,7 +20,8 @@ field-end-requires c κs = search needs
 
 returns-2 : tie.Need-returns-2
 returns-2 c =
-    let a = c .before .before .before .before .before .before .args in
+    let start : tie.Start = search in
+    let a = start .args in
     let h = held (a .self) (a .matrix .now) (a .y .now) (a .x-a .now) in
     step-field h (a .b) (c .before .before .if1 .left) (c .before .if2 .taken) (c .field-end .ensures)
 
@@ -37,9 +39,13 @@ same-length-3 c = search needs
 
 returns-3 : tie.Need-returns-3
 returns-3 c =
-    let a = c .before .before .before .before .before .before .before .before .before .before .before .before .before .before .before .args in
+    let after-byte : tie.After-byte = search in
+    let else2 : tie.Else2 = search in
+    let else1 : tie.Else1 = search in
+    let start : tie.Start = search in
+    let a = start .args in
     let h = held (a .self) (a .matrix .now) (a .y .now) (a .x-a .now) in
-    step-byte h (a .b) (c .before .before .before .before .before .before .before .before .before .before .before .if1 .left) (c .before .before .before .before .before .before .before .before .before .before .if2 .left) (c .before .before .before .before .before .before .byte .ensures)
+    step-byte h (a .b) (else1 .if1 .left) (else2 .if2 .left) (after-byte .byte .ensures)
 
 pub step-spec : {M : Type 1} → statement M
 step-spec =

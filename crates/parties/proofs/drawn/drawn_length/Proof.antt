@@ -1,9 +1,8 @@
 -- The definition's test is that of `is_last`.
 use mathlib.Core.Path.{sym, ap, _∙_}
 use mathlib.Core.Bool.{Bool, cond}
-use Prim.Native.Nat.{_*_}
 use borrow.Author.Needs.{needs}
-use Rattle.layout.specs.Layout.{shareLength}
+use Rattle.layout.specs.Layout.{shareLength, atX}
 use Rattle.parties.specs.Drawn.{drawnLength}
 use Rattle.parties.proofs.drawn.drawn_length.Statement.{statement}
 use Rattle.parties.proofs.drawn.drawn_length.Tie as tie
@@ -12,15 +11,16 @@ returns : tie.Need-returns
 unfolding drawnLength
 returns c =
     let p = c .before .before .before .args .p in
-    sym (ap (λ (t : Bool). cond t (8 * p .t) (shareLength p)) (sym (c .before .before .is-last .ensures) ∙ c .before .if1 .taken))
+    c .at-x .ensures
+    ∙ sym (ap (λ (t : Bool). cond t (atX p) (shareLength p)) (sym (c .before .before .is-last .ensures) ∙ c .before .if1 .taken))
 
 returns-2 : tie.Need-returns-2
 unfolding drawnLength
 returns-2 c =
     let p = c .before .before .before .args .p in
     c .share-length .ensures
-    ∙ sym (ap (λ (t : Bool). cond t (8 * p .t) (shareLength p)) (sym (c .before .before .is-last .ensures) ∙ c .before .if1 .left))
+    ∙ sym (ap (λ (t : Bool). cond t (atX p) (shareLength p)) (sym (c .before .before .is-last .ensures) ∙ c .before .if1 .left))
 
 pub drawn-length-spec : {M : Type 1} → statement M
 drawn-length-spec =
-    tie.close (tie.spec (λ c κs. search needs) (λ c. search needs) returns (λ c κs. search needs) returns-2)
+    tie.close (tie.spec (λ c κs. search needs) (λ c κs. search needs) returns (λ c κs. search needs) returns-2)

@@ -2,7 +2,6 @@
 use mathlib.Core.Path.{sym, _∙_}
 use native.Mathlib.Omega.{arith}
 use borrow.Author.Needs.{needs}
-use Rattle.layout.specs.Layout.{bits}
 use Rattle.partyrows.specs.Row.Laws.{hidden-inside, hidden-outside}
 use Rattle.partyrows.proofs.hidden.hidden_party.Statement.{statement}
 use Rattle.partyrows.proofs.hidden.hidden_party.Tie as tie
@@ -17,10 +16,12 @@ returns c =
     ∙ sym (hidden-inside (a .p) (a .leaf) (a .axis) (omega (arith, c .before .if1 .taken, c .before .before .leaf-count .ensures)))
 
 returns-2 : tie.Need-returns-2
-unfolding bits
 returns-2 c =
-    let a = c .before .before .args in
-    sym (hidden-outside (a .p) (a .leaf) (a .axis) (omega (arith, c .if1 .left, c .before .leaf-count .ensures)))
+    let n : tie.After-leaf-count = search in
+    let e : tie.Else1 = search in
+    let s : tie.Start = search in
+    let a = s .args in
+    c .side .ensures ∙ sym (hidden-outside (a .p) (a .leaf) (a .axis) (omega (arith, e .if1 .left, n .leaf-count .ensures)))
 
 pub hidden-party-spec : {M : Type 1} → statement M
-hidden-party-spec = tie.close (tie.spec (λ c κs. search needs) coordinate-requires returns returns-2)
+hidden-party-spec = tie.close (tie.spec (λ c κs. search needs) coordinate-requires returns (λ c κs. search needs) returns-2)

@@ -6,6 +6,7 @@ use Prim.Native.Nat.{ℕ}
 use borrow.Author.Needs.{needs}
 use Rattle.shake256.specs.Fips.{SHAKE256}
 use Rattle.exchange.specs.Values.{keyOf}
+use Rattle.calls.specs.Prover.{beginChecks}
 use Rattle.prover.specs.Facts.{isDone, Begins}
 use Rattle.prover.specs.Next.{begunWith}
 use Rattle.prover.specs.Carried.{starting, begun-with}
@@ -15,55 +16,52 @@ use Rattle.prover.specs.Held.{held}
 use Rattle.prover.proofs.Prover.begin.Statement.{statement}
 use Rattle.prover.proofs.Prover.begin.Tie as tie
 
-done : (c : tie.Else1) → isDone (c .before .before .before .begin-checks .result) ≡ true
+abbrev start : tie.After-begin-checks → tie.Start
+start c = search
+
+abbrev checked : tie.Else1 → tie.After-begin-checks
+checked c = search
+
+-- what the checks answer, of the session
+answers : (c : tie.After-begin-checks) → (let a = start c .args in c .begin-checks .result
+    ≡ beginChecks SHAKE256 (held (a .self)) (a .p) (a .x-a .now) (a .salt .now) (a .root .now) (keyOf (a .matrix .now) (a .y .now)) (a .work .now) (a .out .now))
+answers c = let s = start c .args .self in c .begin-checks .ensures .0 (s .parameters) (s .x) (s .message2)
+
+done : (c : tie.Else1) → isDone (checked c .begin-checks .result) ≡ true
 done c = passed (c .before .is-done .ensures) (c .if1 .left)
 
-facts : (c : tie.Else1) → (let a = c .before .before .before .before .before .before .before .before .before .before .before .before .before .before .before .args in Begins (a .p) (a .x-a .now) (a .salt .now) (a .root .now) (a .matrix .now) (a .y .now) (a .work .now) (a .out .now))
+facts : (c : tie.Else1) → (let a = start (checked c) .args in Begins (a .p) (a .x-a .now) (a .salt .now) (a .root .now) (a .matrix .now) (a .y .now) (a .work .now) (a .out .now))
 facts c =
-    let called = c .before .before .before in
-    let a = called .before .before .before .before .before .before .before .before .before .before .before .before .args in
+    let a = start (checked c) .args in
     begin-facts SHAKE256 (held (a .self)) (a .work .now) (a .out .now) (keyOf (a .matrix .now) (a .y .now)) (a .p) (a .x-a .now) (a .salt .now) (a .root .now) _
-    (called .begin-checks .ensures .0) (done c)
+    (answers (checked c)) (done c)
 
 returns : tie.Need-returns
 returns c =
-    let called = c .before .before .before in
-    let a = called .before .before .before .before .before .before .before .before .before .before .before .before .args in
+    let called : tie.After-begin-checks = search in
+    let a = start called .args in
     begin-refused SHAKE256 (held (a .self)) (a .work .now) (a .out .now) (keyOf (a .matrix .now) (a .y .now)) _ (a .p) (a .x-a .now) (a .salt .now) (a .root .now)
-    (called .begin-checks .ensures .0) (failed (c .before .is-done .ensures) (c .if1 .taken))
+    (answers called) (failed (c .before .is-done .ensures) (c .if1 .taken))
 
 begun-requires : tie.Need-begun-requires
 begun-requires c κs =
-    let e = c .before .before in
-    let called = e .before .before .before in
-    let a = called .before .before .before .before .before .before .before .before .before .before .before .before .args in
+    let e : tie.Else1 = search in
+    let a = start (checked e) .args in
     starting (held (a .self)) (a .p) (a .x-a .now) (a .salt .now) (a .root .now) (keyOf (a .matrix .now) (a .y .now)) (a .work .now) (a .out .now) (facts e) _
-    (called .begin-checks .ensures .1 (done-is _ (done e)))
+    (checked e .begin-checks .ensures .1 (done-is _ (done e)))
 
 returns-2 : tie.Need-returns-2
 returns-2 c =
-    let begun = c .before .before .before .before in
-    let e = begun .before .before .before in
-    let called = e .before .before .before in
-    let a = called .before .before .before .before .before .before .before .before .before .before .before .before .args in
+    let begun : tie.After-begun = search in
+    let e : tie.Else1 = search in
+    let a = start (checked e) .args in
     let key = keyOf (a .matrix .now) (a .y .now) in
     begun .begun .ensures
-    ∙ ap (λ (x : List ℕ). begunWith (a .p) x (a .salt .now) (a .root .now) (a .work .now)) (called .begin-checks .ensures .1 (done-is _ (done e)))
+    ∙ ap (λ (x : List ℕ). begunWith (a .p) x (a .salt .now) (a .root .now) (a .work .now)) (checked e .begin-checks .ensures .1 (done-is _ (done e)))
     ∙ begun-with (held (a .self)) (a .p) (a .x-a .now) (a .salt .now) (a .root .now) key (a .work .now) (a .out .now) (facts e)
-    ∙ begin-done SHAKE256 (held (a .self)) (a .work .now) (a .out .now) key _ (a .p) (a .x-a .now) (a .salt .now) (a .root .now) (called .begin-checks .ensures .0) (done e)
+    ∙ begin-done SHAKE256 (held (a .self)) (a .work .now) (a .out .now) key _ (a .p) (a .x-a .now) (a .salt .now) (a .root .now) (answers (checked e)) (done e)
 
 pub begin-spec : {M : Type 1} → statement M
-begin-spec =
-    tie.close
-    (tie.spec
-    (λ c κs. search needs)
-    (λ c. search needs)
-    (λ c κs. search needs)
-    (λ c κs. search needs)
-    (λ c. search needs)
-    (λ c. search needs)
-    returns
-    begun-requires
-    (λ c. search needs)
-    (λ c. search needs)
-    returns-2)
+begin-spec = tie.close (tie.spec (λ c κs. search needs) (λ c. search needs) (λ c. search needs) (λ c. search needs)
+    (λ c κs. search needs) (λ c κs. search needs) (λ c. search needs) (λ c. search needs) returns begun-requires
+    (λ c. search needs) (λ c. search needs) returns-2)

@@ -1,49 +1,53 @@
 -- The checks refuse and nothing changes, or they pass and the call is carried out.
-use mathlib.Core.Path.{_∙_}
+use mathlib.Core.Path.{_≡_, _∙_}
 use borrow.Author.Needs.{needs}
 use Rattle.shake256.specs.Fips.{SHAKE256}
 use Rattle.exchange.specs.Values.{keyOf}
+use Rattle.calls.specs.Prover.{pointsChecks}
 use Rattle.arguments.specs.Arguments.Laws.{passed, failed}
 use Rattle.prover.specs.Checks.{points-refused, points-done, points-facts}
 use Rattle.prover.specs.Held.{held}
+use Rattle.prover.proofs.Arrays.{x-length}
 use Rattle.prover.proofs.Prover.points.Statement.{statement}
 use Rattle.prover.proofs.Prover.points.Tie as tie
 
+abbrev start : tie.After-points-checks → tie.Start
+start c = search
+
+-- what the checks answer, of the session
+answers : (c : tie.After-points-checks) → (let a = start c .args in c .points-checks .result
+    ≡ pointsChecks SHAKE256 (held (a .self)) (a .message2 .now) (keyOf (a .matrix .now) (a .y .now)) (a .work .now) (a .out .now))
+answers c = let s = start c .args .self in c .points-checks .ensures (s .salt) (s .root) (s .message2)
+
+points-checks-requires : tie.Need-points-checks-requires
+points-checks-requires c κs = let s : tie.Start = search in x-length (s .args .self) (s .good .0)
+
 returns : tie.Need-returns
 returns c =
-    let called = c .before .before in
-    let a = called .before .before .before .before .before .before .before .before .args in
-    points-refused SHAKE256 (held (a .self)) (a .work .now) (a .out .now) (keyOf (a .matrix .now) (a .y .now)) _ (a .message2 .now) (called .points-checks .ensures)
+    let called : tie.After-points-checks = search in
+    let a = start called .args in
+    points-refused SHAKE256 (held (a .self)) (a .work .now) (a .out .now) (keyOf (a .matrix .now) (a .y .now)) _ (a .message2 .now) (answers called)
     (failed (c .before .is-done .ensures) (c .if1 .taken))
 
 answered-requires : tie.Need-answered-requires
 answered-requires c κs =
-    let e = c .before .before in
-    let called = e .before .before in
-    let a = called .before .before .before .before .before .before .before .before .args in
-    points-facts SHAKE256 (held (a .self)) (a .work .now) (a .out .now) (keyOf (a .matrix .now) (a .y .now)) (a .message2 .now) _ (called .points-checks .ensures)
+    let e : tie.Else1 = search in
+    let called : tie.After-points-checks = search in
+    let a = start called .args in
+    points-facts SHAKE256 (held (a .self)) (a .work .now) (a .out .now) (keyOf (a .matrix .now) (a .y .now)) (a .message2 .now) _ (answers called)
     (passed (e .before .is-done .ensures) (e .if1 .left))
 
 returns-2 : tie.Need-returns-2
 returns-2 c =
-    let done = c .before .before .before .before in
-    let e = done .before .before .before in
-    let called = e .before .before in
-    let a = called .before .before .before .before .before .before .before .before .args in
-    done .answered .ensures
-    ∙ points-done SHAKE256 (held (a .self)) (a .work .now) (a .out .now) (keyOf (a .matrix .now) (a .y .now)) _ (a .message2 .now) (called .points-checks .ensures)
+    let made : tie.After-answered = search in
+    let e : tie.Else1 = search in
+    let called : tie.After-points-checks = search in
+    let a = start called .args in
+    made .answered .ensures
+    ∙ points-done SHAKE256 (held (a .self)) (a .work .now) (a .out .now) (keyOf (a .matrix .now) (a .y .now)) _ (a .message2 .now) (answers called)
     (passed (e .before .is-done .ensures) (e .if1 .left))
 
 pub points-spec : {M : Type 1} → statement M
-points-spec =
-    tie.close
-    (tie.spec
-    (λ c κs. search needs)
-    (λ c κs. search needs)
-    (λ c. search needs)
-    (λ c. search needs)
-    returns
-    answered-requires
-    (λ c. search needs)
-    (λ c. search needs)
+points-spec = tie.close (tie.spec (λ c. search needs) points-checks-requires (λ c κs. search needs)
+    (λ c. search needs) (λ c. search needs) returns answered-requires (λ c. search needs) (λ c. search needs)
     returns-2)

@@ -10,31 +10,28 @@ use Rattle.parameters.specs.Limits.{withinLimits}
 use Rattle.parameters.specs.Limits.Laws.{test-within}
 use Rattle.calls.specs.Prover.{intact, heldX}
 use Rattle.arguments.specs.Arguments.Laws.{passed, failed}
-use Rattle.prover.proofs.Arrays.{x-length}
 use Rattle.prover.proofs.held.intact.Statement.{statement}
 use Rattle.prover.proofs.held.intact.Tie as tie
 
-limits : (c : tie.Else1) → withinLimits (c .before .before .before .args .s .parameters) ≡ true
+abbrev start : tie.Else1 → tie.Start
+start c = search
+
+limits : (c : tie.Else1) → withinLimits (start c .args .p) ≡ true
 limits c = passed (c .before .within-limits .ensures) (c .if1 .left)
 
-x-fits : (c : tie.Else1) → (let s = c .before .before .before .args .s in s .parameters .m ≤ length (s .x))
-x-fits c =
-    let start = c .before .before .before in
-    omega (arith, x-length (start .args .s) (start .good .0), test-within (start .args .s .parameters) (limits c))
+x-fits : (c : tie.Else1) → (let a = start c .args in a .p .m ≤ length (a .x .now))
+x-fits c = omega (arith, start c .pre, test-within (start c .args .p) (limits c))
 
 returns : tie.Need-returns
 unfolding intact
-returns c = rw (failed (c .before .within-limits .ensures) (c .if1 .taken))
-
-array-share-prefix-x : tie.Need-array-share-prefix-x
-array-share-prefix-x c = x-fits (c .before)
+returns c = λ f salt root m2. rw (failed (c .before .within-limits .ensures) (c .if1 .taken))
 
 slice-aggregate-within-weight : tie.Need-slice-aggregate-within-weight
-slice-aggregate-within-weight c = sym (length-take-le _ _ (x-fits (c .before .before)))
+slice-aggregate-within-weight c = let e : tie.Else1 = search in sym (length-take-le _ _ (x-fits e))
 
 returns-2 : tie.Need-returns-2
 unfolding intact heldX
-returns-2 c = rw (limits (c .before .before .before)) (c .within-weight .ensures)
+returns-2 c = let e : tie.Else1 = search in λ f salt root m2. rw (limits e) (c .within-weight .ensures)
 
 pub intact-spec : {M : Type 1} → statement M
-intact-spec = tie.close (tie.spec (λ c κs. search needs) returns array-share-prefix-x slice-aggregate-within-weight (λ c κs. search needs) returns-2)
+intact-spec = tie.close (tie.spec (λ c κs. search needs) returns slice-aggregate-within-weight (λ c κs. search needs) returns-2)

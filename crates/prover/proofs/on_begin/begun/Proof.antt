@@ -11,17 +11,19 @@ use Rattle.prover.proofs.on_begin.begun.Tie as tie
 
 message1-requires : tie.Need-message1-requires
 message1-requires c κs =
-    let start = c .before .before .before .before .before .before .before in
+    let start : tie.Start = search in
     let h = start .pre in
     let x-is : length (start .args .t3) ≡ 255 = omega arith in (
-      record { within = h .within; light = h .light; x-is = x-is; salt-is = h .salt-is; root-is = h .root-is; work-fits = h .work-fits },
+      record { within = h .within; light = h .light; x-is = x-is; root-is = h .root-is; work-fits = h .work-fits },
+      h .salt-is,
       h .out-is,
     )
 
 returns : tie.Need-returns
 returns c =
-    let made = c .before .before .before .before .before .before .before .before in
-    let a = made .before .before .before .before .before .before .before .before .args in
+    let made : tie.After-message1 = search in
+    let start : tie.Start = search in
+    let a = start .args in
     begun-made (a .p) (a .t3) (a .salt .now) (a .root .now) (a .work .now) _ _ _
     (c .restarted .ensures
     ∙ ap₂ (nextBegun (c .before .begin .result) (a .p) (a .t3)) (c .before .before .before .array32 .ensures) (c .before .before .array16 .ensures)
@@ -29,15 +31,5 @@ returns c =
     (made .message1 .ensures .0) (made .message1 .ensures .1)
 
 pub begun-spec : {M : Type 1} → statement M
-begun-spec =
-    tie.close
-    (tie.spec
-    (λ c. search needs)
-    message1-requires
-    (λ c κs. search needs)
-    (λ c κs. search needs)
-    (λ c κs. search needs)
-    (λ c κs. search needs)
-    (λ c. search needs)
-    (λ c. search needs)
-    returns)
+begun-spec = tie.close (tie.spec (λ c. search needs) message1-requires (λ c κs. search needs) (λ c κs. search needs)
+    (λ c κs. search needs) (λ c κs. search needs) (λ c. search needs) (λ c. search needs) returns)

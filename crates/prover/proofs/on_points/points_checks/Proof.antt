@@ -1,6 +1,7 @@
 -- Each early return has the value of its test.
 use mathlib.Core.Path.{refl, sym, _∙_}
 use mathlib.Core.Bool.{true, false}
+use mathlib.Core.List.{[]}
 use borrow.Author.Needs.{needs}
 use Rattle.arguments.specs.Arguments.Laws.{passed, failed}
 use Rattle.prover.specs.Checks.{points-row, points-ready}
@@ -8,38 +9,33 @@ use Rattle.prover.proofs.on_points.points_checks.Statement.{statement}
 use Rattle.prover.proofs.on_points.points_checks.Tie as tie
 
 returns : tie.Need-returns
-returns c = points-row _ _ _ _ _ _ true _ _ (sym (c .before .closed .ensures) ∙ c .if1 .taken) refl refl
+returns c = λ salt root m2. points-row _ _ _ _ _ _ true _ _ (sym (c .before .closed .ensures salt root m2) ∙ c .if1 .taken) refl refl
 
 returns-2 : tie.Need-returns-2
 returns-2 c =
     let e = c .before .before in
-    points-row _ _ _ _ _ _ false false _ (sym (e .before .closed .ensures) ∙ e .if1 .left) (failed (c .before .points-due .ensures) (c .if2 .taken)) refl
+    λ salt root m2.
+    points-row _ _ _ _ _ _ false false _ (sym (e .before .closed .ensures salt root m2) ∙ e .if1 .left) (failed (c .before .points-due .ensures salt root m2) (c .if2 .taken)) refl
 
 points-lengths-requires : tie.Need-points-lengths-requires
-points-lengths-requires c κs = let e = c .before in points-ready _ (passed (e .before .points-due .ensures) (e .if2 .left)) .within
+points-lengths-requires c κs = let e = c in points-ready _ (passed (e .before .points-due .ensures [] [] []) (e .if2 .left)) .within
 
 returns-3 : tie.Need-returns-3
 returns-3 c =
-    let due = c .before .before .before in
+    let due = c .before .before in
     let e = due .before .before in
-    points-row _ _ _ _ _ _ false true false (sym (e .before .closed .ensures) ∙ e .if1 .left) (passed (due .before .points-due .ensures) (due .if2 .left))
+    λ salt root m2.
+    points-row _ _ _ _ _ _ false true false (sym (e .before .closed .ensures salt root m2) ∙ e .if1 .left) (passed (due .before .points-due .ensures salt root m2) (due .if2 .left))
     (failed (c .before .points-lengths .ensures) (c .if3 .taken))
 
 returns-4 : tie.Need-returns-4
 returns-4 c =
-    let due = c .before .before .before in
+    let due = c .before .before in
     let e = due .before .before in
-    points-row _ _ _ _ _ _ false true true (sym (e .before .closed .ensures) ∙ e .if1 .left) (passed (due .before .points-due .ensures) (due .if2 .left))
+    λ salt root m2.
+    points-row _ _ _ _ _ _ false true true (sym (e .before .closed .ensures salt root m2) ∙ e .if1 .left) (passed (due .before .points-due .ensures salt root m2) (due .if2 .left))
     (passed (c .before .points-lengths .ensures) (c .if3 .left))
 
 pub points-checks-spec : {M : Type 1} → statement M
-points-checks-spec =
-    tie.close
-    (tie.spec
-    (λ c κs. search needs)
-    returns
-    (λ c κs. search needs)
-    returns-2
-    points-lengths-requires
-    returns-3
-    returns-4)
+points-checks-spec = tie.close (tie.spec (λ c κs. search needs) returns (λ c κs. search needs) returns-2
+    points-lengths-requires returns-3 returns-4)

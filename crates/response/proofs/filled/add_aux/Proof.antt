@@ -1,5 +1,5 @@
 -- Aux is made from the part behind the first parties, and added into that part past its a and b.
-use mathlib.Core.Path.{ap, _∙_}
+use mathlib.Core.Path.{ap, ap₂, _∙_}
 use Prim.Native.Nat.{ℕ, _+_, _*_}
 use native.Mathlib.Omega.{arith}
 use borrow.Author.Needs.{needs}
@@ -12,40 +12,56 @@ use Rattle.response.proofs.filled.add_aux.Statement.{statement}
 use Rattle.response.proofs.filled.add_aux.Tie as tie
 
 mul-at : tie.Need-mul-at
-mul-at c = let s = c .before .before .before .before .before in let f = total-fits (s .args .p) (s .pre .0 .within) _ (c .before .share-length .ensures) in omega (arith, f .0, f .1)
+mul-at c =
+    let share : tie.After-share-length = search in
+    let s : tie.Start = search in
+    let f = total-fits (s .args .p) (s .pre .0 .within) _ (share .share-length .ensures) in
+    omega (arith, f .0, f .1)
 
 add-aux : tie.Need-add-aux
-add-aux c = let s = c .before .before .before .before .before in let f = total-fits (s .args .p) (s .pre .0 .within) _ (c .before .share-length .ensures) in omega (arith, f .0, f .1)
+add-aux c =
+    let share : tie.After-share-length = search in
+    let s : tie.Start = search in
+    let f = total-fits (s .args .p) (s .pre .0 .within) _ (share .share-length .ensures) in
+    omega (arith, f .0, f .1)
 
 part-aux-end : tie.Need-part-aux-end
 part-aux-end c =
-    let s = c .before .before .before .before .before .before in
-    let f = total-fits (s .args .p) (s .pre .0 .within) _ (c .before .before .share-length .ensures) in
+    let share : tie.After-share-length = search in
+    let s : tie.Start = search in
+    let f = total-fits (s .args .p) (s .pre .0 .within) _ (share .share-length .ensures) in
     omega (arith, f .0, s .pre .0 .area-is)
 
 add-xor-at : tie.Need-add-xor-at
 add-xor-at c =
-    let s = c .before .before .before .before .before .before .before .before .before .before .before .before .before in
-    let e = c .before .before .before .before .before .before .before .before .before .share-length .ensures in
-    let f = total-fits (s .args .p) (s .pre .0 .within) _ e in
-    omega (arith, f .0, f .1, e)
+    let offset : tie.After-at-x = search in
+    let share : tie.After-share-length = search in
+    let s : tie.Start = search in
+    let f = total-fits (s .args .p) (s .pre .0 .within) _ (share .share-length .ensures) in
+    omega (arith, f .0, f .1, share .share-length .ensures, offset .at-x .ensures)
 
 xor-at-requires : tie.Need-xor-at-requires
 xor-at-requires c κs =
-    let s = c .before .before .before .before .before .before .before .before .before .before .before .before .before .before in
-    let e = c .before .before .before .before .before .before .before .before .before .before .share-length .ensures in
-    let f = total-fits (s .args .p) (s .pre .0 .within) _ e in
-    omega (arith, f .0, e, s .pre .0 .area-is, s .pre .0 .aux-is, c .before .before .before .before .before .aux .kept .1 .1 .1 .0)
+    let offset : tie.After-at-x = search in
+    let made : tie.After-aux = search in
+    let share : tie.After-share-length = search in
+    let s : tie.Start = search in
+    let f = total-fits (s .args .p) (s .pre .0 .within) _ (share .share-length .ensures) in
+    omega (arith, f .0, share .share-length .ensures, offset .at-x .ensures, s .pre .0 .area-is, s .pre .0 .aux-is, made .aux)
 
 returns : tie.Need-returns
 returns c =
-    let s = c .before .before .before .before .before .before .before .before .before .before .before .before .before .before .before .before .before in
+    let added : tie.After-xor-at = search in
+    let offset : tie.After-at-x = search in
+    let made : tie.After-aux = search in
+    let share : tie.After-share-length = search in
+    let s : tie.Start = search in
     let a = s .args in
-    let e = c .before .before .before .before .before .before .before .before .before .before .before .before .before .share-length .ensures in
-    let size : ℕ = c .before .before .before .before .before .before .before .before .before .before .before .before .before .share-length .result in (
-      c .before .before .before .before .before .before .before .before .aux .ensures
+    let e = share .share-length .ensures in
+    let size : ℕ = share .share-length .result in (
+      made .aux .ensures
           ∙ ap (auxFor (a .p) (a .x .now)) (lent-part (a .area .now) (a .p .axes * size) size ∙ ap (λ (n : ℕ). part (a .area .now) (a .p .axes * n) n) e),
-      c .before .before .xor-at .ensures ∙ ap (λ (n : ℕ). xorAt (a .area .now) (a .p .axes * n + 8 * a .p .t) (c .before .before .before .before .before .before .before .before .aux .last .1 .1 .1 .0)) e,
+      added .xor-at .ensures ∙ ap₂ (λ (n k : ℕ). xorAt (a .area .now) (a .p .axes * n + k) (made .aux .last .1 .1 .1 .0)) e (offset .at-x .ensures),
     )
 
 pub add-aux-spec : {M : Type 1} → statement M
@@ -59,7 +75,7 @@ add-aux-spec =
     (λ c. search needs)
     part-aux-end
     (λ c κs. search needs)
-    (λ c. search needs)
+    (λ c κs. search needs)
     add-xor-at
     xor-at-requires
     (λ c. search needs)

@@ -1,6 +1,7 @@
 -- All states, the sums of all parties as hashed, the total, and aux in it (`fill-made`).
 use mathlib.Core.Path.{_∙_}
 use borrow.Author.Needs.{needs}
+use Rattle.exchange.specs.Run.{runOf}
 use Rattle.response.specs.Response.Laws.{fill-made}
 use Rattle.response.proofs.filled.fill_by.Statement.{statement}
 use Rattle.response.proofs.filled.fill_by.Tie as tie
@@ -26,7 +27,7 @@ returns c =
     let h = s .pre .0 in
     let a = s .args in
     let added = c .before .before .before .before .add-aux in
-    fill-made (a .p) (h .within) (a .x .now) (a .salt .now) (a .root .now) (h .root-is) _ _ _ _ _ _ (c .before .before .before .before .before .before .before .before .before .before .before .before .before .before .before .before .before .before .before .own-states .ensures) (c .before .before .before .before .before .before .before .before .before .before .before .before .before .before .before .leaf-count .ensures)
+    fill-made (a .p) (h .within) (a .x .now) (runOf (a .prefix .now) (a .root .now)) (h .root-is) _ _ _ _ _ _ (c .before .before .before .before .before .before .before .before .before .before .before .before .before .before .before .before .before .before .before .own-states .ensures) (c .before .before .before .before .before .before .before .before .before .before .before .before .before .before .before .leaf-count .ensures)
     (c .before .before .before .before .before .before .before .before .before .before .before .before .before .party-sums .ensures) (c .before .before .before .before .before .before .before .before .before .put-total .ensures) (added .ensures .0) (added .kept .1 .1 .1 .0 ∙ s .pre .2) (added .ensures .1)
 
 pub fill-by-spec : {M : Type 1} → statement M

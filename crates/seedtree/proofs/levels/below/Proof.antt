@@ -22,8 +22,8 @@ put-at-requires c κs = room (c .before .before .before)
 
 returns : tie.Need-returns
 returns c prefix b =
-    let written = c .before .before .before .before .before .before in
-    let start = written .before .before .before .before in
+    let written : tie.After-put-at = search in
+    let start : tie.Start = search in
     let seed = start .args .seed .now in
     let d = start .args .seeds .now in
     let size : 16 ≡ 0 + length seed = omega (arith, start .pre .sixteen) in

@@ -56,16 +56,16 @@ grow-requires : tie.Need-grow-requires Inv-loop μ-loop
 grow-requires c κs = room (c .before)
 
 mul-count : tie.Need-mul-count Inv-loop μ-loop
-mul-count c = omega (arith, room (c .before .before .before .before))
+mul-count c = let in-loop : tie.In-loop Inv-loop μ-loop = search in omega (arith, room in-loop)
 
 mul-first : tie.Need-mul-first Inv-loop μ-loop
-mul-first c = omega (arith, room (c .before .before .before .before))
+mul-first c = let in-loop : tie.In-loop Inv-loop μ-loop = search in omega (arith, room in-loop)
 
 loop-again : tie.Need-loop-again Inv-loop μ-loop
 loop-again c =
+    let head : tie.At-loop Inv-loop μ-loop = search in
+    let start : tie.Start Inv-loop μ-loop = search in
     let made = c .before .before .grow in
-    let head = c .before .before .before .before .before in
-    let start = head .before .before in
     let args = start .args in
     let i = head .loop .i in
     let inv = head .loop .inv in

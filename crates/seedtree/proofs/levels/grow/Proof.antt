@@ -27,9 +27,9 @@ loop-holds c =
 
 loop-again : tie.Need-loop-again Inv-loop μ-loop
 loop-again c =
+    let head : tie.At-loop Inv-loop μ-loop = search in
+    let start : tie.Start Inv-loop μ-loop = search in
     let made = c .before .before .expand in
-    let head = c .before .before .before .before .before in
-    let start = head .before .before in
     let args = start .args in
     let d = args .seeds .now in
     let j = head .loop .j - 1 in

@@ -1,9 +1,10 @@
 -- The values are those of Q, S and P, the tables those of ε and of ε·F(r), so that each share announces what it should.
 use mathlib.Core.Path.{_≡_, ap, _∙_}
-use Prim.Native.Nat.{_+_, _≤_}
+use Prim.Native.Nat.{ℕ, _+_, _*_, _≤_}
 use native.Mathlib.Omega.{arith}
 use borrow.Author.Needs.{needs}
 use Rattle.tower.specs.Field.{point, point-bytesOf}
+use Rattle.exchange.specs.Reading.{pointAt}
 use Rattle.exchange.specs.Values.{multiplierOf}
 use Rattle.points.specs.Multiples.{multiplesOf}
 use Rattle.values.specs.Position.Evaluated.{factor-made}
@@ -29,7 +30,12 @@ start m = back-to-start (point-read m)
 of-multiplier : (m : tie.After-multiples-of)
     → m .multiples-of .last .0 ≡ multiplesOf (multiplierOf (start m .args .p) (start m .args .m2 .now) (start m .args .l))
 unfolding multiplierOf
-of-multiplier m = m .multiples-of .ensures ∙ ap multiplesOf (ap point (point-read m .point-at .ensures) ∙ point-bytesOf _)
+of-multiplier m =
+    let r = point-read m in
+    let n : tie.After-points-length = search in
+    m .multiples-of .ensures
+    ∙ ap multiplesOf
+    (ap point (r .point-at .ensures) ∙ point-bytesOf _ ∙ ap (λ (k : ℕ). pointAt (start m .args .m2 .now) (k + 4 * start m .args .l)) (n .points-length .ensures))
 
 -- how many products the evaluations made
 few : (e : tie.After-evaluate) → e .evaluate .result .made ≤ 2147483648 + 13005
@@ -66,7 +72,7 @@ returns c =
     )
 
 pub announce-with-spec : {M : Type 1} → statement M
-announce-with-spec = tie.close (tie.spec (λ c. search needs) (λ c. search needs) (λ c. search needs) (λ c κs. search needs) (λ c. search needs)
+announce-with-spec = tie.close (tie.spec (λ c κs. search needs) (λ c. search needs) (λ c. search needs) (λ c κs. search needs) (λ c. search needs)
     (λ c κs. search needs) (λ c κs. search needs) (λ c. search needs)
     (λ c κs. let e : tie.After-evaluate = search in let m : tie.After-multiples-of = search in (omega (arith, m .multiples-of), omega (arith, few e)))
     (λ c. search needs) (λ c κs. let e : tie.After-evaluate = search in let s = back-to-start (back-to-point e) in (search needs, s .pre .3, s .pre .4))

@@ -9,16 +9,16 @@ use Rattle.verifier.proofs.checks.intact.Tie as tie
 
 returns : tie.Need-returns
 unfolding intact
-returns c = rw (sym (c .before .within-limits .ensures) ∙ not-true _ (c .if1 .taken))
+returns c = λ f m1 m2 m3. rw (sym (c .before .within-limits .ensures) ∙ not-true _ (c .if1 .taken))
 
 leaf-count-requires : tie.Need-leaf-count-requires
-leaf-count-requires c κs = test-within _ (sym (c .before .before .within-limits .ensures) ∙ not-false _ (c .before .if1 .left))
+leaf-count-requires c κs = test-within _ (sym (c .before .within-limits .ensures) ∙ not-false _ (c .if1 .left))
 
 returns-2 : tie.Need-returns-2
 unfolding intact
 returns-2 c =
-    let f = c .before .before in
-    rw (sym (f .before .within-limits .ensures) ∙ not-false _ (f .if1 .left), c .leaf-count .ensures)
+    let g = c .before in
+    λ f m1 m2 m3. rw (sym (g .before .within-limits .ensures) ∙ not-false _ (g .if1 .left), c .leaf-count .ensures)
 
 pub intact-spec : {M : Type 1} → statement M
-intact-spec = tie.close (tie.spec (λ c κs. search needs) returns (λ c. search needs) leaf-count-requires returns-2)
+intact-spec = tie.close (tie.spec (λ c κs. search needs) returns leaf-count-requires returns-2)

@@ -13,5 +13,4 @@ unfolding lent
 returns-2 c = rw (← c .before .before .message5-length .ensures, eq-eqb _ _ (c .before .if1 .left)) (c .lent .ensures)
 
 pub opening-lengths-spec : {M : Type 1} → statement M
-opening-lengths-spec =
-    tie.close (tie.spec (λ c. search needs) (λ c κs. search needs) returns (λ c κs. search needs) returns-2)
+opening-lengths-spec = tie.close (tie.spec (λ c κs. search needs) returns (λ c κs. search needs) returns-2)

@@ -11,19 +11,19 @@ returns : tie.Need-returns
 unfolding responseChecks
 returns c =
     let told = c .enum-told2 .given in
-    told .1 ∙ sym (state-refused _ _ (told .0 .0) (sym (c .before .before .state-checks .ensures) ∙ told .1) _)
+    λ m1 m2 m3. told .1 ∙ sym (state-refused _ _ (told .0 .0) (sym (c .before .before .state-checks .ensures m1 m2 m3) ∙ told .1) _)
 
 returns-2 : tie.Need-returns-2
 unfolding responseChecks
 returns-2 c =
     let told = c .before .enum-told .given in
-    rw (state-passed _ _ _ (sym (c .before .before .before .state-checks .ensures) ∙ told .1) _, ne-eqb _ _ (c .if1 .taken))
+    λ m1 m2 m3. rw (state-passed _ _ _ (sym (c .before .before .before .state-checks .ensures m1 m2 m3) ∙ told .1) _, ne-eqb _ _ (c .if1 .taken))
 
 returns-3 : tie.Need-returns-3
 unfolding responseChecks
 returns-3 c =
     let told = c .before .enum-told .given in
-    rw (state-passed _ _ _ (sym (c .before .before .before .state-checks .ensures) ∙ told .1) _, eq-eqb _ _ (c .if1 .left))
+    λ m1 m2 m3. rw (state-passed _ _ _ (sym (c .before .before .before .state-checks .ensures m1 m2 m3) ∙ told .1) _, eq-eqb _ _ (c .if1 .left))
 
 pub response-checks-spec : {M : Type 1} → statement M
 response-checks-spec =
