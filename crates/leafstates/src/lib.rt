@@ -1,7 +1,7 @@
 // Layer 2: the states of all leaves, one after another.
 use leaves::STATES;
 use leaves::leaf_state;
-use lists::copy;
+use seedtree::seed_of;
 use shake256::Sponge;
 use strings::begin;
 ghost use mathlib.Core.Path.{_≡_};
@@ -12,7 +12,7 @@ ghost use Rattle.leaves.specs.After.{stateAfter};
 ghost use Rattle.leafstates.specs.States.{seedAt, statesOf};
 ghost use Rattle.leafstates.specs.Shapes.{States};
 
-// The state of a leaf goes to its place, from its seed in the second half. The seed is copied first, since that of leaf
+// The state of a leaf goes to its place, from its seed in the second half. The seed is read first, since that of leaf
 // n−1 lies where its state goes.
 fn put_state(start: Sponge, leaf: usize, n: usize, states: &mut [u8])
     requires { ⌜ States n (now states) × (leaf < n) ⌝ }
@@ -20,8 +20,7 @@ fn put_state(start: Sponge, leaf: usize, n: usize, states: &mut [u8])
 {
     let from = 16 * (n + leaf);
     let to = 32 * leaf;
-    let mut seed = [0u8; 16];
-    copy(&mut seed, &states[from..from + 16]);
+    let seed = seed_of(&states[from..from + 16]);
     leaf_state(start, leaf, &seed, &mut states[to..to + 32]);
 }
 

@@ -1,5 +1,5 @@
 // The seeds below a node, level by level in one buffer.
-use lists::copy;
+use crate::seed_of;
 use lists::put_at;
 use shake256::Sponge;
 use strings::hash;
@@ -26,14 +26,13 @@ fn node_hash(nodes: Sponge, v: usize, seed: &[u8], out: &mut [u8])
     hash(nodes, &number, seed, &[], out);
 }
 
-// The children of the seed at index `from`, that of node v, go to index `to`. The seed is copied first, since the two
-// parts may overlap.
+// The children of the seed at index `from`, that of node v, go to index `to`. The seed is read first, since the two parts
+// may overlap.
 pub fn expand(nodes: Sponge, v: usize, seeds: &mut [u8], from: usize, to: usize)
     requires { ⌜ Expand v (now seeds) from to ⌝ }
     ensures { λ _. ⌜ ((prefix : List ℕ) → nodes ≡ begun 1 prefix → now (seeds .exit) ≡ putAt (now (seeds .entry)) to (tree.children SHAKE256 prefix v (part (now (seeds .entry)) from 16))) ⌝ }
 {
-    let mut seed = [0u8; 16];
-    copy(&mut seed, &seeds[from..from + 16]);
+    let seed = seed_of(&seeds[from..from + 16]);
     node_hash(nodes, v, &seed, &mut seeds[to..to + 32]);
 }
 

@@ -10,6 +10,7 @@ use treenodes::Way;
 use treenodes::root_way;
 ghost use mathlib.Core.Path.{_≡_};
 ghost use mathlib.Core.List.{List};
+ghost use lib.ListN.{length};
 ghost use Prim.Native.Nat.{ℕ, _+_, _-_, _*_, _/_};
 ghost use Rattle.shake256.specs.Fips.{SHAKE256};
 ghost use Rattle.lists.specs.Part.{putAt};
@@ -21,6 +22,31 @@ ghost use Rattle.seedtree.specs.Shapes.{Tree, Siblings, Opened, Beside};
 
 // The layer byte of the strings that give a node's children.
 const NODES: u8 = 1;
+
+// The sixteen bytes of a seed.
+pub fn seed_of(s: &[u8]) -> [u8; 16]
+    requires { ⌜ length (now s) ≡ 16 ⌝ }
+    ensures { λ r. ⌜ r ≡ now (s .entry) ⌝ }
+{
+    [
+        s[0],
+        s[1],
+        s[2],
+        s[3],
+        s[4],
+        s[5],
+        s[6],
+        s[7],
+        s[8],
+        s[9],
+        s[10],
+        s[11],
+        s[12],
+        s[13],
+        s[14],
+        s[15],
+    ]
+}
 
 // Fills `seeds` with the seeds of the leaves of a tree of d levels, from the root's seed.
 pub fn leaf_seeds(prefix: &[u8], d: usize, root: &[u8], seeds: &mut [u8])

@@ -1,4 +1,4 @@
--- The seed is copied before the children's part is lent to be filled, and that part comes back as a write.
+-- The seed is read before the children's part is lent to be filled, and that part comes back as a write.
 use mathlib.Core.Path.{_≡_, ap, ap₂, _∙_}
 use mathlib.Core.List.{_++_}
 use borrow.Author.Needs.{needs}
@@ -15,19 +15,20 @@ use Rattle.seedtree.proofs.levels.expand.Tie as tie
 returns : tie.Need-returns
 returns c prefix b =
     let filled : tie.After-node-hash = search in
-    let copied : tie.After-copy = search in
+    let read : tie.After-seed-of = search in
     let s : tie.Start = search in
     let args = s .args in
     let w = args .seeds .now in
     let string = nodeBytes (args .v) ++ part w (args .from) 16 in
     let is : filled .node-hash .last .1 .1 .1 .0 ≡ hashed (args .nodes) string 32 =
     filled .node-hash .ensures
-    ∙ ap₂ (λ l. hashed (args .nodes) (nodeBytes (args .v) ++ l)) (copied .copy .ensures ∙ lent-part w (args .from) 16) (lent-length w (args .to) 32 (s .pre .room)) in
+    ∙ ap₂ (λ l. hashed (args .nodes) (nodeBytes (args .v) ++ l)) (read .seed-of .ensures ∙ lent-part w (args .from) 16) (lent-length w (args .to) 32 (s .pre .room)) in
     part-back w _ (args .to) 32 (ap length is ∙ length-hashed (args .nodes) string 32)
     ∙ ap (putAt w (args .to)) (is ∙ hashed-children (args .nodes) prefix (args .v) (part w (args .from) 16) b)
 
 pub expand-spec : {M : Type 1} → statement M
 expand-spec =
     tie.close
-    (tie.spec (λ c. search needs) (λ c. search needs) (λ c. search needs) (λ c. search needs) (λ c. search needs) (λ c κs. search needs)
-    (λ c. search needs) (λ c. search needs) (λ c. search needs) (λ c. search needs) (λ c. search needs) (λ c κs. search needs) (λ c. search needs) returns)
+    (tie.spec (λ c. search needs) (λ c. search needs) (λ c. search needs) (λ c. search needs)
+    (λ c κs. let s : tie.Start = search in lent-length (s .args .seeds .now) (s .args .from) 16 (s .pre .seed)) (λ c. search needs)
+    (λ c. search needs) (λ c. search needs) (λ c. search needs) (λ c. search needs) (λ c κs. search needs) (λ c. search needs) returns)
