@@ -1,4 +1,4 @@
-/* Times the product of bytes through libbytefield_c.a against the same product in C over the same two tables. */
+/* Times the product of bytes through libbench_c.a against the same product in C over the same two tables. */
 #include <stdint.h>
 #include <stdio.h>
 #include <stdlib.h>

@@ -14,7 +14,7 @@ const COMMON: [(&str, &[&str]); 8] = [
     ("Rattle.answers.specs.Number", &["answerNumber"]),
     ("Rattle.parameters.specs.declared.Parameters", &["Parameters"]),
     ("Rattle.exchange.specs.Values", &["Key"]),
-    ("Rattle.standin.specs.StandIn", &["hex", "standIn", "weak", "weakLeaves"]),
+    ("Rattle.test_standin.specs.StandIn", &["hex", "standIn", "weak", "weakLeaves"]),
 ];
 
 /// From so many equal bytes on, a list is written as a repetition.

@@ -10,12 +10,12 @@ use reference::stand_in::{under, Weakness};
 const FINDING_USES: [(&str, &[&str]); 3] = [
     ("Rattle.exchange.specs.Opening", &["Exchange", "exchange"]),
     ("Rattle.exchange.specs.Extractor", &["extract"]),
-    ("Rattle.standin.specs.Definitions", &["definitions", "findingLists"]),
+    ("Rattle.test_standin.specs.Definitions", &["definitions", "findingLists"]),
 ];
 
 const CALL_USES: [(&str, &[&str]); 2] = [
     ("Rattle.calls.specs.Extractor", &["Transcript", "Outcome", "refused", "pair", "filled", "extraction"]),
-    ("Rattle.trial_extractor.specs.Definitions", &["definitions", "gives", "given"]),
+    ("Rattle.test_calls.specs.Definitions", &["definitions", "gives", "given"]),
 ];
 
 /// The hash of a weakness.

@@ -15,7 +15,7 @@ const USES: [(&str, &[&str]); 5] = [
     ("Rattle.exchange.specs.Tree", &["siblings"]),
     ("Rattle.exchange.specs.Opening", &["Exchange"]),
     ("Rattle.exchange.specs.Extractor", &["compared", "axis"]),
-    ("Rattle.standin.specs.Definitions", &["definitions"]),
+    ("Rattle.test_standin.specs.Definitions", &["definitions"]),
 ];
 
 /// A list of terms.

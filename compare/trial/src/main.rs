@@ -4,9 +4,8 @@
 //! trial DIRECTORY
 //! ```
 //!
-//! Each module of the crates `trial`, `trial_axes`, `trial_prover`, `trial_verifier` and `trial_extractor` that states facts
-//! is written there, below its crate's name, and the root module that names them all. One line a module is printed: its
-//! crate, its name and how many facts it states.
+//! Each module of the crates `test_exchange` and `test_calls` that states facts is written there, below its crate's name, and
+//! the root module that names them all. One line a module is printed: its crate, its name and how many facts it states.
 
 mod antt;
 mod extractor;
@@ -33,32 +32,27 @@ struct Crate {
 }
 
 /// m, k, w, D, t and the weight of x: small, since the facts are computed by the definitions.
-fn crates() -> [Crate; 5] {
+fn crates() -> [Crate; 2] {
     let one_axis = Sample::new(1, Parameters::new(3, 1, 2, 1, 1), 2);
     let two_axes = Sample::new(2, Parameters::new(5, 3, 2, 2, 1), 1);
     let two_positions = Sample::new(3, Parameters::new(3, 2, 1, 1, 2), 1);
     let small = Sample::new(4, Parameters::new(2, 1, 1, 1, 1), 1);
     let small_square = Sample::new(5, Parameters::new(2, 1, 1, 2, 1), 1);
     let [one_axis_findings, two_axes_findings] = extractor::findings(&small, &small_square);
-    let trial = vec![
+    let title = "m 5, k 3, w 2, D 2, t 1; x has one nonzero entry, so E is filled.";
+    let exchange = vec![
         layout::module(),
         messages::module("OneAxis", "m 3, k 1, w 2, D 1, t 1.", &one_axis, 0, Extent::Verdicts),
-        messages::module("TwoPositions", "m 3, k 2, w 1, D 1, t 2.", &two_positions, 0, Extent::Messages),
         one_axis_findings,
-    ];
-    let title = "m 5, k 3, w 2, D 2, t 1; x has one nonzero entry, so E is filled.";
-    let trial_axes = vec![
+        messages::module("TwoPositions", "m 3, k 2, w 1, D 1, t 2.", &two_positions, 0, Extent::Messages),
         messages::module("TwoAxes", title, &two_axes, 1, Extent::Messages),
-        sums::module("Sums", "m 2, k 1, w 1, D 2, t 1.", &small_square, 10, 1),
         two_axes_findings,
+        sums::module("Sums", "m 2, k 1, w 1, D 2, t 1.", &small_square, 10, 1),
     ];
-    let calls = |name, module| Crate { name, given: &["Definitions"], modules: vec![module] };
+    let calls = vec![prover::calls(&small), verifier::calls(&small), extractor::calls(&small)];
     [
-        Crate { name: "trial", given: &[], modules: trial },
-        Crate { name: "trial_axes", given: &[], modules: trial_axes },
-        calls("trial_prover", prover::calls(&small)),
-        calls("trial_verifier", verifier::calls(&small)),
-        calls("trial_extractor", extractor::calls(&small)),
+        Crate { name: "test_exchange", given: &[], modules: exchange },
+        Crate { name: "test_calls", given: &["Definitions"], modules: calls },
     ]
 }
 

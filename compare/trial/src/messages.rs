@@ -11,7 +11,7 @@ const USES: [(&str, &[&str]); 6] = [
     ("Rattle.exchange.specs.Run", &["runOf"]),
     ("Rattle.exchange.specs.Messages", &["message1", "message3", "message5"]),
     ("Rattle.exchange.specs.Opening", &["Exchange", "exchange", "verdict"]),
-    ("Rattle.standin.specs.Definitions", &["definitions"]),
+    ("Rattle.test_standin.specs.Definitions", &["definitions"]),
 ];
 
 /// How many of the facts a module states: a verdict costs as much as three messages 3, and the more the longer x is.

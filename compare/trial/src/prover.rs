@@ -8,7 +8,7 @@ use reference::sampling::calls::{LentBytes, ProverCall, ProverInput};
 
 const USES: [(&str, &[&str]); 2] = [
     ("Rattle.calls.specs.Prover", &["Prover", "Outcome", "fresh", "begin", "points", "leaf"]),
-    ("Rattle.trial_prover.specs.Definitions", &["definitions"]),
+    ("Rattle.test_calls.specs.Definitions", &["definitions"]),
 ];
 
 /// A session, the term for it, and how many calls were made on it so far.

@@ -14,7 +14,7 @@ use reference::sampling::Random;
 const USES: [(&str, &[&str]); 3] = [
     ("Rattle.exchange.specs.Parties", &["sumsOf"]),
     ("Rattle.exchange.specs.Opening", &["Exchange", "exchange", "announced", "verdict"]),
-    ("Rattle.standin.specs.Definitions", &["definitions"]),
+    ("Rattle.test_standin.specs.Definitions", &["definitions"]),
 ];
 
 /// The module of a key: an opening that hides a leaf, and one that hides leaf n−1.

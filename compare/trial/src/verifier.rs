@@ -12,7 +12,7 @@ const USES: [(&str, &[&str]); 2] = [
         "Rattle.calls.specs.Verifier",
         &["Verifier", "Outcome", "Judged", "fresh", "begin", "points", "response", "leaf", "opening"],
     ),
-    ("Rattle.trial_verifier.specs.Definitions", &["definitions"]),
+    ("Rattle.test_calls.specs.Definitions", &["definitions"]),
 ];
 
 /// A session, the term for it, and how many calls were made on it so far.

@@ -14,9 +14,9 @@ use Rattle.exchange.specs.Reading.{pointAt}
 use Rattle.exchange.specs.Values.{Key}
 use Rattle.exchange.specs.Parties.{announcedBytes}
 use Rattle.exchange.specs.Announcing.{Hidden, announcedBy}
-use Rattle.sidebyside.specs.Shares.{shareOf}
+use Rattle.coefficients.specs.Shares.{shareOf}
 use Rattle.parties.specs.Sums.{withLast}
-use Rattle.partyrows.specs.Row.{hiddenParty}
+use Rattle.axes.specs.Row.{hiddenParty}
 pub mod Strings
 
 unfoldable pub partyFrom : Parameters → List ℕ → ℕ → ℕ → List ℕ

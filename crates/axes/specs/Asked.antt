@@ -6,6 +6,7 @@
 -- SumsAsked          the sums with their blocks, α̂ and β̂
 -- TotalAsked         the same with α and β of the hidden leaf, and room for the row of the sum of all disclosed leaves
 -- RoomAsked          room for what is made once for all axes
+-- RowAsked     the share, its block, α̂ and β̂
 use mathlib.Core.Path.{_≡_}
 use mathlib.Core.List.{List}
 use Prim.Native.Nat.{ℕ, _-_, _*_, _≤_}
@@ -57,3 +58,9 @@ pub record RoomAsked (p : Parameters) (blocks sums total hiding : List ℕ) : Ty
   pub sized-sums : length sums ≡ valuesLength p
   pub sized-total : length total ≡ rowLength p
   pub sized-hiding : length hiding ≡ rowLength p
+
+pub record RowAsked (p : Parameters) (s block sums : List ℕ) : Type 0 where
+  pub within : Within p
+  pub sized-s : length s ≡ shareLength p
+  pub sized-block : length block ≡ rowLength p
+  pub sized-sums : length sums ≡ valuesLength p

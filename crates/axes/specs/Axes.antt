@@ -32,13 +32,13 @@ use Rattle.exchange.specs.Reading.Laws.{bytesAt-part, encode-ext}
 use Rattle.exchange.specs.Values.{Key, alpha, beta}
 use Rattle.values.specs.Announced.{announcedOf}
 use Rattle.values.specs.Filled.{filled-block}
-use Rattle.sidebyside.specs.Shares.{shareOf}
+use Rattle.coefficients.specs.Shares.{shareOf}
 use Rattle.values.specs.Products.{productsOf}
 use Rattle.values.specs.Shares.{blockOf}
 use Rattle.parties.specs.Sums.{less, withLast}
-use Rattle.partyrows.specs.Difference.{encode-xor, front-xor, shareRow}
-use Rattle.partyrows.specs.Row.{frontBy, rowBy, hiddenParty, hidingBy, withHidden, sumsBy, axisBy}
-use Rattle.partyrows.specs.Row.Laws.{frontBy-is, rowBy-is, row-v}
+use Rattle.axes.specs.Difference.{encode-xor, front-xor, shareRow}
+use Rattle.axes.specs.Row.{frontBy, rowBy, hiddenParty, hidingBy, withHidden, sumsBy, axisBy}
+use Rattle.axes.specs.Row.Laws.{frontBy-is, rowBy-is, row-v}
 use Rattle.axes.specs.Announcing.{partyFrom, hiddenFrom, rowOf}
 use Rattle.axes.specs.Parties.{hatAlpha, hatBeta, totalV, formulaRow, hidingOf, row-made, last-row, less-ext}
 

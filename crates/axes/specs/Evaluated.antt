@@ -16,7 +16,7 @@ use Rattle.parameters.specs.declared.Parameters.{Parameters}
 use Rattle.layout.specs.Layout.{others, sumCount, rowLength, shareLength}
 use Rattle.layout.specs.Layout.Laws.{others-pos}
 use Rattle.exchange.specs.Values.{Key}
-use Rattle.sidebyside.specs.Shares.{shareOf}
+use Rattle.coefficients.specs.Shares.{shareOf}
 use Rattle.values.specs.Announced.{announcedOf}
 use Rattle.values.specs.Shares.{blockOf, Announcements}
 

@@ -1,7 +1,11 @@
 pub mod Announcing
-pub mod Parties
-pub mod Axes
-pub mod Rows
 pub mod Asked
-pub mod Slices
+pub mod Axes
+pub mod Difference
 pub mod Evaluated
+pub mod Parties
+pub mod Row
+pub mod RowStrings
+pub mod Rows
+pub mod Slices
+pub mod Streamed

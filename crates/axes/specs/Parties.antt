@@ -27,8 +27,8 @@ use Rattle.exchange.specs.Values.{Key, alpha, beta, partV}
 use Rattle.exchange.specs.Parties.{sums, announcedBytes}
 use Rattle.exchange.specs.Announcing.{Hidden, partyAlpha, partyBeta, formulaV, partyV, announcedBy}
 use Rattle.parties.specs.Sums.{less}
-use Rattle.partyrows.specs.Difference.{shareRow, alpha-difference, beta-difference, partV-difference, row-difference}
-use Rattle.partyrows.specs.Row.Laws.{hide-made}
+use Rattle.axes.specs.Difference.{shareRow, alpha-difference, beta-difference, partV-difference, row-difference}
+use Rattle.axes.specs.Row.Laws.{hide-made}
 
 -- ---- sums in any group
 

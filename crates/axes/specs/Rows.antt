@@ -29,12 +29,12 @@ use Rattle.exchange.specs.Sequences.{joined}
 use Rattle.exchange.specs.Sequences.Laws.{joined-ext}
 use Rattle.exchange.specs.Reading.{encode}
 use Rattle.exchange.specs.Reading.Laws.{length-encode}
-use Rattle.sidebyside.specs.Shares.{shareOf}
+use Rattle.coefficients.specs.Shares.{shareOf}
 use Rattle.values.specs.Shares.{blockOf}
-use Rattle.encoding.specs.Blocks.{within-blocks}
+use Rattle.points.specs.Blocks.{within-blocks}
 use Rattle.parties.specs.Blocks.{part-joined, xorAt-joined}
 use Rattle.parties.specs.Sums.{less, withLast}
-use Rattle.partyrows.specs.Row.{frontBy, vAt, vBy, rowBy}
+use Rattle.axes.specs.Row.{frontBy, vAt, vBy, rowBy}
 use Rattle.axes.specs.Axes.{partyRow}
 use Rattle.axes.specs.Parties.{less-ext}
 

@@ -1,4 +1,6 @@
 // The rows of an axis's parties: of all but the last one from their sums, of the last one what these leave of the row of all leaves.
+use crate::hidden::hidden_party;
+use crate::row::put_row;
 use layout::LONGEST_ROW;
 use layout::others;
 use layout::row_length;
@@ -6,8 +8,6 @@ use layout::share_length;
 use layout::side;
 use layout::sum_index;
 use parameters::Parameters;
-use partyrows::hidden::hidden_party;
-use partyrows::row::put_row;
 ghost use mathlib.Core.Path.{_≡_};
 ghost use mathlib.Core.Bool.{cond};
 ghost use Prim.Native.Nat.{_*_, _<_};
@@ -20,7 +20,7 @@ ghost use Rattle.parameters.specs.Limits.{Within};
 ghost use Rattle.layout.specs.Layout as layout;
 ghost use Rattle.exchange.specs.Sequences.{joined};
 ghost use Rattle.parties.specs.Sums.{less};
-ghost use Rattle.partyrows.specs.Row.{hiddenParty, axisBy};
+ghost use Rattle.axes.specs.Row.{hiddenParty, axisBy};
 ghost use Rattle.axes.specs.Asked.{SumsAsked};
 ghost use Rattle.axes.specs.Axes.{partyRow, formulaRows};
 

@@ -1,7 +1,11 @@
 // What the parties of every axis announce (document 01, 'Parties'), for prover and verifier alike.
 mod axis;
+pub mod digests;
+pub mod hidden;
+pub mod row;
 mod rows;
 mod total;
+pub mod total_row;
 
 use crate::rows::axis_rows_with;
 use layout::LONGEST_ROW;

@@ -1,10 +1,10 @@
 // The rows of all axes, one after another.
 use crate::axis::put_axis;
+use crate::hidden::put_hiding;
 use crate::total::evaluate;
 use crate::total::total_row;
 use layout::axis_length;
 use parameters::Parameters;
-use partyrows::hidden::put_hiding;
 ghost use mathlib.Core.Path.{_≡_};
 ghost use Prim.Native.Nat.{_*_};
 ghost use lib.ListN.{length};
@@ -12,7 +12,7 @@ ghost use Rattle.bytefield.specs.Tables.{logs, powers};
 ghost use Rattle.layout.specs.Layout.{rowLength, axisLength};
 ghost use Rattle.exchange.specs.Sequences.{joined};
 ghost use Rattle.exchange.specs.Values.{keyOf};
-ghost use Rattle.partyrows.specs.Row.{hiddenParty, axisBy};
+ghost use Rattle.axes.specs.Row.{hiddenParty, axisBy};
 ghost use Rattle.axes.specs.Announcing.{rowOf};
 ghost use Rattle.axes.specs.Asked.{RowsAsked, RoomAsked, SumsAsked};
 ghost use Rattle.axes.specs.Axes.{partyRow, productsMade};

@@ -1,19 +1,19 @@
 // What is made once for all axes: the blocks of all sums, α̂ and β̂, and the row of the sum of all disclosed leaves.
+use crate::total_row::total_row_with;
 use layout::row_length;
 use layout::share_length;
 use layout::sum_count;
 use parameters::Parameters;
-use partyrows::total::total_row_with;
 ghost use mathlib.Core.Path.{_≡_};
 ghost use mathlib.Core.Bool.{true};
 ghost use Prim.Native.Nat.{_+_, _*_};
 ghost use lib.ListN.{length};
 ghost use Rattle.bytefield.specs.Tables.{logs, powers};
 ghost use Rattle.exchange.specs.Values.{keyOf};
-ghost use Rattle.sidebyside.specs.Shares.{shareOf};
+ghost use Rattle.coefficients.specs.Shares.{shareOf};
 ghost use Rattle.values.specs.Shares.{blockOf, Announcements};
 ghost use Rattle.values.specs.Products.{productsOf};
-ghost use Rattle.partyrows.specs.Row.{rowBy, sumsBy};
+ghost use Rattle.axes.specs.Row.{rowBy, sumsBy};
 ghost use Rattle.axes.specs.Axes.{Evaluated, productsMade};
 ghost use Rattle.axes.specs.Asked.{EvaluateAsked, SomeAsked, TotalAsked};
 

@@ -1,4 +1,4 @@
--- Fresh sessions in a buffer that the caller lends. What a buffer holds after a call is said in buffer/specs/Buffer.antt.
+-- Fresh sessions in a buffer that the caller lends. What a buffer holds after a call is said in stored/specs/Buffer.antt.
 --
 -- proverNew b           a prover's session before its first begin
 -- verifierNew b         a verifier's session before its first begin
@@ -10,8 +10,8 @@ use Rattle.answers.specs.Number.{refusalNumber}
 use Rattle.answers.specs.declared.Refusal.the-variants.{Parameter, Length}
 use Rattle.parameters.specs.declared.Parameters.{Parameters}
 use Rattle.parameters.specs.Limits.{withinLimits}
-unfoldable pub use Rattle.buffer.specs.Buffer.{fits}
-pub use Rattle.buffer.specs.Buffer.{after, Kept, kept, misfit}
+unfoldable pub use Rattle.stored.specs.Buffer.{fits}
+pub use Rattle.stored.specs.Buffer.{after, Kept, kept, misfit}
 use Rattle.calls.specs.Prover as prover
 use Rattle.calls.specs.Verifier as verifier
 use Rattle.stored.specs.Prover.{proverSize, proverBytes}

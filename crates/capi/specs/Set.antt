@@ -5,7 +5,7 @@ use mathlib.Core.List.{List}
 use Prim.Native.Nat.{ℕ}
 use Rattle.parameters.specs.declared.Parameters.{Parameters}
 use Rattle.parameters.specs.Set.{setLength, parametersOf}
-use Rattle.buffer.specs.Buffer.{fits}
+use Rattle.stored.specs.Buffer.{fits}
 pub mod Laws
 
 abbrev pub withSet : {A : Type 0} → List ℕ → (Parameters → A) → A → A

@@ -1,8 +1,8 @@
 // The verifier's calls.
 use crate::misfit::misfit_number;
 use answers::Answer;
-use buffer::is_judged;
 use parameters::set::parameters_of;
+use stored::buffer::is_judged;
 use verifier::Called;
 ghost use mathlib.Core.Path.{_≡_};
 ghost use mathlib.Core.Bool.{true, cond};

@@ -2,9 +2,11 @@
 --
 --   RowsAsked p n c shares matrix y rows   n shares within the limits, up to fifteen, one after another, with the key and room for c rows of m bytes
 --   Lent p weights g                       the weights and the complement of the m interpolation points
+--   GatherAsked p n shares from words             up to eight shares within the limits, with words for bytes from place `from` on
+--   VectorsAsked p n shares matrix y words        the same, with the key and words for x
 use mathlib.Core.Path.{_≡_}
 use mathlib.Core.List.{List}
-use Prim.Native.Nat.{ℕ, _-_, _*_, _≤_}
+use Prim.Native.Nat.{ℕ, _-_, _*_, _≤_, _+_}
 use lib.ListN.{length}
 use Rattle.parameters.specs.declared.Parameters.{Parameters}
 use Rattle.parameters.specs.Limits.{Within}
@@ -22,3 +24,17 @@ pub record RowsAsked (p : Parameters) (n c : ℕ) (shares matrix y rows : List �
 pub record Lent (p : Parameters) (weights g : List ℕ) : Type 0 where
   pub made-weights : weights ≡ weightsOf (p .m)
   pub made-complement : g ≡ complementOf (p .m)
+
+pub record GatherAsked (p : Parameters) (n : ℕ) (shares : List ℕ) (from : ℕ) (words : List ℕ) : Type 0 where
+  pub within : Within p
+  pub few : n ≤ 8
+  pub sized-shares : length shares ≡ n * shareLength p
+  pub room : from + length words ≤ shareLength p
+
+pub record VectorsAsked (p : Parameters) (n : ℕ) (shares matrix y words : List ℕ) : Type 0 where
+  pub within : Within p
+  pub few : n ≤ 8
+  pub sized-shares : length shares ≡ n * shareLength p
+  pub sized-matrix : length matrix ≡ (p .m - p .k) * p .k
+  pub sized-y : length y ≡ p .m - p .k
+  pub sized-words : length words ≡ p .m

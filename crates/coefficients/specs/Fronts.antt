@@ -8,7 +8,7 @@ use Prim.Native.Nat.{ℕ, _≤_}
 use native.Mathlib.Omega.{arith}
 use lib.ListN.{length, take, drop}
 use lib.Seq.{take-at}
-use Rattle.encoding.specs.Written.{front-length, front-kept}
+use Rattle.points.specs.Written.{front-length, front-kept}
 
 pub record Front (n : ℕ) (d x : List ℕ) : Type 0 where
   pub room : n ≤ length d

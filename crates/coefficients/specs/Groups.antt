@@ -26,7 +26,7 @@ use Rattle.layout.specs.Layout.{shareLength}
 use Rattle.exchange.specs.Values.{Key, xOf, SOf, F}
 use Rattle.packed.specs.Share.{share}
 use Rattle.interpolants.specs.Shares.{share-end}
-use Rattle.sidebyside.specs.Shares.{shareOf}
+use Rattle.coefficients.specs.Shares.{shareOf}
 
 -- ---- parts of one size
 

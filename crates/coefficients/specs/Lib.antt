@@ -1,3 +1,8 @@
 pub mod Asked
+pub mod Columns
 pub mod Fronts
 pub mod Groups
+pub mod Imaged
+pub mod Made
+pub mod Shares
+pub mod Spread

@@ -1,4 +1,6 @@
 // S of several shares, eight at a time, and F: the vectors x stand side by side in words (crate packed).
+pub mod sidebyside;
+
 use layout::LONGEST_X;
 use layout::share_length;
 use parameters::Parameters;
@@ -10,7 +12,7 @@ ghost use Rattle.bytefield.specs.Tables.{logs, powers};
 ghost use Rattle.packed.specs.Share.{share};
 ghost use Rattle.exchange.specs.Sequences.{joined};
 ghost use Rattle.exchange.specs.Values.{keyOf, SOf, F};
-ghost use Rattle.sidebyside.specs.Shares.{shareOf};
+ghost use Rattle.coefficients.specs.Shares.{shareOf};
 ghost use Rattle.coefficients.specs.Asked.{RowsAsked, Lent};
 
 // rows becomes the entries of the first n shares of the words, one share after another.
@@ -48,7 +50,7 @@ fn interpolate_group(
 {
     let mut a = [0u64; 255];
     let m = p.m;
-    sidebyside::vectors(p, n, shares, matrix, y, first, &mut a[..m]);
+    crate::sidebyside::vectors(p, n, shares, matrix, y, first, &mut a[..m]);
     interpolants::interpolate(&mut a, m, weights, g, log, pow);
     let d = 255 - m;
     unpack(&a[d..], n, rows);

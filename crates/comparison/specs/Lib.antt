@@ -1,5 +1,7 @@
-pub mod Head
+pub mod Answer
 pub mod Chain
 pub mod Comparison
+pub mod Found
+pub mod Head
 pub mod Output
 pub mod Shapes

@@ -4,8 +4,8 @@
 use mathlib.Core.List.{List}
 use Prim.Native.Nat.{ℕ}
 use Rattle.calls.specs.Extractor.{Outcome}
-use Rattle.findings.specs.declared.Extraction.{Extraction}
-use Rattle.findings.specs.Answer.{extractionAnswer}
+use Rattle.comparison.specs.declared.findings.Extraction.{Extraction}
+use Rattle.comparison.specs.Answer.{extractionAnswer}
 pub mod Laws
 
 abbrev pub given : Extraction → List ℕ → List ℕ → Outcome

@@ -1,6 +1,6 @@
 // Two checked openings compared.
-use findings::Extraction;
-use findings::compare;
+use comparison::findings::Extraction;
+use comparison::findings::compare;
 use layout::MOST_SIBLINGS;
 use layout::MOST_VALUES;
 use parameters::Parameters;
@@ -9,7 +9,7 @@ ghost use mathlib.Core.Path.{_≡_};
 ghost use lib.ListN.{length, take};
 ghost use Rattle.reader.specs.Message5.{commitmentIn, auxIn};
 ghost use Rattle.comparison.specs.Comparison.{comparison};
-ghost use Rattle.findings.specs.Found.{Found};
+ghost use Rattle.comparison.specs.Found.{Found};
 ghost use Rattle.extractor.specs.Judged.{viewOf, Message5, Openings};
 
 // Reads the hidden leaf's commitment; the answer is how long aux is, which ends message 5.

@@ -6,7 +6,7 @@ mod judge;
 use answers::Answer;
 use checks::early_checks;
 use compare::compare_openings;
-use findings::Extraction;
+use comparison::findings::Extraction;
 use judge::judge;
 use layout::MOST_ROWS;
 use layout::MOST_STATES;

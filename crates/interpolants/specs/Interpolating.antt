@@ -24,8 +24,8 @@ use Rattle.bytefield.specs.Inverse.{inverse}
 use Rattle.bytefield.specs.Inverse.Laws.{⊗-inverse}
 use Rattle.bytefield.specs.Byte.{byte, byteRing, byteField, byte-zero, byte-homomorphism}
 use Rattle.packed.specs.Maps.{getD-map-in}
-use Rattle.powersums.specs.PowerSum.{timesEach, PowerSums}
-use Rattle.powersums.specs.Classes.Laws.{getD-timesEach}
+use Rattle.interpolants.specs.PowerSum.{timesEach, PowerSums}
+use Rattle.interpolants.specs.Classes.Laws.{getD-timesEach}
 use Rattle.polynomial.specs.Bytes.{Bytes, inField, byte-equal, byte-at, byte-eval}
 use Rattle.polynomial.specs.Interpolant.{interpolationPoints, interpolantOf}
 use Rattle.polynomial.specs.Interpolant.Laws.{length-ascending, ascending-at, ascending-distinct, interpolant-unique}

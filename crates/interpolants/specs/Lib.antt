@@ -1,7 +1,12 @@
+pub mod Added
 pub mod Cancel
+pub mod Classes
 pub mod Complement
-pub mod Interpolating
 pub mod Division
+pub mod Filled
+pub mod Interpolating
 pub mod Loops
+pub mod PowerSum
 pub mod Shares
+pub mod Sums
 pub mod Vanishing

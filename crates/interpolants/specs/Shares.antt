@@ -21,7 +21,7 @@ use Rattle.polynomial.specs.Bytes.{Bytes, bytes-take}
 use Rattle.polynomial.specs.Interpolant.{interpolantOf}
 use Rattle.packed.specs.Share.{share}
 use Rattle.packed.specs.Share.Laws.{length-share}
-use Rattle.powersums.specs.PowerSum.{timesEach, PowerSums}
+use Rattle.interpolants.specs.PowerSum.{timesEach, PowerSums}
 use Rattle.interpolants.specs.Complement.{complementOf, weightsOf}
 use Rattle.interpolants.specs.Complement.Laws.{length-complement, complement-monic}
 use Rattle.interpolants.specs.Interpolating.{transform-elsewhere, transform-here, interpolant-made}

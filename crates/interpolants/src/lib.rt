@@ -1,4 +1,6 @@
 // S of up to eight vectors side by side, by power sums and one division, and F by the same division. Complement and weights depend on m alone.
+pub mod powersums;
+
 ghost use mathlib.Core.Path.{_≡_};
 ghost use mathlib.Core.List.{_++_};
 ghost use Prim.Native.Nat.{ℕ, _-_, _<_, _≤_};
@@ -89,7 +91,7 @@ pub fn interpolate(
     requires { ⌜ (length (now a) ≡ 255) × (0 < m) × (m < 256) × (now weights ≡ weightsOf m) × (now g ≡ complementOf m) × (now log ≡ logs) × (now pow ≡ powers) ⌝ }
     ensures { λ _. ⌜ ((i : ℕ) → i < 8 → share i (now (a .exit)) ≡ replicate (255 - m) 0 ++ interpolantOf (share i (take m (now (a .entry))))) ⌝ }
 {
-    powersums::power_sums(a, m, weights, log, pow);
+    crate::powersums::power_sums(a, m, weights, log, pow);
     let d = 255 - m;
     divide(a, &g[..d]);
 }

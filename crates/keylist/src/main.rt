@@ -38,11 +38,11 @@ fn feed_all(matrix: &mut [u8], y: &mut [u8], x_a: &mut [u8]) -> KeyScan {
 }
 
 fn main() {
-    let mut matrix = listing::matrix_room();
-    let mut y = listing::vector_room();
-    let mut x_a = listing::vector_room();
-    let mut out = listing::listing_room();
+    let mut matrix = keytext::listing::matrix_room();
+    let mut y = keytext::listing::vector_room();
+    let mut x_a = keytext::listing::vector_room();
+    let mut out = keytext::listing::listing_room();
     let scan = feed_all(&mut matrix, &mut y, &mut x_a);
-    let n = listing::finish(scan, &matrix, &y, &x_a, &mut out);
+    let n = keytext::listing::finish(scan, &matrix, &y, &x_a, &mut out);
     io::write_all(STDOUT_FILENO, &out[..n]);
 }

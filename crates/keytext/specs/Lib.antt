@@ -1,1 +1,4 @@
+pub mod Finish
+pub mod Form
+pub mod Listing
 pub mod Scan

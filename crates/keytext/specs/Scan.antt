@@ -26,7 +26,7 @@ use Rattle.text.specs.Scanner.Word.{wordStart, wordStep, wordAccepts}
 use Rattle.text.specs.Scanner.Decimal.{decimalStart, decimalStep, decimalAccepts}
 use Rattle.text.specs.Scanner.Hex.{hexStart, HexHeld, hexHeld, hexStep, hexAccepts}
 use Rattle.keytext.specs.declared.KeyScan.{KeyScan}
-use Rattle.keyform.specs.Form.{wordOf, lastField}
+use Rattle.keytext.specs.Form.{wordOf, lastField}
 pub mod Steps
 pub mod Keeps
 pub mod Fields

@@ -1,9 +1,12 @@
 // The four lines of a key (document 01, Key listing), read in pieces of any length. The scanner is a state by value; the bytes of the matrix, y and
 // x_A go into lent slices as they come.
-use keyform::accepts_word;
-use keyform::all_lines;
-use keyform::last_field;
-use keyform::push_word;
+pub mod form;
+pub mod listing;
+
+use crate::form::accepts_word;
+use crate::form::all_lines;
+use crate::form::last_field;
+use crate::form::push_word;
 use text::both;
 use text::decimal::DecimalScan;
 use text::hex::HexScan;
@@ -12,7 +15,7 @@ ghost use mathlib.Core.Path.{_≡_};
 ghost use Rattle.text.specs.Fold.{fold};
 ghost use Rattle.text.specs.Scanner.Word.{wordStep, wordAccepts};
 ghost use Rattle.text.specs.Scanner.Decimal.{decimalStep};
-ghost use Rattle.keyform.specs.Form.{wordOf};
+ghost use Rattle.keytext.specs.Form.{wordOf};
 ghost use Rattle.keytext.specs.Scan.{start, broken, withWord, withNumber, hexed, hexByte, held, byteStep, accepted, savedNumbers, savedLengths, closed, fieldEnd, lineEnd, step, complete};
 
 // A key's text as its bytes come. `sound` while it can still be the four lines; `line` of them have ended, and `field` fields of the next one; the

@@ -1,3 +1,4 @@
 pub mod After
-pub mod States
+pub mod Commitments
 pub mod Shapes
+pub mod States

@@ -5,14 +5,17 @@
 -- ShareBytes i st      a leaf's number of one byte, and a state that begins with its seed
 -- Share p i st aux s   a leaf's state and aux where it is leaf n−1, and room for its share
 -- Commitment p i s     a leaf, and room for its commitment
+-- States n st     at most 256 leaves, and room for their states
+-- Absorb p i st        a leaf, and its state among the states st
+-- Commitments p st     parameters within their limits, and the states of all leaves
 use mathlib.Core.Path.{_≡_}
 use mathlib.Core.Bool.{true}
 use mathlib.Core.List.{List}
-use Prim.Native.Nat.{ℕ, _≤_, _<_}
+use Prim.Native.Nat.{ℕ, _≤_, _<_, _*_, _+_}
 use lib.ListN.{length}
 use Rattle.parameters.specs.declared.Parameters.{Parameters}
 use Rattle.parameters.specs.Limits.{Within}
-use Rattle.layout.specs.Layout.{isLast, auxLength, shareLength}
+use Rattle.layout.specs.Layout.{isLast, auxLength, shareLength, leaves}
 
 pub record LeafOf (p : Parameters) (i : ℕ) : Type 0 where
   pub within : Within p
@@ -35,3 +38,15 @@ pub record Share (p : Parameters) (i : ℕ) (st aux s : List ℕ) : Type 0 where
   pub state : length st ≡ 32
   pub last : isLast p i ≡ true → length aux ≡ auxLength p
   pub room : length s ≡ shareLength p
+
+pub record States (n : ℕ) (st : List ℕ) : Type 0 where
+  pub most : n ≤ 256
+  pub room : length st ≡ 32 * n
+
+pub record Absorb (p : Parameters) (i : ℕ) (st : List ℕ) : Type 0 where
+  pub of : LeafOf p i
+  pub state : 32 * i + 32 ≤ length st
+
+pub record Commitments (p : Parameters) (st : List ℕ) : Type 0 where
+  pub within : Within p
+  pub states : length st ≡ 32 * leaves p

@@ -16,10 +16,10 @@ use Rattle.exchange.specs.Run.{Run}
 use Rattle.exchange.specs.Strings.{string5}
 use Rattle.exchange.specs.Messages.{ownAux, message1}
 use Rattle.leaves.specs.States.{stateAt}
-use Rattle.commitments.specs.Commitments.{commitmentsOf}
-use Rattle.commitments.specs.Commitments.Laws.{commitments-message1}
-use Rattle.ownleaves.specs.Own.{ownStates}
-use Rattle.ownleaves.specs.Own.Laws.{ownStates-at}
+use Rattle.leaves.specs.Commitments.{commitmentsOf}
+use Rattle.leaves.specs.Commitments.Laws.{commitments-message1}
+use Rattle.messages.specs.Own.{ownStates}
+use Rattle.messages.specs.Own.Laws.{ownStates-at}
 
 pub commitment-made : (p : Parameters) (x : List ℕ) (run : Run) → length (run .root) ≡ 16 → (states aux : List ℕ)
     → states ≡ ownStates p run → aux ≡ ownAux SHAKE256 p x run

@@ -1,3 +1,7 @@
 pub mod Asked
+pub mod Auxiliary
 pub mod Commitment
 pub mod Opening
+pub mod Own
+pub mod Response
+pub mod Rounds

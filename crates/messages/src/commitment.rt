@@ -1,10 +1,10 @@
 // Message 1: salt, and the digest h of all leaf commitments.
+use crate::own_leaves::own_leaves;
 use bytefield::log_table;
 use bytefield::power_table;
-use commitments::digest_commitments;
 use layout::leaf_count;
+use leaves::commitments::digest_commitments;
 use lists::put_at;
-use ownleaves::own_leaves;
 use parameters::Parameters;
 ghost use mathlib.Core.Path.{_≡_};
 ghost use mathlib.Core.List.{[], _++_};
@@ -15,8 +15,8 @@ ghost use Rattle.layout.specs.Layout.{leaves, auxLength, workLength};
 ghost use Rattle.exchange.specs.Run.{runOf};
 ghost use Rattle.exchange.specs.Strings.{string5};
 ghost use Rattle.exchange.specs.Messages as spec;
-ghost use Rattle.commitments.specs.Commitments.{commitmentsOf};
-ghost use Rattle.ownleaves.specs.Asked.{Held};
+ghost use Rattle.leaves.specs.Commitments.{commitmentsOf};
+ghost use Rattle.messages.specs.Asked.{Held};
 ghost use Rattle.messages.specs.Asked.{FirstAsked};
 
 // out becomes the prefix and the digest of all commitments, from the states of all leaves and aux.

@@ -1,6 +1,11 @@
 // The prover's messages 1 and 5 (document 01, Messages) from what its session holds. The work area that is lent ends as zeros.
+pub mod auxiliary;
 mod commitment;
+mod filled;
 mod opening;
+pub mod own_leaves;
+pub mod response;
+pub mod rounds;
 
 use crate::commitment::put_message1;
 use crate::opening::put_message5;
@@ -17,7 +22,7 @@ ghost use Rattle.layout.specs.Layout.{leaves, workLength, message5Length};
 ghost use Rattle.exchange.specs.Run.{runOf};
 ghost use Rattle.exchange.specs.Messages as spec;
 ghost use Rattle.exchange.specs.Values.{keyOf};
-ghost use Rattle.ownleaves.specs.Asked.{Held, Keyed};
+ghost use Rattle.messages.specs.Asked.{Held, Keyed};
 
 // out becomes message 1, and the area ends as zeros.
 pub fn message1(

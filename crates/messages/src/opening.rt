@@ -1,4 +1,5 @@
 // Message 5: the siblings of the leaf, what the leaf itself gives, and aux unless it is leaf n−1.
+use crate::own_leaves::own_leaves;
 use bytefield::log_table;
 use bytefield::power_table;
 use layout::LONGEST_SHARE;
@@ -12,7 +13,6 @@ use leaves::SHARES;
 use leaves::leaf_commitment;
 use leaves::leaf_share;
 use lists::put_at;
-use ownleaves::own_leaves;
 use parameters::Parameters;
 use seedtree::sibling_seeds;
 use strings::begin;
@@ -32,7 +32,7 @@ ghost use Rattle.exchange.specs.Messages.{message5};
 ghost use Rattle.exchange.specs.Values.{keyOf};
 ghost use Rattle.values.specs.Leaf.{leafValues};
 ghost use Rattle.messages.specs.Opening.{leafBytes, openingOf};
-ghost use Rattle.ownleaves.specs.Asked.{Held};
+ghost use Rattle.messages.specs.Asked.{Held};
 ghost use Rattle.messages.specs.Asked.{LeafAsked, OpeningAsked, LastAsked};
 
 // out becomes the leaf's commitment, from its state.

@@ -14,8 +14,8 @@ use Prim.Native.Nat.{ℕ, _-_, _*_, _≤_, _<_}
 use lib.ListN.{length}
 use Rattle.parameters.specs.declared.Parameters.{Parameters}
 use Rattle.parameters.specs.Limits.{Within}
-use Rattle.commitments.specs.Shapes.{Commitments}
-use Rattle.axisdigests.specs.Rows.{ResponseAsked}
+use Rattle.leaves.specs.Shapes.{Commitments}
+use Rattle.axes.specs.RowStrings.{ResponseAsked}
 use Rattle.layout.specs.Layout.{leaves, valuesLength, axisLength, auxLength, message2Length, siblingsLength, message5Length, workLength}
 
 pub record OpeningAsked (p : Parameters) (m1 m2 m3 : List ℕ) (leaf : ℕ) (m5 matrix y area states rows : List ℕ) : Type 0 where

@@ -21,11 +21,11 @@ use Rattle.exchange.specs.Strings.{string5}
 use Rattle.exchange.specs.Tree.{openedSeeds}
 use Rattle.exchange.specs.Values.{Key}
 use Rattle.seedtree.specs.Laid.{laid}
-use Rattle.leafstates.specs.States.{statesOf}
-use Rattle.commitments.specs.Commitments.{commitmentsOf}
+use Rattle.leaves.specs.States.{statesOf}
+use Rattle.leaves.specs.Commitments.{commitmentsOf}
 use Rattle.parties.specs.Sums.Front.{filled}
 use Rattle.axes.specs.Announcing.{rowOf}
-use Rattle.axisdigests.specs.Rows.{rowsString}
+use Rattle.axes.specs.RowStrings.{rowsString}
 
 unfoldable pub statesFrom : Parameters → List ℕ → ℕ → List ℕ → List ℕ
 statesFrom p prefix leaf siblings = statesOf prefix (laid (openedSeeds SHAKE256 prefix (p .axes) 1 leaf siblings)) (leaves p)

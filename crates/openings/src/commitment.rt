@@ -1,7 +1,7 @@
 // Layers 1, 2, 4 and 5 of an opening: the states of the disclosed leaves, and h recomputed.
-use commitments::digest_commitments;
 use layout::leaf_count;
-use leafstates::leaf_states;
+use leaves::commitments::digest_commitments;
+use leaves::states::leaf_states;
 use lists::equal;
 use parameters::Parameters;
 use seedtree::opened_seeds;

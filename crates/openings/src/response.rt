@@ -1,7 +1,7 @@
 // Layers 3, 6 and 7 of an opening: the sums of the disclosed leaves, what the parties of every axis announce, and h'
 // recomputed.
 use axes::axis_rows;
-use axisdigests::response_digest;
+use axes::digests::response_digest;
 use bytefield::log_table;
 use bytefield::power_table;
 use layout::at_x;
@@ -24,7 +24,7 @@ ghost use Rattle.exchange.specs.Values.{keyOf};
 ghost use Rattle.parties.specs.Sums.Front.{filled};
 ghost use Rattle.axes.specs.Announcing.{rowOf};
 ghost use Rattle.axes.specs.Asked.{RowsAsked};
-ghost use Rattle.axisdigests.specs.Rows.{ResponseAsked};
+ghost use Rattle.axes.specs.RowStrings.{ResponseAsked};
 ghost use Rattle.openings.specs.From.{announcedFrom, rowsFrom, responseFrom};
 ghost use Rattle.openings.specs.Asked.{SumsAsked, AnnounceAsked, AxesAsked};
 

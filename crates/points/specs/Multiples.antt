@@ -15,7 +15,7 @@ use Rattle.tower.specs.Field.{Point, point, bytesOf}
 use Rattle.packed.specs.Word.{word}
 use Rattle.packed.specs.Table.{multiples}
 use Rattle.exchange.specs.Reading.{_⊠_}
-use Rattle.encoding.specs.Written.{scalar}
+use Rattle.points.specs.Written.{scalar}
 pub mod Laws
 
 unfoldable pub wordOf : Point → ℕ

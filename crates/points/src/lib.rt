@@ -1,5 +1,7 @@
 // The points field: four bytes b0 b1 b2 b3 stand for b0 + b1·X + (b2 + b3·X)·Z, where X² = X + 20 and Z² = Z + 20·X (hexadecimal).
 // A product is read from a table of the multiples of one factor. The tables of the byte field are made once by the caller and lent.
+pub mod encoding;
+
 ghost use mathlib.Core.Path.{_≡_};
 ghost use mathlib.Core.Logic.{_⊎_};
 ghost use Prim.Native.Nat.{_+_, _<_, _≤_};

@@ -10,7 +10,7 @@ use denote.Struct.Laws.{val}
 use denote.Struct.Struct.{within}
 use Rattle.layout.specs.Layout.{workLength}
 use Rattle.exchange.specs.Run.{runOf}
-use Rattle.rounds.specs.Rounds.{Arrays}
+use Rattle.messages.specs.Rounds.{Arrays}
 use Rattle.prover.specs.declared.Prover.{Prover}
 use Rattle.prover.specs.Facts.{Ready}
 use Rattle.calls.specs.Prover.{heldX}

@@ -30,8 +30,8 @@ use Rattle.layout.specs.Layout.{leaves, message2Length, message5Length}
 use Rattle.exchange.specs.Values.{Key}
 use Rattle.layout.specs.Lent.{lent, Lent}
 use Rattle.layout.specs.Lent.Laws.{test-lent}
-use Rattle.arguments.specs.Arguments.{beginTests, argumentChecks}
-use Rattle.arguments.specs.Arguments.Laws.{begin-sized}
+use Rattle.prover.specs.Arguments.{beginTests, argumentChecks}
+use Rattle.prover.specs.Arguments.Laws.{begin-sized}
 use Rattle.prover_phase.specs.declared.Phase.{Phase}
 use Rattle.prover_phase.specs.declared.Phase.the-variants.{Fresh, Begun, Answered, Closed}
 use Rattle.calls.specs.Lengths.{keyLengths, beginLengths, pointsLengths, leafLengths}

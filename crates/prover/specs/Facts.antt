@@ -20,7 +20,7 @@ use Rattle.parameters.specs.Limits.{Within}
 use Rattle.relation.specs.Key.{vectorOf, weightOf}
 use Rattle.layout.specs.Layout.{leaves, message2Length, message5Length, workLength}
 use Rattle.layout.specs.Lent.{Lent}
-use Rattle.arguments.specs.Arguments.{Sized}
+use Rattle.prover.specs.Arguments.{Sized}
 use Rattle.calls.specs.Prover.{Prover, Outcome, heldX}
 
 -- did the checks pass?

@@ -1,5 +1,6 @@
-pub mod Held
-pub mod Facts
-pub mod Next
-pub mod Checks
+pub mod Arguments
 pub mod Carried
+pub mod Checks
+pub mod Facts
+pub mod Held
+pub mod Next

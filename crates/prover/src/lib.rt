@@ -1,8 +1,10 @@
 // The prover's session. It holds what later calls need and nothing derived: parameters, x, salt, root, message 2 and its phase.
+pub mod arguments;
 mod held;
 mod on_begin;
 mod on_leaf;
 mod on_points;
+mod vector;
 
 use answers::Answer;
 use parameters::Parameters;

@@ -1,9 +1,9 @@
 // The call begin: its checks, and the call carried out.
 use crate::Called;
 use crate::Prover;
+use crate::arguments::both;
 use answers::Answer;
 use answers::Refusal;
-use arguments::both;
 use layout::arrays;
 use parameters::Parameters;
 use prover_phase::Phase;
@@ -52,7 +52,7 @@ pub fn begin_checks(
         (keyOf (now (matrix .entry)) (now (y .entry))) (now (work .entry)) (now (out .entry)))
         × (r ≡ Done → now (x .exit) ≡ spec.padded 255 (vectorOf (now (matrix .entry)) (now (y .entry)) (now («x_a» .entry)))) ⌝ }
 {
-    let answer = arguments::begin_arguments(p, x_a, salt, root, matrix, y, work, out, x);
+    let answer = crate::arguments::begin_arguments(p, x_a, salt, root, matrix, y, work, out, x);
     let Answer::Done = answer else {
         return answer;
     };
@@ -96,7 +96,7 @@ pub fn begun(
     requires { ⌜ Starting p x (now salt) (now root) (now work) (now out) ⌝ }
     ensures { λ r. ⌜ given r (now (out .exit)) (now (work .exit)) ≡ begunWith p x (now (salt .entry)) (now (root .entry)) (now (work .entry)) ⌝ }
 {
-    rounds::message1(p, &x, salt, root, work, out);
+    messages::rounds::message1(p, &x, salt, root, work, out);
     let held_salt = arrays::array32(salt);
     let held_root = arrays::array16(root);
     let phase = prover_phase::after::begin();

@@ -1,11 +1,11 @@
 // The call leaf: its checks, and the call carried out.
 use crate::Called;
 use crate::Prover;
+use crate::arguments::leaf_lengths;
 use crate::held::closed;
 use crate::held::standing;
 use answers::Answer;
 use answers::Refusal;
-use arguments::leaf_lengths;
 use parameters::Parameters;
 use prover_phase::Phase;
 use prover_phase::due::is_answered;
@@ -97,7 +97,7 @@ pub fn opened(
     let salt = s.salt;
     let root = s.root;
     let message2 = s.message2;
-    rounds::message5(p, &x, &salt, &root, &message2, leaf, matrix, y, work, out);
+    messages::rounds::message5(p, &x, &salt, &root, &message2, leaf, matrix, y, work, out);
     let prover = ended(s);
     Called {
         prover,

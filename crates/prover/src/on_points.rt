@@ -1,11 +1,11 @@
 // The call points: its checks, and the call carried out.
 use crate::Called;
 use crate::Prover;
+use crate::arguments::points_lengths;
 use crate::held::closed;
 use crate::held::standing;
 use answers::Answer;
 use answers::Refusal;
-use arguments::points_lengths;
 use layout::arrays;
 use parameters::Parameters;
 use prover_phase::Phase;
@@ -100,7 +100,7 @@ pub fn answered(
     let x = s.x;
     let salt = s.salt;
     let root = s.root;
-    rounds::message3(p, &x, &salt, &root, message2, matrix, y, work, out);
+    messages::rounds::message3(p, &x, &salt, &root, message2, matrix, y, work, out);
     let padded = arrays::padded64(message2);
     let prover = responded(s, padded);
     Called {

@@ -1,6 +1,7 @@
-pub mod Writes
 pub mod Laid
 pub mod Levels
-pub mod Siblings
 pub mod Opened
 pub mod Shapes
+pub mod Siblings
+pub mod Way
+pub mod Writes

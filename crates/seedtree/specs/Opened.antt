@@ -26,9 +26,9 @@ use Rattle.seedtree.specs.Writes.{putAt-front, putAt-behind}
 use Rattle.seedtree.specs.Laid.{slot, laid, Slotted}
 use Rattle.seedtree.specs.Laid.Laws.{slot-seed, part-laid, full-slotted, each-append, laid-append, length-laid}
 use Rattle.seedtree.specs.Levels.Laws.{full-leafSeeds, length-leaves}
-use Rattle.treenodes.specs.declared.Way.{Way}
-use Rattle.treenodes.specs.Way.{second, rootWay, side, skipped, next, OnWay}
-use Rattle.treenodes.specs.Way.Laws.{level-less, onWay-half, onWay-side, onWay-skipped}
+use Rattle.seedtree.specs.declared.nodes.Way.{Way}
+use Rattle.seedtree.specs.Way.{second, rootWay, side, skipped, next, OnWay}
+use Rattle.seedtree.specs.Way.Laws.{level-less, onWay-half, onWay-side, onWay-skipped}
 
 -- ---- the first sibling seed and the others
 

@@ -12,7 +12,7 @@ use mathlib.Core.Path.{_≡_}
 use mathlib.Core.List.{List}
 use Prim.Native.Nat.{ℕ, _+_, _*_, _/_, _^_, _≤_, _<_}
 use lib.ListN.{length}
-use Rattle.treenodes.specs.declared.Way.{Way}
+use Rattle.seedtree.specs.declared.nodes.Way.{Way}
 
 pub record Expand (v : ℕ) (d : List ℕ) (from to : ℕ) : Type 0 where
   pub node : v < 65536

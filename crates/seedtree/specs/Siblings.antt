@@ -19,9 +19,9 @@ use Rattle.exchange.specs.Strings.{string1}
 use Rattle.exchange.specs.Tree.{seedsOf, children, leftSeed, rightSeed, siblings, siblingSeeds}
 use Rattle.seedtree.specs.Writes.{take-putAt-end}
 use Rattle.seedtree.specs.Levels.Laws.{length-children}
-use Rattle.treenodes.specs.declared.Way.{Way}
-use Rattle.treenodes.specs.Way.{second, rootWay, side, skipped, next, OnWay}
-use Rattle.treenodes.specs.Way.Laws.{level-less, onWay-side, onWay-skipped}
+use Rattle.seedtree.specs.declared.nodes.Way.{Way}
+use Rattle.seedtree.specs.Way.{second, rootWay, side, skipped, next, OnWay}
+use Rattle.seedtree.specs.Way.Laws.{level-less, onWay-side, onWay-skipped}
 
 module _ (hash : List ℕ → ℕ → List ℕ) (prefix : List ℕ) where
   module _ (hash-length : (s : List ℕ) (n : ℕ) → length (hash s n) ≡ n) where

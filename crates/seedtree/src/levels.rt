@@ -1,9 +1,9 @@
 // The seeds below a node, level by level in one buffer.
+use crate::nodes::node_bytes;
 use crate::seed_of;
 use lists::put_at;
 use shake256::Sponge;
 use strings::hash;
-use treenodes::node_bytes;
 ghost use mathlib.Core.Path.{_≡_};
 ghost use mathlib.Core.List.{List, _++_};
 ghost use Prim.Native.Nat.{ℕ, _<_};

@@ -1,13 +1,14 @@
 // The seed tree (document 01, layer 1): all leaf seeds from the root, the siblings of a leaf, all leaf seeds but one.
 mod levels;
+mod nodes;
 
 use crate::levels::below;
 use crate::levels::expand;
+use crate::nodes::Way;
+use crate::nodes::root_way;
 use lists::put_at;
 use shake256::Sponge;
 use strings::begin;
-use treenodes::Way;
-use treenodes::root_way;
 ghost use mathlib.Core.Path.{_≡_};
 ghost use mathlib.Core.List.{List};
 ghost use lib.ListN.{length};
@@ -17,7 +18,7 @@ ghost use Rattle.lists.specs.Part.{putAt};
 ghost use Rattle.exchange.specs.Tree as tree;
 ghost use Rattle.strings.specs.Digest.{begun};
 ghost use Rattle.seedtree.specs.Laid.{laid};
-ghost use Rattle.treenodes.specs.Way.{side, skipped};
+ghost use Rattle.seedtree.specs.Way.{side, skipped};
 ghost use Rattle.seedtree.specs.Shapes.{Tree, Siblings, Opened, Beside};
 
 // The layer byte of the strings that give a node's children.

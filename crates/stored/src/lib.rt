@@ -1,4 +1,5 @@
 // Sessions as bytes, for a caller that keeps a session in a buffer of its own.
+pub mod buffer;
 mod parts;
 
 use layout::arrays::array16;

@@ -1,5 +1,8 @@
 // A whole exchange of prover and verifier (document 01, Sessions) on the key that standard input holds, or on the default key where it is empty.
 // Of each message it prints name, length and digest, then the verdict.
+mod default_key;
+mod report;
+
 use answers::Answer;
 use answers::Refusal;
 use keytext::KeyScan;
@@ -19,7 +22,7 @@ fn show_set(p: Parameters)
     requires { ⌜ Within p ⌝ }
 {
     let mut line = [0u8; 96];
-    let n = report::set_line(&mut line, p);
+    let n = crate::report::set_line(&mut line, p);
     io::write_all(STDOUT_FILENO, &line[..n]);
 }
 
@@ -28,14 +31,14 @@ fn show(name: &[u8], message: &[u8])
     requires { ⌜ (length (now name) ≤ 24) × (length (now message) < 10_000) ⌝ }
 {
     let mut line = [0u8; 96];
-    let n = report::message_line(&mut line, name, message);
+    let n = crate::report::message_line(&mut line, name, message);
     io::write_all(STDOUT_FILENO, &line[..n]);
 }
 
 // The verdict, and what is proved of it.
 fn show_verdict(a: Answer) {
     let mut line = [0u8; 96];
-    let n = report::verdict_line(&mut line, a);
+    let n = crate::report::verdict_line(&mut line, a);
     io::write_all(STDOUT_FILENO, &line[..n]);
     io::write_all(
         STDOUT_FILENO,
@@ -46,7 +49,7 @@ fn show_verdict(a: Answer) {
 // The only line for a key that is refused.
 fn show_refused(r: Refusal) {
     let mut line = [0u8; 96];
-    let n = listing::refused(&mut line, r);
+    let n = keytext::listing::refused(&mut line, r);
     io::write_all(STDOUT_FILENO, &line[..n]);
 }
 
@@ -104,7 +107,7 @@ fn leaf(
 ) -> Answer
     requires { ⌜ Within p ⌝ }
 {
-    let hidden = defaultkey::leaf(p);
+    let hidden = crate::default_key::leaf(p);
     let message4 = [hidden];
     let sent = verifier.leaf(hidden);
     let answer = sent.answer;
@@ -160,7 +163,7 @@ fn points(
     requires { ⌜ Within p ⌝ }
     requires { ⌜ length (now message2) < 10_000 ⌝ }
 {
-    defaultkey::points(message2);
+    crate::default_key::points(message2);
     let sent = verifier.points(message2);
     let answer = sent.answer;
     let Answer::Done = answer else {
@@ -197,8 +200,8 @@ fn received(
 fn exchange(p: Parameters, matrix: &[u8], y: &[u8], x_a: &[u8])
     requires { ⌜ Within p ⌝ }
 {
-    let salt = defaultkey::salt();
-    let root = defaultkey::root();
+    let salt = crate::default_key::salt();
+    let root = crate::default_key::root();
     let mut work = work_room();
     let mut message1 = [0u8; 64];
     let sent = prover::fresh().begin(p, x_a, &salt, &root, matrix, y, &mut work, &mut message1);
@@ -215,17 +218,17 @@ fn exchange(p: Parameters, matrix: &[u8], y: &[u8], x_a: &[u8])
 
 // The exchange on the default key.
 fn on_default_key() {
-    let p = defaultkey::shipped_set();
+    let p = crate::default_key::shipped_set();
     let mut matrix = [0u8; 13104];
-    defaultkey::matrix(&mut matrix);
-    let y = defaultkey::syndrome();
-    let x_a = defaultkey::x_a();
+    crate::default_key::matrix(&mut matrix);
+    let y = crate::default_key::syndrome();
+    let x_a = crate::default_key::x_a();
     exchange(p, &matrix, &y, &x_a);
 }
 
 // The exchange on a key that was read.
 fn on_key_read(scan: KeyScan, matrix: &[u8], y: &[u8], x_a: &[u8]) {
-    let checked = listing::read_checks(scan, matrix.len(), y.len(), x_a.len());
+    let checked = keytext::listing::read_checks(scan, matrix.len(), y.len(), x_a.len());
     if let Answer::Refused(r) = checked {
         show_refused(r);
         return;
@@ -272,9 +275,9 @@ fn feed_rest(begun: KeyScan, matrix: &mut [u8], y: &mut [u8], x_a: &mut [u8]) ->
 }
 
 fn main() {
-    let mut matrix = listing::matrix_room();
-    let mut y = listing::vector_room();
-    let mut x_a = listing::vector_room();
+    let mut matrix = keytext::listing::matrix_room();
+    let mut y = keytext::listing::vector_room();
+    let mut x_a = keytext::listing::vector_room();
     let first = feed_some(KeyScan::new(), &mut matrix, &mut y, &mut x_a);
     if !first.more {
         on_default_key();

@@ -1,5 +1,6 @@
 pub mod Announced
 pub mod Asked
+pub mod Evaluation
 pub mod Filled
 pub mod Leaf
 pub mod Position

@@ -19,7 +19,7 @@ use Rattle.layout.specs.Layout.{atV, factorLength}
 use Rattle.exchange.specs.Sequences.{joined}
 use Rattle.exchange.specs.Reading.{value, _⊠_}
 use Rattle.exchange.specs.Values.{Key, QOf, POf, SOf, F, pointOf, multiplierOf, alpha, beta}
-use Rattle.sidebyside.specs.Shares.{shareOf}
+use Rattle.coefficients.specs.Shares.{shareOf}
 use Rattle.points.specs.Multiples.{wordOf, multiplesOf}
 use Rattle.values.specs.Announced.{gamma}
 use Rattle.values.specs.Shares.{blockOf}

@@ -10,7 +10,7 @@ use Rattle.lists.specs.Part.{part}
 use Rattle.parameters.specs.declared.Parameters.{Parameters}
 use Rattle.layout.specs.Layout.{rowLength}
 use Rattle.exchange.specs.Values.{Key}
-use Rattle.sidebyside.specs.Shares.{shareOf}
+use Rattle.coefficients.specs.Shares.{shareOf}
 use Rattle.values.specs.Announced.{announcedOf}
 
 abbrev pub blockOf : Parameters → List ℕ → ℕ → List ℕ

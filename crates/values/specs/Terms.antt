@@ -17,7 +17,7 @@ use Rattle.layout.specs.Layout.{atV, factorLength}
 use Rattle.exchange.specs.Reading.{points, value, _⊞_, _⊠_}
 use Rattle.exchange.specs.Values.{Key, QOf, POf, SOf, F, aOf, bOf, cOf, pointOf, multiplierOf, alpha, beta}
 use Rattle.points.specs.Multiples.{wordOf, multiplesOf}
-use Rattle.sidebyside.specs.Shares.{shareOf}
+use Rattle.coefficients.specs.Shares.{shareOf}
 use Rattle.values.specs.Position.{Valued, Factors, writtenAt, announcedAt}
 use Rattle.values.specs.Announced.{gamma}
 

@@ -1,11 +1,11 @@
 // What several shares announce at all positions: α, β and the part of v that does not depend on the sums α̂ and β̂, called γ.
 // The tables of the byte field are made once a call and lent down.
+pub mod evaluation;
 mod position;
 mod term;
 mod valued;
 
 use crate::position::announce_at;
-use encoding::point_at;
 use layout::LONGEST_ROW;
 use layout::LONGEST_Y;
 use layout::MOST_COEFFICIENTS;
@@ -13,6 +13,7 @@ use layout::factor_length;
 use layout::row_length;
 use layout::values_length;
 use parameters::Parameters;
+use points::encoding::point_at;
 ghost use mathlib.Core.Path.{_≡_};
 ghost use mathlib.Core.Bool.{cond};
 ghost use mathlib.Core.List.{[], _∷_};

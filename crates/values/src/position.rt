@@ -1,11 +1,11 @@
 // What several shares announce at one position.
 use crate::term::announce_share;
 use crate::valued::evaluate;
-use encoding::point_at;
 use layout::points_length;
 use layout::row_length;
 use layout::share_length;
 use parameters::Parameters;
+use points::encoding::point_at;
 use points::multiples_of;
 use points::product_by;
 ghost use mathlib.Core.Path.{_≡_};

@@ -1,10 +1,10 @@
 // α, β and γ of one share at one position, from the values of Q, S and P.
-use encoding::point_at;
-use encoding::put_point;
 use layout::at_c;
 use layout::factor_length;
 use layout::values_length;
 use parameters::Parameters;
+use points::encoding::point_at;
+use points::encoding::put_point;
 use points::point_of;
 use points::product_by;
 use points::sum;

@@ -1,10 +1,10 @@
 // The values of Q, S and P of several shares at one position, and F(r) there.
-use encoding::point_at;
-use evaluation::values_at;
+use crate::evaluation::values_at;
 use layout::at_p;
 use layout::at_q;
 use layout::share_length;
 use parameters::Parameters;
+use points::encoding::point_at;
 use points::point_of;
 use points::sum;
 use points::word_of;

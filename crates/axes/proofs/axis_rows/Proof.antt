@@ -5,7 +5,7 @@ use native.Mathlib.Omega.{arith}
 use borrow.Author.Needs.{needs}
 use lib.Seq.{length-take-le}
 use Rattle.layout.specs.Layout.{sumCount, rowLength}
-use Rattle.encoding.specs.Written.{front-length}
+use Rattle.points.specs.Written.{front-length}
 use Rattle.axes.specs.Asked.Laws.{blocks-fit}
 use Rattle.axes.proofs.axis_rows.Statement.{statement}
 use Rattle.axes.proofs.axis_rows.Tie as tie

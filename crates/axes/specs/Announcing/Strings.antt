@@ -27,10 +27,10 @@ use Rattle.exchange.specs.Announcing.{Hidden, none, announcedBy}
 use Rattle.exchange.specs.Announcing.Laws.{by-ext}
 use Rattle.exchange.specs.Messages.{ownParty, ownAnnounced, message3}
 use Rattle.exchange.specs.Opening.{Exchange, alphaOf, betaOf, hiddenOn, disclosed, announced}
-use Rattle.encoding.specs.Blocks.{blocks-at}
-use Rattle.axisdigests.specs.Rows.{rowsString}
-use Rattle.partyrows.specs.Row.{hiddenParty}
-use Rattle.partyrows.specs.Row.Laws.{hidden-inside, hidden-outside}
+use Rattle.points.specs.Blocks.{blocks-at}
+use Rattle.axes.specs.RowStrings.{rowsString}
+use Rattle.axes.specs.Row.{hiddenParty}
+use Rattle.axes.specs.Row.Laws.{hidden-inside, hidden-outside}
 use Rattle.axes.specs.Announcing.{partyFrom, hiddenFrom, rowOf}
 
 -- ---- rows

@@ -12,7 +12,7 @@ use Rattle.parameters.specs.declared.Parameters.{Parameters}
 use Rattle.parameters.specs.Limits.{Within}
 use Rattle.layout.specs.Layout.{sumCount, rowLength, shareLength}
 use Rattle.layout.specs.Layout.Bounds.{sums-most}
-use Rattle.encoding.specs.Blocks.{within-blocks}
+use Rattle.points.specs.Blocks.{within-blocks}
 use Rattle.axes.specs.Asked.{SumsAsked}
 
 pub blocks-fit : (p : Parameters) → Within p → sumCount p * rowLength p ≤ 9 * 96

@@ -33,7 +33,7 @@ use Rattle.prover.specs.Checks.{points-ready}
 use Rattle.stored.specs.Prover.{proverSize, proverBytes, proverFrom}
 use Rattle.stored.specs.Prover.Laws.{ProverLengths, length-proverBytes, prover-back}
 use Rattle.capi.specs.Session.{proverNew}
-use Rattle.buffer.specs.Buffer.Laws.{fits-so, refused-stays}
+use Rattle.stored.specs.Buffer.Laws.{fits-so, refused-stays}
 use Rattle.capi.specs.Prover.{Outcome, proverAfter, proverCall, proverBegin, proverPoints, proverLeaf}
 
 pub record Follows (r : Outcome) (o : Called) : Type 0 where

@@ -27,7 +27,7 @@ use Rattle.stored.specs.Parameters.{Small, within-small}
 use Rattle.stored.specs.Prover.{proverSize, proverBytes, proverFrom}
 use Rattle.capi.specs.Set.Laws.{set-not, set-so}
 use Rattle.capi.specs.Session.{Kept, kept, after}
-use Rattle.buffer.specs.Buffer.Laws.{fits-not, fits-so}
+use Rattle.stored.specs.Buffer.Laws.{fits-not, fits-so}
 use Rattle.capi.specs.Prover.{Outcome, given, proverAfter, proverCall, proverBegin, proverBeginSet}
 
 -- ---- the parameters after a call that was carried out

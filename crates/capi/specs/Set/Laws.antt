@@ -10,7 +10,7 @@ use lib.ListN.{length}
 use Rattle.parameters.specs.declared.Parameters.{Parameters}
 use Rattle.parameters.specs.Set.{setLength, numbersOf, parametersOf}
 use Rattle.parameters.specs.Set.Laws.{length-numbers}
-use Rattle.buffer.specs.Buffer.Laws.{fits-not, fits-so}
+use Rattle.stored.specs.Buffer.Laws.{fits-not, fits-so}
 use Rattle.capi.specs.Set.{withSet}
 
 module _ {A : Type 0} (ns : List ℕ) (call : Parameters → A) (other : A) where

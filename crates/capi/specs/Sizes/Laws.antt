@@ -13,7 +13,7 @@ use Rattle.parameters.specs.declared.Parameters.{Parameters}
 use Rattle.parameters.specs.Limits.{withinLimits, Within}
 use Rattle.parameters.specs.Limits.Laws.{test-within}
 use Rattle.parameters.specs.Set.{setLength, parametersOf}
-use Rattle.buffer.specs.Buffer.{fits}
+use Rattle.stored.specs.Buffer.{fits}
 use Rattle.capi.specs.Sizes.{setWithin, sized}
 
 both-true : (a b : Bool) → cond a b false ≡ true → (a ≡ true) × (b ≡ true)

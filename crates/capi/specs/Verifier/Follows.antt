@@ -29,7 +29,7 @@ use Rattle.calls.specs.Verifier.{Verifier, Outcome as Called, Judged as Opened,
 use Rattle.stored.specs.Verifier.{verifierSize, verifierBytes, verifierFrom}
 use Rattle.stored.specs.Verifier.Laws.{VerifierLengths, length-verifierBytes, verifier-back}
 use Rattle.capi.specs.Session.{Kept, verifierNew}
-use Rattle.buffer.specs.Buffer.Laws.{fits-so, refused-stays}
+use Rattle.stored.specs.Buffer.Laws.{fits-so, refused-stays}
 use Rattle.capi.specs.Verifier.{verifierAfter, verifierCall, verifierBegin, verifierPoints, verifierResponse, verifierLeaf, Judged, openingAfter, verifierOpening}
 
 pub record Follows (r : Kept) (o : Called) : Type 0 where

@@ -35,7 +35,7 @@ use Rattle.stored.specs.Parameters.{Small, within-small}
 use Rattle.stored.specs.Verifier.{verifierSize, verifierBytes, verifierFrom}
 use Rattle.capi.specs.Set.Laws.{set-not, set-so}
 use Rattle.capi.specs.Session.{Kept, kept, after}
-use Rattle.buffer.specs.Buffer.Laws.{fits-not, fits-so}
+use Rattle.stored.specs.Buffer.Laws.{fits-not, fits-so}
 use Rattle.capi.specs.Verifier.{verifierAfter, verifierCall, verifierBegin, verifierBeginSet, Judged, judged, judges, openingAfter, verifierOpening}
 
 -- ---- the parameters after a call that was carried out

@@ -6,8 +6,8 @@ use Prim.Native.Nat.{ℕ, _+_, _-_, _*_, _≤_}
 use native.Mathlib.Omega.{arith}
 use borrow.Author.Needs.{needs}
 use lib.ListN.{length, take, drop, replicate, length-take}
-use Rattle.encoding.specs.Written.{front-length}
-use Rattle.encoding.specs.Blocks.{next-block}
+use Rattle.points.specs.Written.{front-length}
+use Rattle.points.specs.Blocks.{next-block}
 use Rattle.interpolants.specs.Complement.{complementOf, weightsOf}
 use Rattle.coefficients.specs.Groups.{end-lent, rows-whole}
 use Rattle.coefficients.specs.Fronts.{Front, front-made}

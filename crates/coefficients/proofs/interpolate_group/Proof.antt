@@ -8,7 +8,7 @@ use lib.ListN.{length, take, drop, replicate, length-take, length-drop}
 use Rattle.packed.specs.Share.{share}
 use Rattle.exchange.specs.Sequences.{joined}
 use Rattle.exchange.specs.Values.{keyOf}
-use Rattle.encoding.specs.Written.{front-length, front-kept}
+use Rattle.points.specs.Written.{front-length, front-kept}
 use Rattle.coefficients.specs.Groups.{rows-made}
 use Rattle.coefficients.proofs.interpolate_group.Statement.{statement}
 use Rattle.coefficients.proofs.interpolate_group.Tie as tie

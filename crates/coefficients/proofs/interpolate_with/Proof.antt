@@ -7,8 +7,8 @@ use borrow.Author.Needs.{needs}
 use lib.ListN.{length, take, drop}
 use Rattle.layout.specs.Layout.{shareLength}
 use Rattle.exchange.specs.Values.{keyOf}
-use Rattle.encoding.specs.Written.{middle-kept}
-use Rattle.encoding.specs.Blocks.{Blocks, length-block, blocks-none, blocks-more, blocks-end}
+use Rattle.points.specs.Written.{middle-kept}
+use Rattle.points.specs.Blocks.{Blocks, length-block, blocks-none, blocks-more, blocks-end}
 use Rattle.coefficients.specs.Groups.{rowOf, group-fits, next-group, rows-from}
 use Rattle.coefficients.proofs.interpolate_with.Statement.{statement}
 use Rattle.coefficients.proofs.interpolate_with.Tie as tie

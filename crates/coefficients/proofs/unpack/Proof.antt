@@ -6,8 +6,8 @@ use native.Mathlib.Omega.{arith}
 use borrow.Author.Needs.{needs}
 use lib.ListN.{length}
 use Rattle.packed.specs.Share.{share}
-use Rattle.encoding.specs.Written.{middle-kept}
-use Rattle.encoding.specs.Blocks.{Blocks, within-blocks, next-block, length-block, blocks-none, blocks-turn, blocks-end}
+use Rattle.points.specs.Written.{middle-kept}
+use Rattle.points.specs.Blocks.{Blocks, within-blocks, next-block, length-block, blocks-none, blocks-turn, blocks-end}
 use Rattle.coefficients.proofs.unpack.Statement.{statement}
 use Rattle.coefficients.proofs.unpack.Tie as tie
 

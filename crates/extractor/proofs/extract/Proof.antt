@@ -10,7 +10,7 @@ use Rattle.exchange.specs.Extractor.{Finding}
 use Rattle.calls.specs.Extractor.{Transcript, transcript}
 use Rattle.extractor.specs.Early.{Early, early-passed}
 use Rattle.extractor.specs.Given.Laws.{zeroed-twice, refused-early, refused-first, refused-second, both-accepted}
-use Rattle.findings.specs.Found.{Found}
+use Rattle.comparison.specs.Found.{Found}
 use Rattle.extractor.specs.Judged.Pair.{states-most, rows-most, openings, compared-is}
 use Rattle.extractor.proofs.extract.Statement.{statement}
 use Rattle.extractor.proofs.extract.Tie as tie

@@ -23,7 +23,7 @@ use Rattle.bytefield.specs.Powers.{power, power-lt, power-add, power-cycle, log
 use Rattle.bytefield.specs.Tables.{logs}
 use Rattle.bytefield.specs.Inverse.{inverse}
 use Rattle.bytefield.specs.Inverse.Laws.{inverse-unique}
-use Rattle.powersums.specs.PowerSum.{entryOf, powerSum, PowerSums}
+use Rattle.interpolants.specs.PowerSum.{entryOf, powerSum, PowerSums}
 use Rattle.polynomial.specs.Bytes.{Bytes, byte-eval}
 use Rattle.interpolants.specs.Cancel.{⊗-cancel, power-once}
 

@@ -2,7 +2,7 @@
 use mathlib.Core.Path.{sym}
 use borrow.Author.Needs.{needs}
 use lib.Seq.{length-take-le}
-use Rattle.keylisting.specs.Finish.Laws.{fits-room}
+use Rattle.keytext.specs.Finish.Laws.{fits-room}
 use Rattle.keylist.proofs.main.Statement.{statement}
 use Rattle.keylist.proofs.main.Tie as tie
 

@@ -19,7 +19,7 @@ use Rattle.text.specs.Split.{tab, lineFeed, first, rest}
 use Rattle.text.specs.Split.Laws.{through, through-keeps, fold-split}
 use Rattle.text.specs.Form.{Kind, fits, fitsFields, fitsLine, fitsLines, hasForm}
 use Rattle.keytext.specs.declared.KeyScan.{KeyScan}
-use Rattle.keyform.specs.Form.{keyForm, lastField}
+use Rattle.keytext.specs.Form.{keyForm, lastField}
 use Rattle.keytext.specs.Scan.{broken, Held, onScan, byteStep, accepted, closed, fieldEnd, lineEnd, step, complete}
 use Rattle.keytext.specs.Scan.Keeps.{Unsound, OnLine, unsound-byte, unsound-field, unsound-line, lineByte, unsound-lineByte, line-lineByte}
 use Rattle.keytext.specs.Scan.Fields.{Kept, fresh, kindAt, read, Read, read-field}

@@ -25,7 +25,7 @@ use Rattle.text.specs.Scanner.Hex.Laws.{hex-accepts}
 use Rattle.text.specs.declared.word.WordScan.{WordScan}
 use Rattle.text.specs.declared.decimal.DecimalScan.{DecimalScan}
 use Rattle.keytext.specs.declared.KeyScan.{KeyScan}
-use Rattle.keyform.specs.Form.{number, wordOf, lastField}
+use Rattle.keytext.specs.Form.{number, wordOf, lastField}
 use Rattle.keytext.specs.Scan.{withWord, withNumber, Held, held, onScan, onMatrix, onY, onXA, byteStep, accepted}
 use Rattle.keytext.specs.Scan.Steps.{byte-word, byte-number, byte-matrix, byte-y, byte-xA}
 

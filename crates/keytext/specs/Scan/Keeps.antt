@@ -14,7 +14,7 @@ use Rattle.text.specs.Scanner.Hex.{hexHeld, hexStep}
 use Rattle.text.specs.Scanner.Word.{wordStep}
 use Rattle.text.specs.Scanner.Decimal.{decimalStep}
 use Rattle.keytext.specs.declared.KeyScan.{KeyScan}
-use Rattle.keyform.specs.Form.{wordOf, lastField}
+use Rattle.keytext.specs.Form.{wordOf, lastField}
 use Rattle.keytext.specs.Scan.{broken, withWord, withNumber, Held, held, onScan, onMatrix, onY, onXA, byteStep, accepted, closed, fieldEnd, lineEnd}
 
 abbrev pub Unsound : Held → Type 0

@@ -14,7 +14,7 @@ use Rattle.text.specs.Fold.{fold}
 use Rattle.text.specs.Scanner.Word.{wordStep}
 use Rattle.text.specs.Scanner.Decimal.{decimalStep}
 use Rattle.keytext.specs.declared.KeyScan.{KeyScan}
-use Rattle.keyform.specs.Form.{wordOf}
+use Rattle.keytext.specs.Form.{wordOf}
 use Rattle.keytext.specs.Scan.{broken, withWord, withNumber, Held, held, hexed, hexByte, byteStep, fieldEnd, lineEnd, step}
 
 module _ (h : Held) (b : ℕ) {r : KeyScan} where

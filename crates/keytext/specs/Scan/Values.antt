@@ -30,7 +30,7 @@ use Rattle.text.specs.Scanner.Hex.{hexStart, hexHeld, hexStep}
 use Rattle.text.specs.Scanner.Hex.Laws.{hex-accepts, hex-scan, hex-stored, length-hexOut}
 use Rattle.text.specs.declared.hex.HexScan.{HexScan}
 use Rattle.keytext.specs.declared.KeyScan.{KeyScan}
-use Rattle.keyform.specs.Form.{keyForm, wordOf, lastField, numbersIn, bytesAt}
+use Rattle.keytext.specs.Form.{keyForm, wordOf, lastField, numbersIn, bytesAt}
 use Rattle.keytext.specs.Scan.{start, withHex, Held, held, onScan, accepted, savedNumbers, savedLengths, closed, fieldEnd, lineEnd, step}
 use Rattle.keytext.specs.Scan.Keeps.{lineByte}
 use Rattle.keytext.specs.Scan.Fields.{Kept, freshScan, fresh, read, word-read, number-read, matrix-read, y-read, xA-read}

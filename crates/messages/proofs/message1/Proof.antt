@@ -3,9 +3,9 @@ use mathlib.Core.Path.{sym, ap, _∙_}
 use Prim.Native.Nat.{ℕ, _*_}
 use native.Mathlib.Omega.{arith}
 use borrow.Author.Needs.{needs}
-use Rattle.encoding.specs.Written.{front-length}
+use Rattle.points.specs.Written.{front-length}
 use Rattle.layout.specs.Layout.Bounds.{leaves-most}
-use Rattle.ownleaves.specs.Own.Laws.{aux-most}
+use Rattle.messages.specs.Own.Laws.{aux-most}
 use Rattle.messages.proofs.message1.Statement.{statement}
 use Rattle.messages.proofs.message1.Tie as tie
 

@@ -4,9 +4,9 @@ use Prim.Native.Nat.{ℕ, _*_}
 use native.Mathlib.Omega.{arith}
 use borrow.Author.Needs.{needs}
 use Rattle.exchange.specs.Run.{runOf}
-use Rattle.encoding.specs.Written.{front-length}
+use Rattle.points.specs.Written.{front-length}
 use Rattle.layout.specs.Layout.Bounds.{leaves-most}
-use Rattle.ownleaves.specs.Own.Laws.{aux-most}
+use Rattle.messages.specs.Own.Laws.{aux-most}
 use Rattle.messages.specs.Opening.Laws.{message5-any}
 use Rattle.messages.proofs.message5.Statement.{statement}
 use Rattle.messages.proofs.message5.Tie as tie

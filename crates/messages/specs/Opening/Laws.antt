@@ -26,7 +26,7 @@ use Rattle.exchange.specs.Leaf.{share, commitment}
 use Rattle.exchange.specs.Reading.{encode}
 use Rattle.exchange.specs.Values.{Key, imageOf, xOf, SOf, alpha, beta, keyOf}
 use Rattle.exchange.specs.Messages.{ownState, ownAux, ownShare, ownCommitment, message5}
-use Rattle.encoding.specs.Written.{front-kept, middle-kept}
+use Rattle.points.specs.Written.{front-kept, middle-kept}
 use Rattle.values.specs.Leaf.{leafValues, leafValues-any}
 use Rattle.messages.specs.Opening.{leafBytes, openingOf}
 

@@ -20,9 +20,9 @@ use Rattle.exchange.specs.Parties.{announcedBytes, axisString}
 use Rattle.exchange.specs.Parties.Laws.{length-announcedBytes}
 use Rattle.exchange.specs.Opening.{Exchange, openedState, announced, responseString}
 use Rattle.leaves.specs.States.{stateAt}
-use Rattle.leafstates.specs.States.Seeds.{opened-states}
+use Rattle.leaves.specs.States.Seeds.{opened-states}
 use Rattle.parties.specs.Blocks.{part-joined}
-use Rattle.axisdigests.specs.Rows.{rowString, rowsString}
+use Rattle.axes.specs.RowStrings.{rowString, rowsString}
 use Rattle.reader.specs.Message5.Laws.{aux-inside}
 use Rattle.openings.specs.From.{statesFrom}
 use Rattle.openings.specs.Opened.{openedStates, openedRow, openedRows}

@@ -33,7 +33,7 @@ use Rattle.exchange.specs.Parties.{total, partyOf}
 use Rattle.exchange.specs.Parties.Laws.{total-ext}
 use Rattle.exchange.specs.Opening.{Exchange, exchange, pathOf, commitmentOf, auxOf, openedState, openedShare, disclosed, commitmentString, responseString, verdict}
 use Rattle.leaves.specs.States.{stateAt}
-use Rattle.commitments.specs.Commitments.Laws.{commitments-string}
+use Rattle.leaves.specs.Commitments.Laws.{commitments-string}
 use Rattle.parties.specs.Sums.{less, withLast}
 use Rattle.parties.specs.Totals.{disclosedOf}
 use Rattle.parties.specs.Sums.Front.{Known, filled, part-front, front-first, front-second}

@@ -3,7 +3,7 @@ use mir.Syntax.{w8}
 use borrow.Author.Needs.{needs, elem-fits}
 use Rattle.tower.specs.Point.{fourSum}
 use Rattle.tower.specs.Point.Written.{four-path}
-use Rattle.encoding.specs.Written.{sum-bytes}
+use Rattle.points.specs.Written.{sum-bytes}
 use Rattle.points.specs.Multiples.Laws.{four-bytes}
 use Rattle.points.proofs.sum.Statement.{statement}
 use Rattle.points.proofs.sum.Tie as tie

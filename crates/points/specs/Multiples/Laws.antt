@@ -35,7 +35,7 @@ use Rattle.packed.specs.Table.Laws.{picked-multiples}
 use Rattle.polynomial.specs.Bytes.{Bytes}
 use Rattle.exchange.specs.Reading.{points, _⊞_, _⊠_}
 use Rattle.exchange.specs.Reading.Laws.{bytes-bytesOf}
-use Rattle.encoding.specs.Written.{scalar, times-point, scalar-bytes}
+use Rattle.points.specs.Written.{scalar, times-point, scalar-bytes}
 use Rattle.points.specs.Multiples.{wordOf, byX, byZ, multiplesOf, Lower, Read, Multiplies}
 
 -- ---- words

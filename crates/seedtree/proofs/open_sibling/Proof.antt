@@ -9,8 +9,8 @@ use Rattle.shake256.specs.Fips.{SHAKE256}
 use Rattle.lists.specs.Part.{putAt}
 use Rattle.exchange.specs.Tree.{leafSeeds}
 use Rattle.seedtree.specs.Laid.{laid}
-use Rattle.treenodes.specs.Way.{side}
-use Rattle.treenodes.specs.Way.Laws.{side-le, skipped-le}
+use Rattle.seedtree.specs.Way.{side}
+use Rattle.seedtree.specs.Way.Laws.{side-le, skipped-le}
 use Rattle.seedtree.proofs.Lent.{lent-length, part-back}
 use Rattle.seedtree.proofs.open_sibling.Statement.{statement}
 use Rattle.seedtree.proofs.open_sibling.Tie as tie

@@ -10,10 +10,10 @@ use Rattle.shake256.specs.Fips.{SHAKE256}
 use Rattle.shake256.proofs.Laws.{length-SHAKE256}
 use Rattle.lists.specs.Part.{putAt}
 use Rattle.exchange.specs.Tree.{leafSeeds, openedSeeds}
-use Rattle.treenodes.specs.declared.Way.{Way}
+use Rattle.seedtree.specs.declared.nodes.Way.{Way}
 use Rattle.seedtree.specs.Laid.{laid}
-use Rattle.treenodes.specs.Way.{side, skipped, next, OnWay}
-use Rattle.treenodes.specs.Way.Laws.{rootWay-size, next-size, skipped-le, onWay-root, onWay-half, onWay-twice, onWay-next, onWay-node}
+use Rattle.seedtree.specs.Way.{side, skipped, next, OnWay}
+use Rattle.seedtree.specs.Way.Laws.{rootWay-size, next-size, skipped-le, onWay-root, onWay-half, onWay-twice, onWay-next, onWay-node}
 use Rattle.seedtree.specs.Opened.{opening, beside, opened-none, opened-more, opened-all}
 use Rattle.seedtree.proofs.Lent.{lent-part, lent-length}
 use Rattle.seedtree.proofs.opened_seeds.Statement.{statement}

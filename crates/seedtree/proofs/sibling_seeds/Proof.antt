@@ -11,10 +11,10 @@ use Rattle.shake256.proofs.Laws.{length-SHAKE256}
 use Rattle.lists.specs.Part.{part, putAt}
 use Rattle.lists.specs.Part.Laws.{putAt-whole, part-putAt-same}
 use Rattle.exchange.specs.Tree.{children, siblingSeeds}
-use Rattle.treenodes.specs.declared.Way.{Way}
+use Rattle.seedtree.specs.declared.nodes.Way.{Way}
 use Rattle.seedtree.specs.Levels.Laws.{length-children}
-use Rattle.treenodes.specs.Way.{side, next, OnWay}
-use Rattle.treenodes.specs.Way.Laws.{side-le, onWay-root, onWay-next, onWay-node}
+use Rattle.seedtree.specs.Way.{side, next, OnWay}
+use Rattle.seedtree.specs.Way.Laws.{side-le, onWay-root, onWay-next, onWay-node}
 use Rattle.seedtree.specs.Siblings.{siblings-none, siblings-more, siblings-all}
 use Rattle.seedtree.proofs.Lent.{lent-part, lent-length}
 use Rattle.seedtree.proofs.sibling_seeds.Statement.{statement}

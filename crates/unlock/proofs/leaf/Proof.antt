@@ -8,7 +8,7 @@ use lib.Seq.{length-take-le}
 use Rattle.parameters.specs.declared.Parameters.{Parameters}
 use Rattle.parameters.specs.Limits.{Within}
 use Rattle.layout.specs.Layout.{bits, isLast, message5Length}
-use Rattle.keylisting.specs.Finish.Laws.{room}
+use Rattle.keytext.specs.Finish.Laws.{room}
 use Rattle.unlock.proofs.leaf.Statement.{statement}
 use Rattle.unlock.proofs.leaf.Tie as tie
 

@@ -6,8 +6,8 @@ use borrow.Author.Needs.{needs}
 use lib.ListN.{length}
 use lib.Seq.{length-take-le}
 use Rattle.parameters.specs.Limits.{Within}
-use Rattle.keylisting.specs.Finish.{sizeOf, rowsOf}
-use Rattle.keylisting.specs.Finish.Laws.{size-most, Read, read-done, read-within, read-held}
+use Rattle.keytext.specs.Finish.{sizeOf, rowsOf}
+use Rattle.keytext.specs.Finish.Laws.{size-most, Read, read-done, read-within, read-held}
 use Rattle.unlock.proofs.on_key_read.Statement.{statement}
 use Rattle.unlock.proofs.on_key_read.Tie as tie
 

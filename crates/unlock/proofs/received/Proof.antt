@@ -4,7 +4,7 @@ use Prim.Native.Nat.{_≤_}
 use native.Mathlib.Omega.{arith}
 use borrow.Author.Needs.{needs}
 use lib.Seq.{length-take-le}
-use Rattle.keylisting.specs.Finish.Laws.{room}
+use Rattle.keytext.specs.Finish.Laws.{room}
 use Rattle.unlock.proofs.received.Statement.{statement}
 use Rattle.unlock.proofs.received.Tie as tie
 

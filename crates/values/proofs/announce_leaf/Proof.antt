@@ -3,7 +3,7 @@ use mathlib.Core.Path.{_∙_}
 use lib.Seq.{length-take-le}
 use native.Mathlib.Omega.{arith}
 use borrow.Author.Needs.{needs}
-use Rattle.encoding.specs.Written.{front-length}
+use Rattle.points.specs.Written.{front-length}
 use Rattle.values.proofs.announce_leaf.Statement.{statement}
 use Rattle.values.proofs.announce_leaf.Tie as tie
 

@@ -5,7 +5,7 @@ use native.Mathlib.Omega.{arith}
 use borrow.Author.Needs.{needs}
 use lib.ListN.{length, take}
 use Rattle.layout.specs.Layout.{rowLength}
-use Rattle.encoding.specs.Written.{front-length}
+use Rattle.points.specs.Written.{front-length}
 use Rattle.values.specs.Leaf.{leaf-made}
 use Rattle.values.proofs.announce_single.Statement.{statement}
 use Rattle.values.proofs.announce_single.Tie as tie

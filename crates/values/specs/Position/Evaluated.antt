@@ -31,12 +31,12 @@ use Rattle.exchange.specs.Reading.{points, bytesAt, value, _⊞_, _⊠_, 𝟎}
 use Rattle.exchange.specs.Reading.Laws.{length-bytesAt, bytesAt-ext, bytesAt-part, bytesAt-inside, lone-homomorphism}
 use Rattle.exchange.specs.Values.{Key, QOf, POf, SOf, F, pointOf}
 use Rattle.exchange.specs.Values.Laws.{length-SOf}
-use Rattle.encoding.specs.Blocks.{blocks-at}
-use Rattle.sidebyside.specs.Shares.{shareOf}
+use Rattle.points.specs.Blocks.{blocks-at}
+use Rattle.coefficients.specs.Shares.{shareOf}
 use Rattle.points.specs.Multiples.{wordOf}
 use Rattle.points.specs.Multiples.Laws.{wordOf-sum}
-use Rattle.evaluation.specs.Evaluation.{pointPower, valuesOf, EvaluationAsked}
-use Rattle.evaluation.specs.Evaluation.Laws.{value-snoc}
+use Rattle.values.specs.Evaluation.{pointPower, valuesOf, EvaluationAsked}
+use Rattle.values.specs.Evaluation.Laws.{value-snoc}
 use Rattle.values.specs.Position.{Valued, RowsOf}
 
 pub inside-part : (s : List ℕ) (at size from n : ℕ) → from + n ≤ size → bytesAt s (from + at) n ≡ bytesAt (part s at size) from n

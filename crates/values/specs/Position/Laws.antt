@@ -21,11 +21,11 @@ use Rattle.parameters.specs.declared.Parameters.{Parameters}
 use Rattle.layout.specs.Layout.{rowLength, atV, factorLength}
 use Rattle.exchange.specs.Reading.{encode}
 use Rattle.exchange.specs.Values.{Key, alpha, beta}
-use Rattle.sidebyside.specs.Shares.{shareOf}
+use Rattle.coefficients.specs.Shares.{shareOf}
 use Rattle.values.specs.Announced.{gamma, announcedOf}
 use Rattle.values.specs.Filled.{Filled, length-point, filled-keep, filled-more, filled-block}
 use Rattle.values.specs.Shares.{blockOf}
-use Rattle.encoding.specs.Blocks.{within-blocks}
+use Rattle.points.specs.Blocks.{within-blocks}
 use Rattle.values.specs.Position.{writtenAt, announcedAt, EachAnnounced}
 
 -- three blocks of points, each filled up to position n

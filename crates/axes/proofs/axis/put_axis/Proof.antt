@@ -8,8 +8,8 @@ use borrow.Author.Needs.{needs}
 use lib.Dec.{ltb}
 use Rattle.lists.specs.Sum.{xorAt}
 use Rattle.layout.specs.Layout.{side, rowLength}
-use Rattle.encoding.specs.Written.{front-length}
-use Rattle.partyrows.specs.Row.{hiddenParty, axisBy}
+use Rattle.points.specs.Written.{front-length}
+use Rattle.axes.specs.Row.{hiddenParty, axisBy}
 use Rattle.axes.specs.Axes.{partyRow, formulaRows}
 use Rattle.axes.specs.Rows.{length-partyRow, hide-joined}
 use Rattle.axes.proofs.axis.put_axis.Statement.{statement}

@@ -8,7 +8,7 @@ use lib.ListN.{length}
 use Rattle.lists.specs.Part.{part}
 use Rattle.lists.specs.Sum.{xorList}
 use Rattle.layout.specs.Layout.{others}
-use Rattle.encoding.specs.Blocks.{within-blocks, next-block, length-block}
+use Rattle.points.specs.Blocks.{within-blocks, next-block, length-block}
 use Rattle.parties.specs.Sums.{less}
 use Rattle.axes.specs.Slices.{middle-part}
 use Rattle.axes.proofs.axis.put_last.Statement.{statement}

@@ -6,8 +6,8 @@ use borrow.Author.Needs.{needs}
 use lib.ListN.{length}
 use Rattle.exchange.specs.Sequences.{joined}
 use Rattle.layout.specs.Layout.{others}
-use Rattle.encoding.specs.Written.{middle-kept}
-use Rattle.encoding.specs.Blocks.{Blocks, within-blocks, next-block, length-block, blocks-none, blocks-turn, blocks-end}
+use Rattle.points.specs.Written.{middle-kept}
+use Rattle.points.specs.Blocks.{Blocks, within-blocks, next-block, length-block, blocks-none, blocks-turn, blocks-end}
 use Rattle.axes.specs.Axes.{partyRow}
 use Rattle.axes.proofs.axis.put_parties.Statement.{statement}
 use Rattle.axes.proofs.axis.put_parties.Tie as tie

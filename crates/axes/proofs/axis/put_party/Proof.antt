@@ -9,8 +9,8 @@ use lib.Dec.{eqb}
 use Rattle.lists.specs.Part.{part}
 use Rattle.layout.specs.Layout.{sumIndex, shareLength, rowLength}
 use Rattle.layout.specs.Layout.Laws.{index-lt}
-use Rattle.encoding.specs.Blocks.{length-block}
-use Rattle.partyrows.specs.Row.{rowBy}
+use Rattle.points.specs.Blocks.{length-block}
+use Rattle.axes.specs.Row.{rowBy}
 use Rattle.axes.specs.Axes.{partyRow}
 use Rattle.axes.specs.Asked.Laws.{sum-fits}
 use Rattle.axes.specs.Slices.{middle-part}

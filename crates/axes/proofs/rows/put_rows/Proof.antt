@@ -7,9 +7,9 @@ use borrow.Author.Needs.{needs}
 use lib.ListN.{length}
 use Rattle.parameters.specs.declared.Parameters.{Parameters}
 use Rattle.layout.specs.Layout.Bounds.{rows-most}
-use Rattle.encoding.specs.Written.{middle-kept}
-use Rattle.encoding.specs.Blocks.{Blocks, within-blocks, next-block, length-block, blocks-none, blocks-turn, blocks-end}
-use Rattle.partyrows.specs.Row.{hiddenParty, axisBy}
+use Rattle.points.specs.Written.{middle-kept}
+use Rattle.points.specs.Blocks.{Blocks, within-blocks, next-block, length-block, blocks-none, blocks-turn, blocks-end}
+use Rattle.axes.specs.Row.{hiddenParty, axisBy}
 use Rattle.axes.specs.Axes.{partyRow}
 use Rattle.axes.proofs.rows.put_rows.Statement.{statement}
 use Rattle.axes.proofs.rows.put_rows.Tie as tie

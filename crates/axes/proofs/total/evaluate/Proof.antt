@@ -15,8 +15,8 @@ use Rattle.parameters.specs.Limits.{Within}
 use Rattle.layout.specs.Layout.{sumCount, shareLength, rowLength}
 use Rattle.layout.specs.Layout.Bounds.{sums-most}
 use Rattle.exchange.specs.Values.{keyOf}
-use Rattle.encoding.specs.Written.{halves-room, halves-made}
-use Rattle.sidebyside.specs.Shares.{shareOf}
+use Rattle.points.specs.Written.{halves-room, halves-made}
+use Rattle.coefficients.specs.Shares.{shareOf}
 use Rattle.values.specs.Announced.{announcedOf}
 use Rattle.values.specs.Shares.{blockOf, Announcements}
 use Rattle.values.specs.Products.{productsOf, products-few}

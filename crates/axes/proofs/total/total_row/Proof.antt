@@ -10,8 +10,8 @@ use lib.ListN.{length}
 use Rattle.lists.specs.Part.{part}
 use Rattle.layout.specs.Layout.{others}
 use Rattle.layout.specs.Layout.Laws.{others-pos}
-use Rattle.encoding.specs.Blocks.{length-block}
-use Rattle.partyrows.specs.Row.{rowBy, sumsBy}
+use Rattle.points.specs.Blocks.{length-block}
+use Rattle.axes.specs.Row.{rowBy, sumsBy}
 use Rattle.axes.specs.Asked.Laws.{sum-fits}
 use Rattle.axes.specs.Slices.{middle-part}
 use Rattle.axes.proofs.total.total_row.Statement.{statement}

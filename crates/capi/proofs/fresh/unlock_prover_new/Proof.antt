@@ -6,7 +6,7 @@ use borrow.Author.Needs.{needs}
 use Rattle.stored.specs.Prover.{proverSize, proverBytes}
 use Rattle.stored.specs.Prover.Laws.{fresh-small}
 use Rattle.capi.specs.Session.{kept}
-use Rattle.buffer.specs.Buffer.Laws.{fits-not, fits-so}
+use Rattle.stored.specs.Buffer.Laws.{fits-not, fits-so}
 use Rattle.capi.proofs.fresh.unlock_prover_new.Statement.{statement}
 use Rattle.capi.proofs.fresh.unlock_prover_new.Tie as tie
 

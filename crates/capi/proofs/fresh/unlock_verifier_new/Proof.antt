@@ -6,7 +6,7 @@ use borrow.Author.Needs.{needs}
 use Rattle.stored.specs.Verifier.{verifierSize, verifierBytes}
 use Rattle.stored.specs.Verifier.Laws.{fresh-small}
 use Rattle.capi.specs.Session.{kept}
-use Rattle.buffer.specs.Buffer.Laws.{fits-not, fits-so}
+use Rattle.stored.specs.Buffer.Laws.{fits-not, fits-so}
 use Rattle.capi.proofs.fresh.unlock_verifier_new.Statement.{statement}
 use Rattle.capi.proofs.fresh.unlock_verifier_new.Tie as tie
 

@@ -2,7 +2,7 @@
 use mathlib.Core.Path.{ap}
 use borrow.Author.Needs.{needs}
 use Rattle.answers.specs.Number.{answerNumber}
-use Rattle.buffer.specs.Buffer.Laws.{refused-kept, done-kept}
+use Rattle.stored.specs.Buffer.Laws.{refused-kept, done-kept}
 use Rattle.capi.proofs.proving.keep.Statement.{statement}
 use Rattle.capi.proofs.proving.keep.Tie as tie
 

@@ -9,7 +9,7 @@ use Rattle.reader.specs.Message5.Laws.{aux-inside}
 use Rattle.reader.specs.Opening.Laws.{rest-inside}
 use Rattle.comparison.specs.Comparison.{View, comparison}
 use Rattle.comparison.specs.Shapes.{Views}
-use Rattle.findings.specs.Found.{Found}
+use Rattle.comparison.specs.Found.{Found}
 use Rattle.extractor.specs.Judged.{read-view}
 use Rattle.extractor.proofs.compare.compare_openings.Statement.{statement}
 use Rattle.extractor.proofs.compare.compare_openings.Tie as tie

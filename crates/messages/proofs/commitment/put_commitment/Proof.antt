@@ -9,7 +9,7 @@ use Rattle.shake256.specs.Fips.{SHAKE256}
 use Rattle.lists.specs.Part.Laws.{tail-back}
 use Rattle.layout.specs.Layout.{leaves}
 use Rattle.exchange.specs.Strings.{string5}
-use Rattle.commitments.specs.Commitments.{commitmentsOf}
+use Rattle.leaves.specs.Commitments.{commitmentsOf}
 use Rattle.messages.specs.Commitment.{front-behind}
 use Rattle.messages.proofs.commitment.put_commitment.Statement.{statement}
 use Rattle.messages.proofs.commitment.put_commitment.Tie as tie

@@ -6,7 +6,7 @@ use native.Mathlib.Omega.{arith}
 use lib.ListN.{length}
 use borrow.Author.Needs.{needs}
 use Rattle.layout.specs.Layout.{valuesLength}
-use Rattle.encoding.specs.Written.{front-length}
+use Rattle.points.specs.Written.{front-length}
 use Rattle.messages.specs.Opening.{leafBytes}
 use Rattle.messages.specs.Opening.Laws.{two-made}
 use Rattle.messages.proofs.opening.put_leaf.Statement.{statement}

@@ -9,7 +9,7 @@ use Rattle.seedtree.proofs.Lent.{lent-part, lent-length}
 use Rattle.leaves.specs.States.{stateAt}
 use Rattle.layout.specs.Layout.Bounds.{leaves-most}
 use Rattle.exchange.specs.Values.{keyOf}
-use Rattle.ownleaves.specs.Own.Laws.{ownStates-at}
+use Rattle.messages.specs.Own.Laws.{ownStates-at}
 use Rattle.messages.specs.Opening.Laws.{opening-any}
 use Rattle.messages.proofs.opening.put_message5.Statement.{statement}
 use Rattle.messages.proofs.opening.put_message5.Tie as tie

@@ -10,7 +10,7 @@ use Rattle.shake256.specs.Fips.{SHAKE256}
 use Rattle.layout.specs.Layout.{isLast, auxLength}
 use Rattle.layout.specs.Layout.Bounds.{levels-most}
 use Rattle.exchange.specs.Tree.{siblingSeeds}
-use Rattle.encoding.specs.Written.{front-length}
+use Rattle.points.specs.Written.{front-length}
 use Rattle.messages.specs.Opening.{openingOf}
 use Rattle.messages.specs.Opening.Laws.{opening-length, left-first, room-second, left-second, pieces-made}
 use Rattle.messages.proofs.opening.put_opening.Statement.{statement}

@@ -2,7 +2,7 @@
 use mathlib.Core.Path.{sym, _∙_}
 use native.Mathlib.Omega.{arith}
 use borrow.Author.Needs.{needs}
-use Rattle.encoding.specs.Written.{front-length}
+use Rattle.points.specs.Written.{front-length}
 use Rattle.layout.specs.Layout.Bounds.{share-most}
 use Rattle.messages.proofs.opening.put_values.Statement.{statement}
 use Rattle.messages.proofs.opening.put_values.Tie as tie

@@ -6,8 +6,8 @@ use borrow.Author.Needs.{needs}
 use lib.ListN.{length-take, length-drop}
 use Rattle.layout.specs.Layout.Laws.{leaves-is}
 use Rattle.layout.specs.Layout.Bounds.{leaves-most}
-use Rattle.leafstates.specs.States.{statesOf}
-use Rattle.leafstates.specs.States.Seeds.{half-back, levels-is}
+use Rattle.leaves.specs.States.{statesOf}
+use Rattle.leaves.specs.States.Seeds.{half-back, levels-is}
 use Rattle.openings.specs.From.{statesFrom}
 use Rattle.openings.proofs.commitment.opened_states.Statement.{statement}
 use Rattle.openings.proofs.commitment.opened_states.Tie as tie

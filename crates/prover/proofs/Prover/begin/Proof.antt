@@ -10,7 +10,7 @@ use Rattle.calls.specs.Prover.{beginChecks}
 use Rattle.prover.specs.Facts.{isDone, Begins}
 use Rattle.prover.specs.Next.{begunWith}
 use Rattle.prover.specs.Carried.{starting, begun-with}
-use Rattle.arguments.specs.Arguments.Laws.{passed, failed}
+use Rattle.prover.specs.Arguments.Laws.{passed, failed}
 use Rattle.prover.specs.Checks.{done-is, begin-refused, begin-done, begin-facts}
 use Rattle.prover.specs.Held.{held}
 use Rattle.prover.proofs.Prover.begin.Statement.{statement}

@@ -9,7 +9,7 @@ use borrow.Author.Needs.{needs}
 use Rattle.parameters.specs.Limits.{withinLimits}
 use Rattle.parameters.specs.Limits.Laws.{test-within}
 use Rattle.calls.specs.Prover.{intact, heldX}
-use Rattle.arguments.specs.Arguments.Laws.{passed, failed}
+use Rattle.prover.specs.Arguments.Laws.{passed, failed}
 use Rattle.prover.proofs.held.intact.Statement.{statement}
 use Rattle.prover.proofs.held.intact.Tie as tie
 

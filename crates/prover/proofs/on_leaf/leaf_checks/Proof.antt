@@ -5,7 +5,7 @@ use lib.Dec.{ltb}
 use mathlib.Core.List.{[]}
 use borrow.Author.Needs.{needs}
 use borrow.Author.Tests.{lt-ltb, le-ltb}
-use Rattle.arguments.specs.Arguments.Laws.{passed, failed}
+use Rattle.prover.specs.Arguments.Laws.{passed, failed}
 use Rattle.prover.specs.Checks.{leaf-row, leaf-ready}
 use Rattle.prover.proofs.on_leaf.leaf_checks.Statement.{statement}
 use Rattle.prover.proofs.on_leaf.leaf_checks.Tie as tie

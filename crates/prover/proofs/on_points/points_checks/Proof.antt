@@ -3,7 +3,7 @@ use mathlib.Core.Path.{refl, sym, _∙_}
 use mathlib.Core.Bool.{true, false}
 use mathlib.Core.List.{[]}
 use borrow.Author.Needs.{needs}
-use Rattle.arguments.specs.Arguments.Laws.{passed, failed}
+use Rattle.prover.specs.Arguments.Laws.{passed, failed}
 use Rattle.prover.specs.Checks.{points-row, points-ready}
 use Rattle.prover.proofs.on_points.points_checks.Statement.{statement}
 use Rattle.prover.proofs.on_points.points_checks.Tie as tie

@@ -4,7 +4,7 @@ use Prim.Native.Nat.{ℕ, _+_, _≤_}
 use native.Mathlib.Omega.{arith}
 use borrow.Author.Needs.{needs}
 use lib.ListN.{length, take, replicate}
-use Rattle.encoding.specs.Written.{front-length}
+use Rattle.points.specs.Written.{front-length}
 use Rattle.values.proofs.position.announce_at.Statement.{statement}
 use Rattle.values.proofs.position.announce_at.Tie as tie
 

@@ -11,8 +11,8 @@ use Rattle.lists.specs.Xor.{_⊕_}
 use Rattle.lists.specs.Part.{part}
 use Rattle.layout.specs.Layout.{shareLength, rowLength}
 use Rattle.exchange.specs.Values.{Key, pointOf}
-use Rattle.encoding.specs.Blocks.{within-blocks, next-block, length-block}
-use Rattle.encoding.specs.Written.{middle-kept}
+use Rattle.points.specs.Blocks.{within-blocks, next-block, length-block}
+use Rattle.points.specs.Written.{middle-kept}
 use Rattle.values.specs.Position.{Valued, Factors, EachAnnounced}
 use Rattle.values.specs.Position.Laws.{Left, left-turn, each-turn}
 use Rattle.values.specs.Terms.{share-made}

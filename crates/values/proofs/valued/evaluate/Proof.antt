@@ -9,7 +9,7 @@ use Rattle.tower.specs.Field.{point, bytesOf, point-bytesOf}
 use Rattle.packed.specs.Word.{bytes}
 use Rattle.exchange.specs.Values.{pointOf}
 use Rattle.points.specs.Multiples.Laws.{bytes-wordOf}
-use Rattle.evaluation.specs.Evaluation.{valuesOf}
+use Rattle.values.specs.Evaluation.{valuesOf}
 use Rattle.values.specs.Position.Evaluated.{vanishing-value, at-point, locators-made, quotients-made, interpolants-made, vanishing-made, evaluation-asked}
 use Rattle.values.specs.Products.{evaluations-few}
 use Rattle.values.specs.Terms.{sum-made}

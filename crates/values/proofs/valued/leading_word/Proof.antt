@@ -5,7 +5,7 @@ use borrow.Author.Needs.{needs}
 use Rattle.tower.specs.Field.{point}
 use Rattle.exchange.specs.Reading.{𝟎}
 use Rattle.points.specs.Multiples.{wordOf}
-use Rattle.evaluation.specs.Evaluation.Laws.{wordOf-zero}
+use Rattle.values.specs.Evaluation.Laws.{wordOf-zero}
 use Rattle.values.proofs.valued.leading_word.Statement.{statement}
 use Rattle.values.proofs.valued.leading_word.Tie as tie
 

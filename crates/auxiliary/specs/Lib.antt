@@ -1,2 +1,0 @@
-pub mod Auxiliary
-pub mod Asked

@@ -1,0 +1,54 @@
+// How many products of the points field the announcement of shares makes, for a program that prints it: the evaluation is run
+// and its own count answered.
+use parameters::Parameters;
+ghost use mathlib.Core.Path.{_≡_};
+ghost use Prim.Native.Nat.{_≤_};
+ghost use Rattle.parameters.specs.Limits.{Within};
+ghost use Rattle.values.specs.Products.{productsOf};
+ghost use Rattle.bench_c.specs.Counted.{countedFor};
+
+// The products of the announcement of n shares, all of which are zero.
+fn count(p: Parameters, n: usize) -> usize
+    requires { ⌜ Within p × (n ≤ 9) ⌝ }
+    ensures { λ r. ⌜ r ≡ productsOf p n ⌝ }
+{
+    let log = bytefield::log_table();
+    let pow = bytefield::power_table();
+    let shares = [0u8; 7740];
+    let rows = [0u8; 2550];
+    let m2 = [0u8; 64];
+    let mut out = [0u8; 864];
+    let a = n * layout::share_length(p);
+    let b = (n + 1) * p.m;
+    let c = layout::message2_length(p);
+    let e = n * layout::row_length(p);
+    values::announce_each(
+        p,
+        n,
+        &shares[..a],
+        &rows[..b],
+        &m2[..c],
+        false,
+        &mut out[..e],
+        &log,
+        &pow,
+    )
+}
+
+// The products of the announcement of n shares; 0 where the set has another length, a parameter is outside its limits, or n above 9.
+#[no_mangle]
+pub extern "C" fn evaluation_c_products(n: usize, set: &[usize]) -> usize
+    ensures { λ r. ⌜ r ≡ countedFor n (now (set .entry)) ⌝ }
+{
+    if n > 9 {
+        return 0;
+    }
+    if set.len() != parameters::set::LENGTH {
+        return 0;
+    }
+    let p = parameters::set::parameters_of(set);
+    if parameters::within_limits(p) {
+        return count(p, n);
+    }
+    0
+}

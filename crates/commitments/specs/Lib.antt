@@ -1,2 +1,0 @@
-pub mod Commitments
-pub mod Shapes

@@ -1,5 +1,0 @@
-pub mod StandIn
-pub mod Honest
-pub mod Rows
-pub mod Pairs
-pub mod Meetings

@@ -1,0 +1,56 @@
+-- The laws of what the prover has of its leaves.
+--
+-- ownStates-at       the state of leaf i
+-- sum-drawn          from these states: the sum that the exchange's aux is made from
+-- aux-made           and aux
+-- aux-most           the longest aux
+-- share-fits         there is room for a share in the work area
+-- zeroed-whole       all of a list zeroed
+use mathlib.Core.Path.{_≡_, sym, ap, _∙_}
+use mathlib.Core.Bool.{true}
+use mathlib.Core.List.{List, []}
+use Prim.Native.Nat.{ℕ, _≤_, _<_}
+use native.Mathlib.Omega.{arith}
+use lib.ListN.{length, replicate}
+use Rattle.lists.specs.Zeroed.{zeroed}
+use Rattle.lists.specs.Zeroed.Laws.{zeroed-all}
+use Rattle.shake256.specs.Fips.{SHAKE256}
+use Rattle.parameters.specs.declared.Parameters.{Parameters}
+use Rattle.parameters.specs.Limits.{Within}
+use Rattle.layout.specs.Layout.{leaves, auxLength, shareLength, workLength}
+use Rattle.exchange.specs.Run.{Run}
+use Rattle.exchange.specs.Leaf.{share}
+use Rattle.exchange.specs.Parties.Laws.{total-ext}
+use Rattle.exchange.specs.Messages.{ownState, drawn, ownAux}
+use Rattle.messages.specs.Auxiliary.{auxFor}
+use Rattle.messages.specs.Auxiliary.Laws.{ownAux-is}
+use Rattle.leaves.specs.States.{stateAt}
+use Rattle.leaves.specs.States.Seeds.{own-states}
+use Rattle.parties.specs.Drawn.{drawnShare}
+use Rattle.parties.specs.Sums.Laws.{second-fits}
+use Rattle.messages.specs.Own.{ownStates, sumOf}
+
+module _ (p : Parameters) (x : List ℕ) (run : Run) (sixteen : length (run .root) ≡ 16) where
+  pub ownStates-at : (i : ℕ) → i < leaves p → stateAt (ownStates p run) i ≡ ownState SHAKE256 p x run i
+  unfolding ownStates
+  ownStates-at i h = own-states p x run sixteen i h
+
+  pub sum-drawn : sumOf p (run .prefix) (ownStates p run) ≡ drawn SHAKE256 p x run
+  unfolding drawn drawnShare
+  sum-drawn =
+      total-ext p (λ i. true) (drawnShare p (run .prefix) (ownStates p run)) (λ i. share SHAKE256 p (run .prefix) i (ownState SHAKE256 p x run i) []) (leaves p)
+      (λ i h e. ap (λ (st : List ℕ). share SHAKE256 p (run .prefix) i st []) (ownStates-at i h))
+
+  pub aux-made : auxFor p x (sumOf p (run .prefix) (ownStates p run)) ≡ ownAux SHAKE256 p x run
+  aux-made = ap (auxFor p x) sum-drawn ∙ sym (ownAux-is SHAKE256 p x run)
+
+-- ---- sizes
+
+pub aux-most : (p : Parameters) → Within p → auxLength p ≤ 796
+aux-most p h = omega (arith, h .m-most, h .k-most, h .w-most, h .t-most)
+
+pub share-fits : (p : Parameters) → Within p → shareLength p ≤ workLength p
+share-fits p h = omega (arith, second-fits p h)
+
+pub zeroed-whole : (z d : List ℕ) (n : ℕ) → z ≡ zeroed (length d) d → length d ≡ n → z ≡ replicate n 0
+zeroed-whole z d n e l = e ∙ ap (λ (k : ℕ). zeroed k d) l ∙ zeroed-all d n l

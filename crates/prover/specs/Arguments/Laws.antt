@@ -1,0 +1,63 @@
+-- The laws of the checks of begin but 13.
+--
+-- passed, failed     what a branch on a negated test says
+-- argument-row       the checks from the values of their tests
+-- begin-sized        what the test of the lengths says
+-- padded-back        x lent at the front of 255 zeros, and back
+use mathlib.Core.Path.{_≡_, sym, _∙_}
+use mathlib.Core.Bool.{Bool, true, false, not}
+use mathlib.Core.List.{List, _++_}
+use Prim.Native.Nat.{ℕ}
+use native.Mathlib.Nat.{zero-add}
+use lib.Dec.{eqb, leb}
+use lib.ListN.{length, replicate, drop}
+use borrow.Author.Tests.{eqb-true, not-true, not-false}
+use Rattle.lists.specs.Part.{putAt}
+use Rattle.lists.specs.Checks.{allTrue, all-at, and-right}
+use Rattle.answers.specs.declared.Answer.the-variants.{Done}
+use Rattle.answers.specs.declared.Refusal.the-variants.{Parameter, Length, Weight}
+use Rattle.answers.specs.Checks.{check, checks}
+use Rattle.parameters.specs.declared.Parameters.{Parameters}
+use Rattle.parameters.specs.Limits.{withinLimits}
+use Rattle.relation.specs.Key.{weightOf, vectorOf}
+use Rattle.layout.specs.Lent.{lent}
+use Rattle.layout.specs.Lent.Laws.{test-lent}
+use Rattle.prover.specs.Arguments.{beginTests, argumentChecks, Sized}
+
+-- ---- a test that the code made, negated and branched on
+
+pub passed : {r b : Bool} → r ≡ b → not r ≡ false → b ≡ true
+passed {r} e h = sym e ∙ not-false r h
+
+pub failed : {r b : Bool} → r ≡ b → not r ≡ true → b ≡ false
+failed {r} e h = sym e ∙ not-true r h
+
+-- ---- the checks
+
+module _ (p : Parameters) (xA salt root matrix y work out : List ℕ) where
+  abbrev tests : List Bool
+  tests = beginTests p (length xA) (length salt) (length root) (length matrix) (length y) (length work) (length out)
+
+  pub argument-row : (limits lengths light : Bool) → withinLimits p ≡ limits → allTrue tests ≡ lengths → leb (weightOf (vectorOf matrix y xA)) (p .w) ≡ light
+      → check limits Parameter (check lengths Length (check light Weight Done)) ≡ checks (argumentChecks p xA salt root matrix y work out)
+  unfolding argumentChecks
+  argument-row limits lengths light e f g = rw (← e, ← f, ← g)
+
+  pub begin-sized : allTrue tests ≡ true → Sized p xA salt root matrix y work out
+  unfolding beginTests lent
+  begin-sized e =
+      let test = all-at tests e in
+      let rest = and-right (eqb (length root) 16) _ (and-right (eqb (length salt) 32) _ (and-right (eqb (length xA) (p .k)) _ e)) in
+      record {
+        xA-is = eqb-true (length xA) (p .k) (test 0);
+        salt-is = eqb-true (length salt) 32 (test 1);
+        root-is = eqb-true (length root) 16 (test 2);
+        out-is = eqb-true (length out) 64 (test 3);
+        lent = test-lent p (length matrix) (length y) (length work) (and-right (eqb (length out) 64) _ rest);
+      }
+
+-- ---- x
+
+pub padded-back : (n : ℕ) (x zeros : List ℕ) → length x ≡ n → zeros ≡ replicate 255 0 → x ++ drop n zeros ≡ putAt (replicate 255 0) 0 x
+unfolding putAt
+padded-back n x zeros e f = rw (f, ← e, zero-add)

@@ -1,0 +1,4 @@
+pub mod Definitions
+pub mod ProverCalls
+pub mod VerifierCalls
+pub mod ExtractorCalls

@@ -1,0 +1,1 @@
+// Theory only: the computed trials of the calls are in specs/.

@@ -1,0 +1,9 @@
+pub mod Honest
+pub mod Meetings
+pub mod Named
+pub mod Openings
+pub mod Pairs
+pub mod Rows
+pub mod StandIn
+pub mod TwoAxes
+pub mod Wrong

@@ -1,0 +1,7 @@
+pub mod Layouts
+pub mod OneAxis
+pub mod OneAxisFindings
+pub mod TwoPositions
+pub mod TwoAxes
+pub mod TwoAxesFindings
+pub mod Sums

@@ -1,0 +1,1 @@
+// Theory only: the computed trials of the exchange are in specs/.

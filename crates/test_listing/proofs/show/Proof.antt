@@ -1,0 +1,36 @@
+-- The listing lies within the array that it was written to (`fits-room`).
+use mathlib.Core.Path.{sym}
+use borrow.Author.Needs.{needs}
+use lib.Seq.{length-take-le}
+use Rattle.keytext.specs.Finish.Laws.{fits-room}
+use Rattle.test_listing.proofs.show.Statement.{statement}
+use Rattle.test_listing.proofs.show.Tie as tie
+
+listing-room-requires : tie.Need-listing-room-requires
+listing-room-requires c κs = search needs
+
+listing-requires : tie.Need-listing-requires
+listing-requires c κs = search needs
+
+array-share-prefix-out : tie.Need-array-share-prefix-out
+array-share-prefix-out c = let e = c .listing .ensures in fits-room _ _ (e .0) (e .1)
+
+slice-aggregate-write-all : tie.Need-slice-aggregate-write-all
+slice-aggregate-write-all c = let e = c .before .listing .ensures in sym (length-take-le _ _ (fits-room _ _ (e .0) (e .1)))
+
+write-all-requires : tie.Need-write-all-requires
+write-all-requires c κs = search needs
+
+returns : tie.Need-returns
+returns c = search needs
+
+pub show-spec : {M : Type 1} → statement M
+show-spec =
+    tie.close
+    (tie.spec
+    listing-room-requires
+    listing-requires
+    array-share-prefix-out
+    slice-aggregate-write-all
+    write-all-requires
+    returns)

@@ -1,4 +1,0 @@
-pub mod Layouts
-pub mod OneAxis
-pub mod TwoPositions
-pub mod OneAxisFindings

@@ -1,3 +1,0 @@
-pub mod TwoAxes
-pub mod Sums
-pub mod TwoAxesFindings

@@ -1,0 +1,3 @@
+pub mod Expanded
+pub mod Key
+pub mod Lines
