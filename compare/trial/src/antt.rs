@@ -147,6 +147,13 @@ impl Module {
         self.facts += 1;
     }
 
+    /// States that all equations of a record compute.
+    pub fn holds(&mut self, name: &str, statement: &str, equations: &[&str]) {
+        let fields: String = equations.iter().map(|equation| format!("  {equation} = refl;\n")).collect();
+        self.body += &format!("\n{name} : {statement}\nunfolding definitions\n{name} = record {{\n{fields}}}\n");
+        self.facts += equations.len();
+    }
+
     /// The module's text, with those of the names that it uses.
     pub fn text(&self) -> String {
         let separators = |c: char| c.is_whitespace() || "(){};.".contains(c);

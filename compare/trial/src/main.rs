@@ -51,7 +51,7 @@ fn crates() -> [Crate; 2] {
     ];
     let calls = vec![prover::calls(&small), verifier::calls(&small), extractor::calls(&small)];
     [
-        Crate { name: "test_exchange", given: &[], modules: exchange },
+        Crate { name: "test_exchange", given: &["Definitions"], modules: exchange },
         Crate { name: "test_calls", given: &["Definitions"], modules: calls },
     ]
 }

@@ -1,17 +1,27 @@
 //! One parameter set: the key's polynomials, the prover's messages, and verdicts.
 
-use crate::antt::{list, Module};
+use crate::antt::{list, parameters, public_key, record, Module};
 use crate::sample::{changed, Part, Sample};
 use reference::key::KeyPolynomials;
 use reference::sampling::exchanges::{verdict, Exchange};
 
-const USES: [(&str, &[&str]); 6] = [
-    ("Rattle.polynomial.specs.Interpolant", &["interpolantOf", "vanishingOf"]),
-    ("Rattle.relation.specs.Key", &["vectorOf", "locatorOf", "quotientOf"]),
-    ("Rattle.exchange.specs.Run", &["runOf"]),
-    ("Rattle.exchange.specs.Messages", &["message1", "message3", "message5"]),
-    ("Rattle.exchange.specs.Opening", &["Exchange", "exchange", "verdict"]),
+const USES: [(&str, &[&str]); 2] = [
     ("Rattle.test_standin.specs.Definitions", &["definitions"]),
+    ("Rattle.test_exchange.specs.Definitions", &["Sample", "judged", "Computed"]),
+];
+
+/// The equations of `Computed`.
+const COMPUTED: [&str; 10] = [
+    "x-is",
+    "S-is",
+    "Q-is",
+    "P-is",
+    "F-is",
+    "message1-is",
+    "message3-is",
+    "message5-is",
+    "last5-is",
+    "last-judged",
 ];
 
 /// How many of the facts a module states: a verdict costs as much as three messages 3, and the more the longer x is.
@@ -29,48 +39,43 @@ pub fn module(name: &'static str, title: &str, sample: &Sample, leaf: usize, ext
     let comment = [
         title,
         "",
-        "p, key, xA, x            parameters, matrix and y, x_A, x",
-        "salt, root, m2           what the exchange starts with, and message 2",
-        "hidden, hiddenLast       honest exchanges; hiddenLast hides leaf n−1",
-        "x-is, S-is, .., F-is     the key's vector and polynomials",
-        "message.-is, -of-i       the prover's messages",
-        "..-judged                verdicts: of the honest exchanges, and with a part changed",
+        "sample         a key, an exchange of it, and what follows from them",
+        "computed       the definitions compute it",
+        "..-judged      verdicts: of the exchange that hides its leaf, and with a part of message 5 changed",
     ];
-    let mut module = Module::new(name, &comment, &USES);
-    key_facts(&mut module, sample);
+    let mut module = Module::new(name, &comment[..if extent == Extent::Verdicts { 5 } else { 4 }], &USES);
     let exchanges = [leaf, set.last_leaf()].map(|leaf| sample.exchange(leaf));
-    message_facts(&mut module, &exchanges);
-    verdict_fact(&mut module, sample, "hiddenLast", &exchanges[1]);
+    module.value("sample", "Sample", &sample_record(sample, &exchanges));
+    module.holds("computed", "Computed sample", &COMPUTED);
     if extent == Extent::Verdicts {
         verdict_facts(&mut module, sample, &exchanges[0]);
     }
     module
 }
 
-fn key_facts(module: &mut Module, sample: &Sample) {
-    let x = sample.key.vector();
-    let polynomials = KeyPolynomials::new(&sample.key.parameters, &x);
-    module.key(&sample.key);
-    module.bytes("xA", &sample.key.x_a);
-    module.bytes("x", &x);
-    module.bytes("salt", &sample.start.salt);
-    module.bytes("root", &sample.start.root);
-    module.bytes("m2", &sample.start.message_2);
-    module.fact("x-is", "vectorOf (key .matrix) (key .y) xA", &list(&x));
-    module.fact("S-is", "interpolantOf x", &list(&polynomials.s));
-    module.fact("Q-is", "locatorOf (p .w) x", &list(&polynomials.q));
-    module.fact("P-is", "quotientOf (p .w) x", &list(&polynomials.p));
-    module.fact("F-is", "vanishingOf (p .m)", &list(&polynomials.f));
-}
-
-fn message_facts(module: &mut Module, exchanges: &[Exchange; 2]) {
-    module.fact("message1-is", "message1 standIn p x (runOf salt root)", &list(&exchanges[0].message_1));
-    module.fact("message3-is", "message3 standIn p x (runOf salt root) key m2", &list(&exchanges[0].message_3));
-    for exchange in exchanges {
-        let leaf = exchange.leaf;
-        let computed = format!("message5 standIn p x (runOf salt root) key m2 {leaf}");
-        module.fact(&format!("message5-of-{leaf}"), &computed, &list(&exchange.message_5));
-    }
+fn sample_record(sample: &Sample, [hidden, last]: &[Exchange; 2]) -> String {
+    let key = &sample.key;
+    let x = key.vector();
+    let polynomials = KeyPolynomials::new(&key.parameters, &x);
+    record(&[
+        ("p", parameters(&key.parameters)),
+        ("key", public_key(&key.matrix, &key.y)),
+        ("xA", list(&key.x_a)),
+        ("salt", list(&sample.start.salt)),
+        ("root", list(&sample.start.root)),
+        ("message2", list(&sample.start.message_2)),
+        ("leaf", hidden.leaf.to_string()),
+        ("last", last.leaf.to_string()),
+        ("x", list(&x)),
+        ("S", list(&polynomials.s)),
+        ("Q", list(&polynomials.q)),
+        ("P", list(&polynomials.p)),
+        ("F", list(&polynomials.f)),
+        ("message1", list(&hidden.message_1)),
+        ("message3", list(&hidden.message_3)),
+        ("message5", list(&hidden.message_5)),
+        ("last5", list(&last.message_5)),
+    ])
 }
 
 /// States the verdict of an exchange, which gets this name.
@@ -84,7 +89,7 @@ pub fn verdict_fact(module: &mut Module, sample: &Sample, name: &str, exchange: 
 
 fn verdict_facts(module: &mut Module, sample: &Sample, honest: &Exchange) {
     let set = sample.key.parameters;
-    verdict_fact(module, sample, "hidden", honest);
+    judged_fact(module, sample, "hidden", honest);
     let parts = [
         ("siblingChanged", Part::Sibling(set.axes - 1)),
         ("commitmentChanged", Part::Commitment),
@@ -92,6 +97,13 @@ fn verdict_facts(module: &mut Module, sample: &Sample, honest: &Exchange) {
         ("alphaChanged", Part::Alpha),
     ];
     for (name, part) in parts {
-        verdict_fact(module, sample, name, &changed(&set, honest, part));
+        judged_fact(module, sample, name, &changed(&set, honest, part));
     }
+}
+
+/// States the verdict of the sample's exchange with another message 5.
+fn judged_fact(module: &mut Module, sample: &Sample, name: &str, exchange: &Exchange) {
+    let number = verdict(&sample.key.parameters, sample.key.public(), exchange);
+    let computed = format!("judged sample {} ({})", exchange.leaf, list(&exchange.message_5));
+    module.fact(&format!("{name}-judged"), &computed, &number.to_string());
 }

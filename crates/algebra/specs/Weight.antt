@@ -9,9 +9,12 @@ use Prim.Native.Nat.{_≤_, _+_ as _+ℕ_}
 use native.Mathlib.Omega.{arith}
 use lib.ListN.{length, length-append}
 use Rattle.algebra.specs.Operations.{Operations}
-use Rattle.algebra.specs.Ring.{Ring2, ops, mul-zero}
-use Rattle.algebra.specs.Field.{Field2, no-zero-divisor}
-use Rattle.algebra.specs.Each.{Each, each-map, Distinct}
+use Rattle.algebra.specs.Ring.{Ring2, ops}
+use Rattle.algebra.specs.Ring.Laws.{mul-zero}
+use Rattle.algebra.specs.Field.{Field2}
+use Rattle.algebra.specs.Field.Laws.{no-zero-divisor}
+use Rattle.algebra.specs.Each.{Each, Distinct}
+use Rattle.algebra.specs.Each.Laws.{each-map}
 use Rattle.algebra.specs.Polynomial.{eval, times, first, behind, vanishing, values}
 use Rattle.algebra.specs.Polynomial.Lengths.{length-product, length-times}
 use Rattle.algebra.specs.Polynomial.Evaluation.{eval-times}

@@ -3,10 +3,10 @@
 -- RowsAsked          all that the rows of all axes take: the sums of the work area, message 2, the key, α and β of the hidden leaf, room for the rows
 -- SomeAsked          some of the sums, message 2 and the key, and room for their blocks
 -- EvaluateAsked      the same of all sums
+-- BlocksAsked        the sums with their blocks, α and β of the hidden leaf
 -- SumsAsked          the sums with their blocks, α̂ and β̂
 -- TotalAsked         the same with α and β of the hidden leaf, and room for the row of the sum of all disclosed leaves
--- RoomAsked          room for what is made once for all axes
--- RowAsked     the share, its block, α̂ and β̂
+-- RowAsked           the share, its block, α̂ and β̂
 use mathlib.Core.Path.{_≡_}
 use mathlib.Core.List.{List}
 use Prim.Native.Nat.{ℕ, _-_, _*_, _≤_}
@@ -16,51 +16,51 @@ use Rattle.parameters.specs.Limits.{Within}
 use Rattle.layout.specs.Layout.{sumCount, valuesLength, rowLength, axisLength, shareLength, message2Length}
 pub mod Laws
 
-pub record RowsAsked (p : Parameters) (parts m2 matrix y hidden rows : List ℕ) : Type 0 where
+pub record RowsAsked (p : Parameters) (sums m2 matrix y hidden rows : List ℕ) : Type 0 where
   pub within : Within p
-  pub sized-parts : length parts ≡ sumCount p * shareLength p
+  pub sized-parts : length sums ≡ sumCount p * shareLength p
   pub sized-m2 : length m2 ≡ message2Length p
   pub sized-matrix : length matrix ≡ (p .m - p .k) * p .k
   pub sized-y : length y ≡ p .m - p .k
   pub sized-hidden : length hidden ≡ valuesLength p
   pub sized-rows : length rows ≡ p .axes * axisLength p
 
-pub record SomeAsked (p : Parameters) (n : ℕ) (parts m2 matrix y blocks : List ℕ) : Type 0 where
+pub record SomeAsked (p : Parameters) (n : ℕ) (sums m2 matrix y blocks : List ℕ) : Type 0 where
   pub within : Within p
   pub few : n ≤ 9
-  pub sized-parts : length parts ≡ n * shareLength p
+  pub sized-parts : length sums ≡ n * shareLength p
   pub sized-m2 : length m2 ≡ message2Length p
   pub sized-matrix : length matrix ≡ (p .m - p .k) * p .k
   pub sized-y : length y ≡ p .m - p .k
   pub sized-blocks : length blocks ≡ n * rowLength p
 
-pub record EvaluateAsked (p : Parameters) (parts m2 matrix y blocks : List ℕ) : Type 0 where
+pub record EvaluateAsked (p : Parameters) (sums m2 matrix y blocks : List ℕ) : Type 0 where
   pub within : Within p
-  pub sized-parts : length parts ≡ sumCount p * shareLength p
+  pub sized-parts : length sums ≡ sumCount p * shareLength p
   pub sized-m2 : length m2 ≡ message2Length p
   pub sized-matrix : length matrix ≡ (p .m - p .k) * p .k
   pub sized-y : length y ≡ p .m - p .k
   pub sized-blocks : length blocks ≡ sumCount p * rowLength p
 
-pub record SumsAsked (p : Parameters) (parts blocks sums : List ℕ) : Type 0 where
+pub record BlocksAsked (p : Parameters) (sums blocks hidden : List ℕ) : Type 0 where
   pub within : Within p
-  pub sized-parts : length parts ≡ sumCount p * shareLength p
+  pub sized-parts : length sums ≡ sumCount p * shareLength p
   pub sized-blocks : length blocks ≡ sumCount p * rowLength p
-  pub sized-sums : length sums ≡ valuesLength p
+  pub sized-hidden : length hidden ≡ valuesLength p
 
-pub record TotalAsked (p : Parameters) (parts blocks hidden sums total : List ℕ) : Type 0 where
-  pub of : SumsAsked p parts blocks sums
+pub record SumsAsked (p : Parameters) (sums blocks hats : List ℕ) : Type 0 where
+  pub within : Within p
+  pub sized-parts : length sums ≡ sumCount p * shareLength p
+  pub sized-blocks : length blocks ≡ sumCount p * rowLength p
+  pub sized-hats : length hats ≡ valuesLength p
+
+pub record TotalAsked (p : Parameters) (sums blocks hidden hats total : List ℕ) : Type 0 where
+  pub of : SumsAsked p sums blocks hats
   pub sized-hidden : length hidden ≡ valuesLength p
   pub sized-total : length total ≡ rowLength p
 
-pub record RoomAsked (p : Parameters) (blocks sums total hiding : List ℕ) : Type 0 where
-  pub sized-blocks : length blocks ≡ sumCount p * rowLength p
-  pub sized-sums : length sums ≡ valuesLength p
-  pub sized-total : length total ≡ rowLength p
-  pub sized-hiding : length hiding ≡ rowLength p
-
-pub record RowAsked (p : Parameters) (s block sums : List ℕ) : Type 0 where
+pub record RowAsked (p : Parameters) (s block hats : List ℕ) : Type 0 where
   pub within : Within p
   pub sized-s : length s ≡ shareLength p
   pub sized-block : length block ≡ rowLength p
-  pub sized-sums : length sums ≡ valuesLength p
+  pub sized-hats : length hats ≡ valuesLength p

@@ -10,7 +10,8 @@ use mathlib.Core.List.{List, _++_}
 use Prim.Native.Nat.{ℕ, zero, suc, _+_}
 use Rattle.lists.specs.Sum.{xorList}
 use Rattle.lists.specs.Sum.Laws.{xorList-append}
-use Rattle.cube.specs.Group.{Group2, additive, group}
+use Rattle.cube.specs.Group.{Group2, additive}
+use Rattle.cube.specs.Group.Laws.{group}
 use Rattle.bytefield.specs.Byte.{byteRing}
 use Rattle.tower.specs.Field.{Point, bytesOf}
 use Rattle.parameters.specs.declared.Parameters.{Parameters}

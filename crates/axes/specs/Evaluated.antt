@@ -28,21 +28,21 @@ part-behind w a at n h =
     let e : length (take a w) ≡ a = length-take-le a w h in
     sym (part-append-right (take a w) (drop a w) at n) ∙ ap₂ (λ (d : List ℕ) (k : ℕ). part d (k + at) n) (take-append-drop a w) e
 
-module _ (p : Parameters) (key : Key) (m2 : List ℕ) (first : Bool) (parts : List ℕ) (n : ℕ) (u : List ℕ) (sized : length u ≡ n * rowLength p) where
-  pub from-front : (v : List ℕ) → Announcements p key m2 first (take (n * shareLength p) parts) n u
-      → (i : ℕ) → i < n → blockOf p (u ++ v) i ≡ announcedOf p key m2 first (shareOf p parts i)
+module _ (p : Parameters) (key : Key) (m2 : List ℕ) (first : Bool) (sums : List ℕ) (n : ℕ) (u : List ℕ) (sized : length u ≡ n * rowLength p) where
+  pub from-front : (v : List ℕ) → Announcements p key m2 first (take (n * shareLength p) sums) n u
+      → (i : ℕ) → i < n → blockOf p (u ++ v) i ≡ announcedOf p key m2 first (shareOf p sums i)
   from-front v e i h =
       part-append-left u v (i * rowLength p) (rowLength p) (omega (arith, sized, part-fits i n (rowLength p) h)) ∙ e i h
       ∙ ap (announcedOf p key m2 first) (front (part-fits i n (shareLength p) h))
     where
-      front : i * shareLength p + shareLength p ≤ n * shareLength p → shareOf p (take (n * shareLength p) parts) i ≡ shareOf p parts i
-      front k = unfold part in part-part parts 0 (n * shareLength p) (i * shareLength p) (shareLength p) k ∙ ap (λ (j : ℕ). part parts j (shareLength p)) (zero-add (i * shareLength p))
+      front : i * shareLength p + shareLength p ≤ n * shareLength p → shareOf p (take (n * shareLength p) sums) i ≡ shareOf p sums i
+      front k = unfold part in part-part sums 0 (n * shareLength p) (i * shareLength p) (shareLength p) k ∙ ap (λ (j : ℕ). part sums j (shareLength p)) (zero-add (i * shareLength p))
 
-  pub from-back : (r : ℕ) (v : List ℕ) → n * shareLength p ≤ length parts → Announcements p key m2 first (drop (n * shareLength p) parts) r v
-      → (i : ℕ) → n ≤ i → i < n + r → blockOf p (u ++ v) i ≡ announcedOf p key m2 first (shareOf p parts i)
+  pub from-back : (r : ℕ) (v : List ℕ) → n * shareLength p ≤ length sums → Announcements p key m2 first (drop (n * shareLength p) sums) r v
+      → (i : ℕ) → n ≤ i → i < n + r → blockOf p (u ++ v) i ≡ announcedOf p key m2 first (shareOf p sums i)
   from-back r v fits e i l h =
       let j : i ≡ n + (i - n) = omega arith in
       ap (λ (k : ℕ). part (u ++ v) k (rowLength p)) (ap (λ (k : ℕ). k * rowLength p) j ∙ add-mul n (i - n) (rowLength p) ∙ ap (λ (k : ℕ). k + (i - n) * rowLength p) (sym sized))
       ∙ part-append-right u v ((i - n) * rowLength p) (rowLength p) ∙ e (i - n) (omega arith)
-      ∙ ap (announcedOf p key m2 first) (part-behind parts (n * shareLength p) ((i - n) * shareLength p) (shareLength p) fits
-      ∙ ap (λ (k : ℕ). part parts k (shareLength p)) (sym (add-mul n (i - n) (shareLength p)) ∙ ap (λ (k : ℕ). k * shareLength p) (sym j)))
+      ∙ ap (announcedOf p key m2 first) (part-behind sums (n * shareLength p) ((i - n) * shareLength p) (shareLength p) fits
+      ∙ ap (λ (k : ℕ). part sums k (shareLength p)) (sym (add-mul n (i - n) (shareLength p)) ∙ ap (λ (k : ℕ). k * shareLength p) (sym j)))

@@ -7,5 +7,4 @@ pub mod Parties
 pub mod Row
 pub mod RowStrings
 pub mod Rows
-pub mod Slices
 pub mod Streamed

@@ -14,7 +14,8 @@ use native.Mathlib.Omega.{arith}
 use borrow.Author.Tests.{ne-eqb, lt-ltb, le-ltb}
 use lib.Dec.{eqb, ltb}
 use Rattle.lists.specs.Sum.{xorList}
-use Rattle.cube.specs.Group.{Group2, additive, group}
+use Rattle.cube.specs.Group.{Group2, additive}
+use Rattle.cube.specs.Group.Laws.{group}
 use Rattle.cube.specs.Sum.{sum}
 use Rattle.cube.specs.Sum.Laws.{eqb-comm, cond-eq, cond-ne, sum-ext, sum-zero, sum-add, sum-single}
 use Rattle.tower.specs.Field.{Point}
@@ -69,12 +70,6 @@ module _ {A : Type 0} (G : Group2 A) where
 -- a party after the first one
 later : (n : ℕ) → eqb (suc n) 0 ≡ false
 later n = ne-eqb (suc n) 0 (λ e. omega arith)
-
--- what is left depends on the parties taken alone
-pub less-ext : (all : List ℕ) (f g : ℕ → List ℕ) (n : ℕ) → ((c : ℕ) → c < n → f c ≡ g c) → less all f n ≡ less all g n
-unfolding less
-less-ext all f g zero e = refl
-less-ext all f g (suc n) e = ap₂ xorList (less-ext all f g n (λ c l. e c (omega arith))) (e n (omega arith))
 
 -- ---- the parties: s c for all but the last one, whose leaves are what these leave of `all`
 

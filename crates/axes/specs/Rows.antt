@@ -6,8 +6,12 @@
 -- row-parts            the last one's from those that are written
 -- put-behind           a list written behind the front that is there
 -- hide-joined          something added to the row of one party
+-- rows-hidden          on all axes
+-- hiding-put           the hidden leaf's α and β written over those of a row
+-- all-made             the rows of all axes
+-- front-there, front-sized, front-fits   a front of n that was lent is there, has its length, and fits where n fit
 use mathlib.Core.Path.{_≡_, refl, sym, ap, ap₂, _∙_}
-use mathlib.Core.Bool.{Bool, cond}
+use mathlib.Core.Bool.{Bool, true, cond}
 use mathlib.Core.List.{List, _++_, append-nil}
 use Prim.Native.Nat.{ℕ, zero, suc, _+_, _*_, _≤_, _<_}
 use native.Mathlib.Nat.{le-of-eq}
@@ -18,36 +22,37 @@ use lib.Dec.{eqb, ltb}
 use lib.ListN.{length, take, drop, length-append, length-drop, drop-of-length-le}
 use lib.Seq.{length-take-le, take-at}
 use Rattle.lists.specs.Part.{part, putAt}
-use Rattle.lists.specs.Part.Laws.{length-part}
+use Rattle.lists.specs.Part.Laws.{length-part, length-putAt}
 use Rattle.lists.specs.Sum.{xorList, xorAt}
 use Rattle.lists.specs.Sum.Laws.{length-xorList}
 use Rattle.tower.specs.Field.{Point}
 use Rattle.parameters.specs.declared.Parameters.{Parameters}
-use Rattle.layout.specs.Layout.{side, others, sumCount, sumIndex, valuesLength, rowLength}
+use Rattle.layout.specs.Layout.{side, others, sumCount, sumIndex, valuesLength, rowLength, axisLength, atV}
 use Rattle.layout.specs.Layout.Laws.{side-others, index-lt}
 use Rattle.exchange.specs.Sequences.{joined}
-use Rattle.exchange.specs.Sequences.Laws.{joined-ext}
+use Rattle.exchange.specs.Sequences.Laws.{joined-ext, length-joined, part-joined}
 use Rattle.exchange.specs.Reading.{encode}
 use Rattle.exchange.specs.Reading.Laws.{length-encode}
 use Rattle.coefficients.specs.Shares.{shareOf}
 use Rattle.values.specs.Shares.{blockOf}
 use Rattle.points.specs.Blocks.{within-blocks}
-use Rattle.parties.specs.Blocks.{part-joined, xorAt-joined}
+use Rattle.parties.specs.Blocks.{xorAt-joined}
 use Rattle.parties.specs.Sums.{less, withLast}
-use Rattle.axes.specs.Row.{frontBy, vAt, vBy, rowBy}
-use Rattle.axes.specs.Axes.{partyRow}
-use Rattle.axes.specs.Parties.{less-ext}
+use Rattle.parties.specs.Totals.{less-ext}
+use Rattle.axes.specs.Row.{frontBy, vAt, vBy, rowBy, hiddenParty, hidingBy, withHiding, axisBy}
+use Rattle.axes.specs.Axes.{partyRow, formulaRows, hatsOf, rowsBy}
+use Rattle.axes.specs.Asked.{BlocksAsked}
 
 sized-row : (p : Parameters) (b : List ℕ) (f : ℕ → Point) → length b ≡ rowLength p → length (take (valuesLength p) b ++ encode f (p .t)) ≡ rowLength p
 sized-row p b f e =
     length-append (take (valuesLength p) b) (encode f (p .t))
     ∙ ap₂ _+_ (length-take-le (valuesLength p) b (omega arith)) (length-encode f (p .t)) ∙ omega arith
 
-module _ (p : Parameters) (parts blocks sums : List ℕ) (sized : length blocks ≡ sumCount p * rowLength p) (j : ℕ) (inside : j < p .axes) where
-  pub length-partyRow : (c : ℕ) → c < others p → length (partyRow p parts blocks sums j c) ≡ rowLength p
+module _ (p : Parameters) (sums blocks hats : List ℕ) (sized : length blocks ≡ sumCount p * rowLength p) (j : ℕ) (inside : j < p .axes) where
+  pub length-partyRow : (c : ℕ) → c < others p → length (partyRow p sums blocks hats j c) ≡ rowLength p
   unfolding partyRow rowBy frontBy vBy
   length-partyRow c h =
-      sized-row p (blockOf p blocks (sumIndex p j c)) (vAt p (eqb c 0) (shareOf p parts (sumIndex p j c)) (blockOf p blocks (sumIndex p j c)) sums)
+      sized-row p (blockOf p blocks (sumIndex p j c)) (vAt p (eqb c 0) (shareOf p sums (sumIndex p j c)) (blockOf p blocks (sumIndex p j c)) hats)
       (length-part blocks (sumIndex p j c * rowLength p) (rowLength p) (within-blocks (sumIndex p j c) (sumCount p) (rowLength p) _ _ (index-lt p j c inside h) refl sized))
 
 module _ (p : Parameters) (total : List ℕ) (r : ℕ → List ℕ) (sized-total : length total ≡ rowLength p)
@@ -98,3 +103,47 @@ unfolding putAt
 put-behind u v d a e h =
     let k : length (u ++ drop a d) ≤ a + length v = omega (arith, length-append u (drop a d), length-drop a d) in
     ap₂ _++_ (take-at u (drop a d) a e) (ap (_++_ v) (drop-of-length-le (u ++ drop a d) k) ∙ append-nil v)
+
+module _ (p : Parameters) (sums blocks hats total : List ℕ) (sized : length blocks ≡ sumCount p * rowLength p) (sized-total : length total ≡ rowLength p) where
+  length-formula : (j : ℕ) → j < p .axes → length (formulaRows p sums blocks hats total j) ≡ axisLength p
+  unfolding formulaRows
+  length-formula j h = length-joined _ (side p) (rowLength p) (length-last p total (partyRow p sums blocks hats j) sized-total (length-partyRow p sums blocks hats sized j h))
+
+  pub rows-hidden : (leaf : ℕ) (hiding : List ℕ) → length hiding ≡ rowLength p
+      → joined (λ j. withHiding p (hiddenParty p leaf j) hiding (part (joined (formulaRows p sums blocks hats total) (p .axes)) (j * axisLength p) (axisLength p))) (p .axes)
+      ≡ joined (λ j. axisBy p total (partyRow p sums blocks hats j) (hiddenParty p leaf j) hiding) (p .axes)
+  unfolding formulaRows axisBy
+  rows-hidden leaf hiding e =
+      joined-ext _ _ (p .axes)
+      (λ j h. ap (withHiding p (hiddenParty p leaf j) hiding) (part-joined (formulaRows p sums blocks hats total) (axisLength p) (p .axes) length-formula j h)
+      ∙ hide-joined p total (partyRow p sums blocks hats j) sized-total (length-partyRow p sums blocks hats sized j h) (hiddenParty p leaf j) hiding e)
+
+pub hiding-put : (p : Parameters) (hidden total : List ℕ) → length hidden ≡ valuesLength p → putAt total 0 hidden ≡ hidingBy p hidden total
+unfolding hidingBy putAt
+hiding-put p hidden total e = let k : 0 + length hidden ≡ atV p = omega arith in ap (λ (n : ℕ). hidden ++ drop n total) k
+
+-- the hats h and the row w of all disclosed leaves, then the rows by the formula, then what the hidden leaf adds
+pub all-made : (p : Parameters) (sums blocks : List ℕ) (leaf : ℕ) (hidden : List ℕ) → BlocksAsked p sums blocks hidden → (h w hiding rows : List ℕ)
+    → h ≡ hatsOf p blocks leaf hidden → w ≡ rowBy p true (shareOf p sums (p .axes)) (blockOf p blocks (p .axes)) h → length w ≡ rowLength p
+    → hiding ≡ putAt w 0 hidden → rows ≡ joined (formulaRows p sums blocks h w) (p .axes)
+    → joined (λ j. withHiding p (hiddenParty p leaf j) hiding (part rows (j * axisLength p) (axisLength p))) (p .axes) ≡ rowsBy p sums blocks leaf hidden
+unfolding rowsBy
+all-made p sums blocks leaf hidden asked h w hiding rows eh ew sized e er =
+    let put = hiding-put p hidden w (asked .sized-hidden) in
+    let long : length (hidingBy p hidden w) ≡ rowLength p = ap length (sym put) ∙ length-putAt w 0 hidden (omega (arith, asked .sized-hidden)) ∙ sized in
+    ap₂ (λ (d r : List ℕ). joined (λ j. withHiding p (hiddenParty p leaf j) d (part r (j * axisLength p) (axisLength p))) (p .axes)) (e ∙ put) er
+    ∙ rows-hidden p sums blocks h w (asked .sized-blocks) sized leaf (hidingBy p hidden w) long
+    ∙ ap₂ (λ (h w : List ℕ). joined (λ j. axisBy p w (partyRow p sums blocks h j) (hiddenParty p leaf j) (hidingBy p hidden w)) (p .axes)) eh
+    (ew ∙ ap (rowBy p true (shareOf p sums (p .axes)) (blockOf p blocks (p .axes))) eh)
+
+-- ---- a front that was lent, read again
+
+module _ (u v : List ℕ) (n : ℕ) (e : length u ≡ n) where
+  pub front-there : n ≤ length (u ++ v)
+  front-there = omega (arith, length-append u v)
+
+  pub front-sized : length (take n (u ++ v)) ≡ n
+  front-sized = ap length (take-at u v n e) ∙ e
+
+  pub front-fits : (a m : ℕ) → a + n ≤ m → a + length (take n (u ++ v)) ≤ m
+  front-fits a m h = omega (arith, front-sized)

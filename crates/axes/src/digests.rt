@@ -26,7 +26,8 @@ const RESPONSE: u8 = 7;
 // Fills out with the digest of an axis's row; axes is the start of the strings of layer 6.
 fn row_digest(axes: Sponge, axis: usize, row: &[u8], out: &mut [u8])
     requires { ⌜ axis < 255 ⌝ }
-    ensures { λ _. ⌜ ((prefix : List ℕ) → axes ≡ begun 6 prefix → now (out .exit) ≡ SHAKE256 (string 6 prefix ((axis + 1) ∷ now (row .entry))) (length (now (out .entry)))) ⌝ }
+    ensures { λ _. ⌜ ((prefix : List ℕ) → axes ≡ begun 6 prefix
+        → now (out .exit) ≡ SHAKE256 (string 6 prefix ((axis + 1) ∷ now (row .entry))) (length (now (out .entry)))) ⌝ }
 {
     let number = [(axis + 1) as u8];
     hash(axes, &number, row, &[], out);

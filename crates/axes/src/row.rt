@@ -3,12 +3,12 @@ use layout::factor_length;
 use layout::values_length;
 use parameters::Parameters;
 ghost use mathlib.Core.Path.{_≡_};
-ghost use Prim.Native.Nat.{_*_, _<_};
+ghost use Prim.Native.Nat.{_<_};
 ghost use lib.ListN.{length};
-ghost use Rattle.bytefield.specs.Tables.{logs, powers};
+ghost use Rattle.bytefield.specs.Tables.{fieldTables};
 ghost use Rattle.tower.specs.Field.{bytesOf};
 ghost use Rattle.parameters.specs.Limits.{Within};
-ghost use Rattle.layout.specs.Layout.{pointsLength, valuesLength, rowLength, shareLength};
+ghost use Rattle.layout.specs.Layout.{pointsLength, valuesLength, rowLength};
 ghost use Rattle.axes.specs.Row.{frontBy, vAt, vBy, rowBy};
 ghost use Rattle.axes.specs.Asked.{RowAsked};
 
@@ -27,18 +27,17 @@ fn row_v(
     first: bool,
     s: &[u8],
     block: &[u8],
-    sums: &[u8],
+    hats: &[u8],
     l: usize,
-    log: &[u8; 256],
-    pow: &[u8; 256],
+    tables: &[u8; 512],
 ) -> [u8; 4]
-    requires { ⌜ Within p × (l < p .t) × (length (now s) ≡ shareLength p) × (length (now block) ≡ rowLength p) × (length (now sums) ≡ valuesLength p) × (now log ≡ logs) × (now pow ≡ powers) ⌝ }
-    ensures { λ r. ⌜ r ≡ bytesOf (vAt p first (now (s .entry)) (now (block .entry)) (now (sums .entry)) l) ⌝ }
+    requires { ⌜ RowAsked p (now s) (now block) (now hats) × (l < p .t) × (now tables ≡ fieldTables) ⌝ }
+    ensures { λ r. ⌜ r ≡ bytesOf (vAt p first (now (s .entry)) (now (block .entry)) (now (hats .entry)) l) ⌝ }
 {
     let gamma = points::encoding::point_at(block, values_length(p) + 4 * l);
-    let alpha = points::encoding::point_at(sums, 4 * l);
-    let beta = points::encoding::point_at(sums, factor_length(p) + 4 * l);
-    values::v_at(p, s, l, first, gamma, alpha, beta, log, pow)
+    let alpha = points::encoding::point_at(hats, 4 * l);
+    let beta = points::encoding::point_at(hats, factor_length(p) + 4 * l);
+    values::v_at(p, s, l, first, gamma, alpha, beta, tables)
 }
 
 // out becomes v at all positions of the share s, with the constant α̂·β̂ where `first`.
@@ -47,17 +46,16 @@ fn put_v(
     first: bool,
     s: &[u8],
     block: &[u8],
-    sums: &[u8],
+    hats: &[u8],
     out: &mut [u8],
-    log: &[u8; 256],
-    pow: &[u8; 256],
+    tables: &[u8; 512],
 )
-    requires { ⌜ Within p × (length (now s) ≡ shareLength p) × (length (now block) ≡ rowLength p) × (length (now sums) ≡ valuesLength p) × (length (now out) ≡ pointsLength p) × (now log ≡ logs) × (now pow ≡ powers) ⌝ }
-    ensures { λ _. ⌜ now (out .exit) ≡ vBy p first (now (s .entry)) (now (block .entry)) (now (sums .entry)) ⌝ }
+    requires { ⌜ RowAsked p (now s) (now block) (now hats) × (length (now out) ≡ pointsLength p) × (now tables ≡ fieldTables) ⌝ }
+    ensures { λ _. ⌜ now (out .exit) ≡ vBy p first (now (s .entry)) (now (block .entry)) (now (hats .entry)) ⌝ }
 {
     let mut l = 0;
     while l < p.t {
-        let v = row_v(p, first, s, block, sums, l, log, pow);
+        let v = row_v(p, first, s, block, hats, l, tables);
         points::encoding::put_point(out, 4 * l, v);
         l += 1;
     }
@@ -69,15 +67,14 @@ pub fn put_row(
     first: bool,
     s: &[u8],
     block: &[u8],
-    sums: &[u8],
+    hats: &[u8],
     out: &mut [u8],
-    log: &[u8; 256],
-    pow: &[u8; 256],
+    tables: &[u8; 512],
 )
-    requires { ⌜ RowAsked p (now s) (now block) (now sums) × (length (now out) ≡ rowLength p) × (now log ≡ logs) × (now pow ≡ powers) ⌝ }
-    ensures { λ _. ⌜ now (out .exit) ≡ rowBy p first (now (s .entry)) (now (block .entry)) (now (sums .entry)) ⌝ }
+    requires { ⌜ RowAsked p (now s) (now block) (now hats) × (length (now out) ≡ rowLength p) × (now tables ≡ fieldTables) ⌝ }
+    ensures { λ _. ⌜ now (out .exit) ≡ rowBy p first (now (s .entry)) (now (block .entry)) (now (hats .entry)) ⌝ }
 {
     let a = values_length(p);
     put_front(p, block, &mut out[..a]);
-    put_v(p, first, s, block, sums, &mut out[a..], log, pow);
+    put_v(p, first, s, block, hats, &mut out[a..], tables);
 }

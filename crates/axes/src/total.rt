@@ -1,90 +1,75 @@
 // What is made once for all axes: the blocks of all sums, α̂ and β̂, and the row of the sum of all disclosed leaves.
-use crate::total_row::total_row_with;
+use crate::hidden::add_hidden;
+use crate::row::put_front;
+use crate::row::put_row;
 use layout::row_length;
 use layout::share_length;
 use layout::sum_count;
 use parameters::Parameters;
 ghost use mathlib.Core.Path.{_≡_};
 ghost use mathlib.Core.Bool.{true};
-ghost use Prim.Native.Nat.{_+_, _*_};
-ghost use lib.ListN.{length};
-ghost use Rattle.bytefield.specs.Tables.{logs, powers};
+ghost use Rattle.bytefield.specs.Tables.{fieldTables};
+ghost use Rattle.parameters.specs.Limits.{Within};
 ghost use Rattle.exchange.specs.Values.{keyOf};
 ghost use Rattle.coefficients.specs.Shares.{shareOf};
 ghost use Rattle.values.specs.Shares.{blockOf, Announcements};
 ghost use Rattle.values.specs.Products.{productsOf};
-ghost use Rattle.axes.specs.Row.{rowBy, sumsBy};
+ghost use Rattle.axes.specs.Row.{rowBy, hatsBy};
+ghost use Rattle.axes.specs.Axes as spec;
 ghost use Rattle.axes.specs.Axes.{Evaluated, productsMade};
 ghost use Rattle.axes.specs.Asked.{EvaluateAsked, SomeAsked, TotalAsked};
 
-// blocks becomes the blocks of n sums, with the constants where `first`; rows holds S of each, and F.
-fn evaluate_with(
-    p: Parameters,
-    n: usize,
-    parts: &[u8],
-    m2: &[u8],
-    matrix: &[u8],
-    y: &[u8],
-    first: bool,
-    rows: &mut [u8],
-    blocks: &mut [u8],
-    log: &[u8; 256],
-    pow: &[u8; 256],
-) -> usize
-    requires { ⌜ SomeAsked p n (now parts) (now m2) (now matrix) (now y) (now blocks) × (length (now rows) ≡ (n + 1) * p .m) × (now log ≡ logs) × (now pow ≡ powers) ⌝ }
-    ensures { λ c. ⌜ Announcements p (keyOf (now (matrix .entry)) (now (y .entry))) (now (m2 .entry)) first (now (parts .entry)) n (now (blocks .exit)) × (c ≡ productsOf p n) ⌝ }
+// S of nine shares, and F, at m 255.
+const LONGEST_BATCH: usize = 2550;
+
+// How many sums have the constants in their blocks, where `first`, or else none.
+fn batch(p: Parameters, first: bool) -> usize
+    requires { ⌜ Within p ⌝ }
+    ensures { λ r. ⌜ r ≡ spec.batch p first ⌝ }
 {
-    coefficients::interpolate_each(p, n, parts, matrix, y, first, rows, log, pow);
-    values::announce_each(p, n, parts, rows, m2, first, blocks, log, pow)
+    if first {
+        return p.axes + 1;
+    }
+    sum_count(p) - (p.axes + 1)
 }
 
-// blocks becomes the blocks of n sums, with the constants where `first`. Answers how many products of the points field were made.
+// blocks becomes the blocks of the sums with the constants where `first`, or else of those with none.
+// Answers how many products of the points field were made.
 fn evaluate_some(
     p: Parameters,
-    n: usize,
-    parts: &[u8],
-    m2: &[u8],
+    first: bool,
+    sums: &[u8],
+    message2: &[u8],
     matrix: &[u8],
     y: &[u8],
-    first: bool,
     blocks: &mut [u8],
-    log: &[u8; 256],
-    pow: &[u8; 256],
+    tables: &[u8; 512],
 ) -> usize
-    requires { ⌜ SomeAsked p n (now parts) (now m2) (now matrix) (now y) (now blocks) × (now log ≡ logs) × (now pow ≡ powers) ⌝ }
-    ensures { λ c. ⌜ Announcements p (keyOf (now (matrix .entry)) (now (y .entry))) (now (m2 .entry)) first (now (parts .entry)) n (now (blocks .exit)) × (c ≡ productsOf p n) ⌝ }
+    requires { ⌜ SomeAsked p (spec.batch p first) (now sums) (now message2) (now matrix) (now y) (now blocks) × (now tables ≡ fieldTables) ⌝ }
+    ensures { λ c. ⌜ Announcements p (keyOf (now (matrix .entry)) (now (y .entry))) (now (message2 .entry)) first (now (sums .entry)) (spec.batch p first)
+        (now (blocks .exit)) × (c ≡ productsOf p (spec.batch p first)) ⌝ }
 {
-    let mut rows = [0u8; 2550];
+    let mut rows = [0u8; LONGEST_BATCH];
+    let n = batch(p, first);
     let e = (n + 1) * p.m;
-    evaluate_with(
-        p,
-        n,
-        parts,
-        m2,
-        matrix,
-        y,
-        first,
-        &mut rows[..e],
-        blocks,
-        log,
-        pow,
-    )
+    coefficients::interpolate_each(p, n, sums, matrix, y, first, &mut rows[..e], tables);
+    values::announce_each(p, n, sums, &rows[..e], message2, first, blocks, tables)
 }
 
 // blocks becomes the blocks of all sums: those of all leaves and of the first parties with the constants, the others without.
 // Answers how many products of the points field were made.
 pub fn evaluate(
     p: Parameters,
-    parts: &[u8],
-    m2: &[u8],
+    sums: &[u8],
+    message2: &[u8],
     matrix: &[u8],
     y: &[u8],
     blocks: &mut [u8],
-    log: &[u8; 256],
-    pow: &[u8; 256],
+    tables: &[u8; 512],
 ) -> usize
-    requires { ⌜ EvaluateAsked p (now parts) (now m2) (now matrix) (now y) (now blocks) × (now log ≡ logs) × (now pow ≡ powers) ⌝ }
-    ensures { λ c. ⌜ Evaluated p (keyOf (now (matrix .entry)) (now (y .entry))) (now (m2 .entry)) (now (parts .entry)) (now (blocks .exit)) × (c ≡ productsMade p) ⌝ }
+    requires { ⌜ EvaluateAsked p (now sums) (now message2) (now matrix) (now y) (now blocks) × (now tables ≡ fieldTables) ⌝ }
+    ensures { λ c. ⌜ Evaluated p (keyOf (now (matrix .entry)) (now (y .entry))) (now (message2 .entry)) (now (sums .entry)) (now (blocks .exit))
+        × (c ≡ productsMade p) ⌝ }
 {
     let n = p.axes + 1;
     let rest = sum_count(p) - n;
@@ -92,15 +77,13 @@ pub fn evaluate(
     let b = n * row_length(p);
     let made = evaluate_some(
         p,
-        n,
-        &parts[..a],
-        m2,
+        true,
+        &sums[..a],
+        message2,
         matrix,
         y,
-        true,
         &mut blocks[..b],
-        log,
-        pow,
+        tables,
     );
     if rest == 0 {
         return made;
@@ -108,32 +91,30 @@ pub fn evaluate(
     made
         + evaluate_some(
             p,
-            rest,
-            &parts[a..],
-            m2,
+            false,
+            &sums[a..],
+            message2,
             matrix,
             y,
-            false,
             &mut blocks[b..],
-            log,
-            pow,
+            tables,
         )
 }
 
-// sums and total become α̂ and β̂, and the row of the sum of all disclosed leaves, which stands behind those of the first parties.
+// hats and total become α̂ and β̂, and the row of the sum of all disclosed leaves, which stands behind those of the first parties.
 pub fn total_row(
     p: Parameters,
-    parts: &[u8],
+    sums: &[u8],
     blocks: &[u8],
-    leaf: usize,
-    hidden: &[u8],
-    sums: &mut [u8],
+    hidden_leaf: usize,
+    hidden_values: &[u8],
+    hats: &mut [u8],
     total: &mut [u8],
-    log: &[u8; 256],
-    pow: &[u8; 256],
+    tables: &[u8; 512],
 )
-    requires { ⌜ TotalAsked p (now parts) (now blocks) (now hidden) (now sums) (now total) × (now log ≡ logs) × (now pow ≡ powers) ⌝ }
-    ensures { λ _. ⌜ (now (sums .exit) ≡ sumsBy p leaf (blockOf p (now (blocks .entry)) (p .axes)) (now (hidden .entry))) × (now (total .exit) ≡ rowBy p true (shareOf p (now (parts .entry)) (p .axes)) (blockOf p (now (blocks .entry)) (p .axes)) (now (sums .exit))) ⌝ }
+    requires { ⌜ TotalAsked p (now sums) (now blocks) (now «hidden_values») (now hats) (now total) × (now tables ≡ fieldTables) ⌝ }
+    ensures { λ _. ⌜ (now (hats .exit) ≡ hatsBy p «hidden_leaf» (blockOf p (now (blocks .entry)) (p .axes)) (now («hidden_values» .entry)))
+        × (now (total .exit) ≡ rowBy p true (shareOf p (now (sums .entry)) (p .axes)) (blockOf p (now (blocks .entry)) (p .axes)) (now (hats .exit))) ⌝ }
 {
     let size = share_length(p);
     let room = row_length(p);
@@ -141,15 +122,7 @@ pub fn total_row(
     let e = a + size;
     let b = p.axes * room;
     let f = b + room;
-    total_row_with(
-        p,
-        &parts[a..e],
-        &blocks[b..f],
-        leaf,
-        hidden,
-        sums,
-        total,
-        log,
-        pow,
-    );
+    put_front(p, &blocks[b..f], hats);
+    add_hidden(p, hidden_leaf, hidden_values, hats);
+    put_row(p, true, &sums[a..e], &blocks[b..f], hats, total, tables);
 }

@@ -9,7 +9,8 @@ use Prim.Native.Nat.{ℕ, _+_, _≤_, _<_}
 use native.Mathlib.Numerals.{add-one}
 use lib.ListN.{length, getD, drop, drop-of-length-le}
 use lib.Seq.{drop-cons}
-use Rattle.lists.specs.Xor.{_⊕_, ⊕-assoc, ⊕-zero, zero-⊕}
+use Rattle.lists.specs.Xor.{_⊕_}
+use Rattle.lists.specs.Xor.Laws.{⊕-assoc, ⊕-zero, zero-⊕}
 use Rattle.bytefield.specs.Product.{_⊗_}
 
 unfoldable pub dot : List ℕ → List ℕ → ℕ

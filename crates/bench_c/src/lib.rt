@@ -9,15 +9,14 @@ ghost use Rattle.bench_c.specs.Dot.{dot};
 pub extern "C" fn bytefield_c_dot(a: &[u8], b: &[u8]) -> u8
     ensures { λ r. ⌜ r ≡ dot (now (a .entry)) (now (b .entry)) ⌝ }
 {
-    let log = bytefield::log_table();
-    let pow = bytefield::power_table();
+    let tables = bytefield::field_tables();
     let mut total = 0u8;
     let mut i = 0;
     while i < a.len() {
         if b.len() <= i {
             return total;
         }
-        let term = bytefield::product(a[i], b[i], &log, &pow);
+        let term = bytefield::product(a[i], b[i], &tables);
         let next = bytefield::sum(total, term);
         total = next;
         i += 1;

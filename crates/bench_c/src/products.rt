@@ -12,11 +12,10 @@ fn count(p: Parameters, n: usize) -> usize
     requires { ⌜ Within p × (n ≤ 9) ⌝ }
     ensures { λ r. ⌜ r ≡ productsOf p n ⌝ }
 {
-    let log = bytefield::log_table();
-    let pow = bytefield::power_table();
+    let tables = bytefield::field_tables();
     let shares = [0u8; 7740];
     let rows = [0u8; 2550];
-    let m2 = [0u8; 64];
+    let message2 = [0u8; 64];
     let mut out = [0u8; 864];
     let a = n * layout::share_length(p);
     let b = (n + 1) * p.m;
@@ -27,11 +26,10 @@ fn count(p: Parameters, n: usize) -> usize
         n,
         &shares[..a],
         &rows[..b],
-        &m2[..c],
+        &message2[..c],
         false,
         &mut out[..e],
-        &log,
-        &pow,
+        &tables,
     )
 }
 

@@ -2,8 +2,13 @@
 --
 --   powers      entry i is 03 to the i
 --   logs        entry a is the i below 255 with 03 to the i = a; entry 0 is 0 and unused
-use mathlib.Core.List.{List, [], _∷_}
-use Prim.Native.Nat.{ℕ}
+--   fieldTables the logarithms, and behind them the powers: the array that is lent
+--   tables-log, tables-power     its entries
+use mathlib.Core.Path.{_≡_}
+use mathlib.Core.List.{List, [], _∷_, _++_}
+use Prim.Native.Nat.{ℕ, _+_, _<_}
+use lib.ListN.{getD, List·getD-append}
+use lib.Seq.{getD-append-add}
 
 unfoldable pub powers : List ℕ
 powers =
@@ -42,3 +47,14 @@ logs =
     83 ∷ 57 ∷ 132 ∷ 60 ∷ 65 ∷ 162 ∷ 109 ∷ 71 ∷ 20 ∷ 42 ∷ 158 ∷ 93 ∷ 86 ∷ 242 ∷ 211 ∷ 171 ∷
     68 ∷ 17 ∷ 146 ∷ 217 ∷ 35 ∷ 32 ∷ 46 ∷ 137 ∷ 180 ∷ 124 ∷ 184 ∷ 38 ∷ 119 ∷ 153 ∷ 227 ∷ 165 ∷
     103 ∷ 74 ∷ 237 ∷ 222 ∷ 197 ∷ 49 ∷ 254 ∷ 24 ∷ 13 ∷ 99 ∷ 140 ∷ 128 ∷ 192 ∷ 247 ∷ 112 ∷ 7 ∷ []
+
+unfoldable pub fieldTables : List ℕ
+fieldTables = logs ++ powers
+
+pub tables-log : (a : ℕ) → a < 256 → getD fieldTables a 0 ≡ getD logs a 0
+unfolding fieldTables logs
+tables-log a h = List·getD-append logs powers 0 a h
+
+pub tables-power : (i : ℕ) → getD fieldTables (256 + i) 0 ≡ getD powers i 0
+unfolding fieldTables logs
+tables-power i = getD-append-add logs powers i 0

@@ -16,7 +16,8 @@ ghost use Rattle.capi.specs.Prover.{given, proverBeginSet, proverPoints,
 // Writes the session of a call that was carried out; the number of its answer.
 fn keep(called: Called, session: &mut [u8]) -> u8
     requires { ⌜ (length (now session) ≡ proverSize) × (answerNumber (called .answer) ≡ 0 → Small (called .prover .parameters)) ⌝ }
-    ensures { λ r. ⌜ kept r (now (session .exit)) ≡ kept (answerNumber (called .answer)) (after (answerNumber (called .answer)) (now (session .entry)) (proverBytes (held (called .prover)))) ⌝ }
+    ensures { λ r. ⌜ kept r (now (session .exit)) ≡ kept (answerNumber (called .answer))
+        (after (answerNumber (called .answer)) (now (session .entry)) (proverBytes (held (called .prover)))) ⌝ }
 {
     let answer = called.answer;
     let Answer::Done = answer else {
@@ -41,7 +42,8 @@ pub extern "C" fn unlock_prover_begin(
     out: &mut [u8],
 ) -> u8
     ensures { λ r. ⌜ given r (now (session .exit)) (now (out .exit)) (now (work .exit))
-        ≡ proverBeginSet (now (session .entry)) (now (set .entry)) (now («x_a» .entry)) (now (salt .entry)) (now (root .entry)) (keyOf (now (matrix .entry)) (now (y .entry))) (now (work .entry)) (now (out .entry)) ⌝ }
+        ≡ proverBeginSet (now (session .entry)) (now (set .entry)) (now («x_a» .entry)) (now (salt .entry)) (now (root .entry))
+        (keyOf (now (matrix .entry)) (now (y .entry))) (now (work .entry)) (now (out .entry)) ⌝ }
 {
     if set.len() != parameters::set::LENGTH {
         return 2;

@@ -18,7 +18,8 @@ ghost use Rattle.capi.specs.Verifier.{verifierBeginSet, verifierPoints, 
 // Writes the session of a call that was carried out; the number of its answer.
 fn keep(called: Called, session: &mut [u8]) -> u8
     requires { ⌜ (length (now session) ≡ verifierSize) × (answerNumber (called .answer) ≡ 0 → Small (called .verifier .parameters)) ⌝ }
-    ensures { λ r. ⌜ kept r (now (session .exit)) ≡ kept (answerNumber (called .answer)) (after (answerNumber (called .answer)) (now (session .entry)) (verifierBytes (held (called .verifier)))) ⌝ }
+    ensures { λ r. ⌜ kept r (now (session .exit)) ≡ kept (answerNumber (called .answer))
+        (after (answerNumber (called .answer)) (now (session .entry)) (verifierBytes (held (called .verifier)))) ⌝ }
 {
     let answer = called.answer;
     let Answer::Done = answer else {
@@ -88,7 +89,8 @@ pub extern "C" fn unlock_verifier_leaf(session: &mut [u8], leaf: u8) -> u8
 // Writes the session of an opening that was judged; the number of its answer.
 fn keep_opening(called: Called, session: &mut [u8]) -> u8
     requires { ⌜ (length (now session) ≡ verifierSize) × (judges (answerNumber (called .answer)) ≡ true → Small (called .verifier .parameters)) ⌝ }
-    ensures { λ r. ⌜ kept r (now (session .exit)) ≡ kept (answerNumber (called .answer)) (cond (judges (answerNumber (called .answer))) (verifierBytes (held (called .verifier))) (now (session .entry))) ⌝ }
+    ensures { λ r. ⌜ kept r (now (session .exit)) ≡ kept (answerNumber (called .answer))
+        (cond (judges (answerNumber (called .answer))) (verifierBytes (held (called .verifier))) (now (session .entry))) ⌝ }
 {
     let answer = called.answer;
     let n = answers::answer_number(answer);

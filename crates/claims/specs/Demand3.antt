@@ -17,7 +17,8 @@ use Rattle.shake256.specs.Fips.{SHAKE256}
 use Rattle.shake256.proofs.Laws.{length-SHAKE256, SHAKE256-byte}
 use Rattle.parameters.specs.declared.Parameters.{Parameters}
 use Rattle.parameters.specs.Limits.{Within}
-use Rattle.polynomial.specs.Bytes.{Bytes, bytes-from}
+use Rattle.polynomial.specs.Bytes.{Bytes}
+use Rattle.polynomial.specs.Bytes.Laws.{bytes-from}
 use Rattle.layout.specs.Layout.{workLength, outputLength}
 use Rattle.exchange.specs.Values.{Key}
 use Rattle.calls.specs.Extractor.{Transcript}

@@ -1,7 +1,6 @@
 -- What the functions of this crate ask for.
 --
 --   RowsAsked p n c shares matrix y rows   n shares within the limits, up to fifteen, one after another, with the key and room for c rows of m bytes
---   Lent p weights g                       the weights and the complement of the m interpolation points
 --   GatherAsked p n shares from words             up to eight shares within the limits, with words for bytes from place `from` on
 --   VectorsAsked p n shares matrix y words        the same, with the key and words for x
 use mathlib.Core.Path.{_≡_}
@@ -11,7 +10,6 @@ use lib.ListN.{length}
 use Rattle.parameters.specs.declared.Parameters.{Parameters}
 use Rattle.parameters.specs.Limits.{Within}
 use Rattle.layout.specs.Layout.{shareLength}
-use Rattle.interpolants.specs.Complement.{complementOf, weightsOf}
 
 pub record RowsAsked (p : Parameters) (n c : ℕ) (shares matrix y rows : List ℕ) : Type 0 where
   pub within : Within p
@@ -20,10 +18,6 @@ pub record RowsAsked (p : Parameters) (n c : ℕ) (shares matrix y rows : List �
   pub sized-matrix : length matrix ≡ (p .m - p .k) * p .k
   pub sized-y : length y ≡ p .m - p .k
   pub sized-rows : length rows ≡ c * p .m
-
-pub record Lent (p : Parameters) (weights g : List ℕ) : Type 0 where
-  pub made-weights : weights ≡ weightsOf (p .m)
-  pub made-complement : g ≡ complementOf (p .m)
 
 pub record GatherAsked (p : Parameters) (n : ℕ) (shares : List ℕ) (from : ℕ) (words : List ℕ) : Type 0 where
   pub within : Within p

@@ -14,7 +14,8 @@ use native.Mathlib.Numerals.{add-one}
 use native.Mathlib.Omega.{arith}
 use lib.ListN.{length, drop, getD, replicate}
 use lib.Seq.{getD-drop}
-use Rattle.lists.specs.Xor.{_⊕_, ⊕-assoc, zero-⊕}
+use Rattle.lists.specs.Xor.{_⊕_}
+use Rattle.lists.specs.Xor.Laws.{⊕-assoc, zero-⊕}
 use Rattle.lists.specs.Sum.{xorList}
 use Rattle.algebra.specs.Polynomial.{plus, scale}
 use Rattle.bytefield.specs.Product.{_⊗_, byteOps}

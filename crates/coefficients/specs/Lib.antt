@@ -1,6 +1,5 @@
 pub mod Asked
 pub mod Columns
-pub mod Fronts
 pub mod Groups
 pub mod Imaged
 pub mod Made

@@ -1,19 +1,25 @@
 // S of several shares, eight at a time, and F: the vectors x stand side by side in words (crate packed).
 pub mod sidebyside;
 
-use layout::LONGEST_X;
 use layout::share_length;
 use parameters::Parameters;
 ghost use mathlib.Core.Path.{_≡_};
 ghost use mathlib.Core.List.{_++_};
 ghost use Prim.Native.Nat.{_+_, _*_, _<_, _≤_};
 ghost use lib.ListN.{length, take};
-ghost use Rattle.bytefield.specs.Tables.{logs, powers};
+ghost use Rattle.bytefield.specs.Tables.{fieldTables};
 ghost use Rattle.packed.specs.Share.{share};
+ghost use Rattle.interpolants.specs.Complement.{factorsOf};
 ghost use Rattle.exchange.specs.Sequences.{joined};
 ghost use Rattle.exchange.specs.Values.{keyOf, SOf, F};
 ghost use Rattle.coefficients.specs.Shares.{shareOf};
-ghost use Rattle.coefficients.specs.Asked.{RowsAsked, Lent};
+ghost use Rattle.coefficients.specs.Asked.{RowsAsked};
+
+// How many shares there are, and whether they get the constants.
+pub struct Group {
+    pub n: usize,
+    pub first: bool,
+}
 
 // rows becomes the entries of the first n shares of the words, one share after another.
 fn unpack(words: &[u64], n: usize, rows: &mut [u8])
@@ -31,29 +37,28 @@ fn unpack(words: &[u64], n: usize, rows: &mut [u8])
     }
 }
 
-// rows becomes S of each of n shares, up to eight, from the weights and the complement g.
+// rows becomes S of each share of a group of up to eight, from the scales and the complement.
 fn interpolate_group(
     p: Parameters,
-    n: usize,
+    group: Group,
     shares: &[u8],
     matrix: &[u8],
     y: &[u8],
-    first: bool,
-    weights: &[u8],
-    g: &[u8],
+    factors: &[u8],
     rows: &mut [u8],
-    log: &[u8; 256],
-    pow: &[u8; 256],
+    tables: &[u8; 512],
 )
-    requires { ⌜ RowsAsked p n n (now shares) (now matrix) (now y) (now rows) × (n ≤ 8) × Lent p (now weights) (now g) × (now log ≡ logs) × (now pow ≡ powers) ⌝ }
-    ensures { λ _. ⌜ now (rows .exit) ≡ joined (λ i. SOf p (keyOf (now (matrix .entry)) (now (y .entry))) first (shareOf p (now (shares .entry)) i)) n ⌝ }
+    requires { ⌜ RowsAsked p (group .n) (group .n) (now shares) (now matrix) (now y) (now rows) × (group .n ≤ 8)
+        × (now factors ≡ factorsOf (p .m)) × (now tables ≡ fieldTables) ⌝ }
+    ensures { λ _. ⌜ now (rows .exit)
+        ≡ joined (λ i. SOf p (keyOf (now (matrix .entry)) (now (y .entry))) (group .first) (shareOf p (now (shares .entry)) i)) (group .n) ⌝ }
 {
     let mut a = [0u64; 255];
     let m = p.m;
-    crate::sidebyside::vectors(p, n, shares, matrix, y, first, &mut a[..m]);
-    interpolants::interpolate(&mut a, m, weights, g, log, pow);
+    crate::sidebyside::vectors(p, group.n, shares, matrix, y, group.first, &mut a[..m]);
+    interpolants::interpolate(&mut a, m, factors, tables);
     let d = 255 - m;
-    unpack(&a[d..], n, rows);
+    unpack(&a[d..], group.n, rows);
 }
 
 // How many shares the next group has, of those that are left.
@@ -67,25 +72,26 @@ fn group_size(left: usize) -> usize
     8
 }
 
-// rows becomes S of each of n shares, from the weights and the complement g.
+// rows becomes S of each share of a group of any size, from the scales and the complement.
 fn interpolate_with(
     p: Parameters,
-    n: usize,
+    group: Group,
     shares: &[u8],
     matrix: &[u8],
     y: &[u8],
-    first: bool,
-    weights: &[u8],
-    g: &[u8],
+    factors: &[u8],
     rows: &mut [u8],
-    log: &[u8; 256],
-    pow: &[u8; 256],
+    tables: &[u8; 512],
 )
-    requires { ⌜ RowsAsked p n n (now shares) (now matrix) (now y) (now rows) × Lent p (now weights) (now g) × (now log ≡ logs) × (now pow ≡ powers) ⌝ }
-    ensures { λ _. ⌜ now (rows .exit) ≡ joined (λ i. SOf p (keyOf (now (matrix .entry)) (now (y .entry))) first (shareOf p (now (shares .entry)) i)) n ⌝ }
+    requires { ⌜ RowsAsked p (group .n) (group .n) (now shares) (now matrix) (now y) (now rows)
+        × (now factors ≡ factorsOf (p .m)) × (now tables ≡ fieldTables) ⌝ }
+    ensures { λ _. ⌜ now (rows .exit)
+        ≡ joined (λ i. SOf p (keyOf (now (matrix .entry)) (now (y .entry))) (group .first) (shareOf p (now (shares .entry)) i)) (group .n) ⌝ }
 {
     let size = share_length(p);
     let m = p.m;
+    let n = group.n;
+    let first = group.first;
     let mut from = 0;
     let mut to = 0;
     let mut i = 0;
@@ -93,18 +99,16 @@ fn interpolate_with(
         let c = group_size(n - i);
         let e = from + c * size;
         let f = to + c * m;
+        let next = Group { n: c, first };
         interpolate_group(
             p,
-            c,
+            next,
             &shares[from..e],
             matrix,
             y,
-            first,
-            weights,
-            g,
+            factors,
             &mut rows[to..f],
-            log,
-            pow,
+            tables,
         );
         from = e;
         to = f;
@@ -121,31 +125,17 @@ pub fn interpolate_each(
     y: &[u8],
     first: bool,
     rows: &mut [u8],
-    log: &[u8; 256],
-    pow: &[u8; 256],
+    tables: &[u8; 512],
 )
-    requires { ⌜ RowsAsked p n (n + 1) (now shares) (now matrix) (now y) (now rows) × (now log ≡ logs) × (now pow ≡ powers) ⌝ }
-    ensures { λ _. ⌜ now (rows .exit) ≡ joined (λ i. SOf p (keyOf (now (matrix .entry)) (now (y .entry))) first (shareOf p (now (shares .entry)) i)) n ++ take (p .m) (F p) ⌝ }
+    requires { ⌜ RowsAsked p n (n + 1) (now shares) (now matrix) (now y) (now rows) × (now tables ≡ fieldTables) ⌝ }
+    ensures { λ _. ⌜ now (rows .exit)
+        ≡ joined (λ i. SOf p (keyOf (now (matrix .entry)) (now (y .entry))) first (shareOf p (now (shares .entry)) i)) n ++ take (p .m) (F p) ⌝ }
 {
-    let mut g = [0u8; 256];
-    let mut weights = [0u8; LONGEST_X];
+    let mut lent = [0u8; 256];
     let m = p.m;
-    let e = 256 - m;
     let end = n * m;
-    interpolants::complement(&mut g[..e], m, log, pow);
-    interpolants::weights(&mut weights[..m], &g[..e], log, pow);
-    interpolants::vanishing(&mut rows[end..], &g[..e]);
-    interpolate_with(
-        p,
-        n,
-        shares,
-        matrix,
-        y,
-        first,
-        &weights[..m],
-        &g[..e],
-        &mut rows[..end],
-        log,
-        pow,
-    );
+    interpolants::factors(&mut lent, m, tables);
+    interpolants::vanishing(&mut rows[end..], &lent[m..]);
+    let group = Group { n, first };
+    interpolate_with(p, group, shares, matrix, y, &lent, &mut rows[..end], tables);
 }

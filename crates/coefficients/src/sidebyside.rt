@@ -52,7 +52,8 @@ fn add_column(out: &mut [u64], matrix: &[u8], k: usize, i: usize, table: &[u64; 
 
 // The words behind the first k, which are zero, become H'x of each share, where x is its first k entries.
 fn image(words: &mut [u64], k: usize, matrix: &[u8])
-    requires { ⌜ (k ≤ length (now words)) × ((length (now words) - k) * k ≤ length (now matrix)) × (drop k (now words) ≡ replicate (length (now words) - k) 0) ⌝ }
+    requires { ⌜ (k ≤ length (now words)) × ((length (now words) - k) * k ≤ length (now matrix))
+        × (drop k (now words) ≡ replicate (length (now words) - k) 0) ⌝ }
     ensures { λ _. ⌜ (take k (now (words .exit)) ≡ take k (now (words .entry)))
         × ((s : ℕ) → s < 8 → share s (drop k (now (words .exit)))
         ≡ rows (length (now (words .entry)) - k) (now (matrix .entry)) (share s (take k (now (words .entry))))) ⌝ }

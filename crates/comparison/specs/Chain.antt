@@ -1,14 +1,13 @@
 -- The comparison as a chain of questions: layer 7, then the first axis, then layer 5, then the first leaf opened in both.
 --
--- chain              the answer, from what is found at each layer; j and i are the first axis and the first leaf, d and n where there is none
--- chain-7 .. chain-4, chain-rest   what it answers at each layer
+-- rowChain, leafChain   the answer, from what is found at layers 7 and 6, and at 5 and 4; j and i are the first axis and the first leaf,
+--                    d and n where there is none
 -- differsAt l n      the two strings at layer l and number n differ
 -- extract-chain      what the extractor answers is this chain
 use mathlib.Core.Path.{_≡_, refl, ap, _∙_}
-use mathlib.Core.Bool.{Bool, true, false, _&&_, not, cond}
+use mathlib.Core.Bool.{Bool, _&&_, not, cond}
 use mathlib.Core.List.{List, [], _∷_}
-use Prim.Native.Nat.{ℕ, _+_, _≤_, _<_}
-use borrow.Author.Tests.{lt-ltb, le-ltb}
+use Prim.Native.Nat.{ℕ, _+_}
 use lib.Dec.{ltb}
 use Rattle.lists.specs.Equal.{eqList}
 use Rattle.parameters.specs.declared.Parameters.{Parameters}
@@ -20,33 +19,11 @@ use Rattle.exchange.specs.Opening.{Exchange}
 use Rattle.exchange.specs.Extractor.{Finding, unequal, states, openedInBoth, compared, axis, output, stringAt, unequalAt, finding, extract}
 use Rattle.comparison.specs.Head.{headOr, headOr-append, headOr-those, headOr-listed, those-those}
 
-unfoldable pub chain : Bool → ℕ → ℕ → Bool → ℕ → ℕ → Finding → Finding
-chain seven j d five i n otherwise =
-    cond seven (unequal 7 0) (cond (ltb j d) (unequal 6 (j + 1)) (cond five (unequal 5 0) (cond (ltb i n) (unequal 4 i) otherwise)))
+unfoldable pub rowChain : Bool → ℕ → ℕ → Finding → Finding
+rowChain seven j d otherwise = cond seven (unequal 7 0) (cond (ltb j d) (unequal 6 (j + 1)) otherwise)
 
-module _ (seven : Bool) (j d : ℕ) (five : Bool) (i n : ℕ) (otherwise : Finding) where
-  pub chain-7 : seven ≡ true → chain seven j d five i n otherwise ≡ unequal 7 0
-  unfolding chain
-  chain-7 e = rw e
-
-  module _ (e7 : seven ≡ false) where
-    pub chain-6 : j < d → chain seven j d five i n otherwise ≡ unequal 6 (j + 1)
-    unfolding chain
-    chain-6 l = rw (e7, lt-ltb j d l)
-
-    module _ (e6 : d ≤ j) where
-      pub chain-5 : five ≡ true → chain seven j d five i n otherwise ≡ unequal 5 0
-      unfolding chain
-      chain-5 e = rw (e7, le-ltb j d e6, e)
-
-      module _ (e5 : five ≡ false) where
-        pub chain-4 : i < n → chain seven j d five i n otherwise ≡ unequal 4 i
-        unfolding chain
-        chain-4 l = rw (e7, le-ltb j d e6, e5, lt-ltb i n l)
-
-        pub chain-rest : n ≤ i → chain seven j d five i n otherwise ≡ otherwise
-        unfolding chain
-        chain-rest l = rw (e7, le-ltb j d e6, e5, le-ltb i n l)
+unfoldable pub leafChain : Bool → ℕ → ℕ → Finding → Finding
+leafChain five i n otherwise = cond five (unequal 5 0) (cond (ltb i n) (unequal 4 i) otherwise)
 
 module _ (hash : List ℕ → ℕ → List ℕ) (p : Parameters) (key : Key) (e e′ : Exchange) where
   unfoldable pub differsAt : ℕ → ℕ → Bool
@@ -87,9 +64,9 @@ module _ (hash : List ℕ → ℕ → List ℕ) (p : Parameters) (key : Key) (e 
       ∙ headOr-listed named (λ n. both n && differs n) otherwise (λ i. (4, i)) (leaves p))
 
   pub extract-chain : extract hash p key e e′
-      ≡ chain (differsAt 7 0) (least (λ j. differsAt 6 (j + 1)) (p .axes)) (p .axes) (differsAt 5 0)
-      (least (λ i. openedInBoth p e e′ i && differsAt 4 i) (leaves p)) (leaves p) otherwise
-  unfolding extract unequalAt compared chain differsAt
+      ≡ rowChain (differsAt 7 0) (least (λ j. differsAt 6 (j + 1)) (p .axes)) (p .axes)
+      (leafChain (differsAt 5 0) (least (λ i. openedInBoth p e e′ i && differsAt 4 i) (leaves p)) (leaves p) otherwise)
+  unfolding extract unequalAt compared rowChain leafChain differsAt
   extract-chain =
       found-head (those differs (compared p e e′))
       ∙ ap (headOr named otherwise) (those-append differs ((7, 0) ∷ axes) ((5, 0) ∷ those both all))

@@ -5,14 +5,15 @@
 -- stateAt states i       state of leaf i (crate leaves)
 -- rowAt p rows j         row of axis j: what its parties announce
 -- digestAt               digest of layer 6 of axis j
--- commitmentAt, commitments   commitment of leaf i; the hidden leaf's is the one given
+-- commitments p prefix v i   commitment of leaf i; the hidden leaf's is the one given
 -- leafAt                 what layer 4's string has behind the number of leaf i
 -- apart f g i            f i and g i differ
--- openedBoth u u′ i      leaf i is neither of the hidden leaves
+-- openedBoth u u′ i      leaf i is neither of the hidden leaves (exchange's `openedInBoth` takes whole exchanges)
 -- firstApart f g n       the first number below n at which f and g differ, or n
 -- firstOpened u u′ f g n   the same among the leaves opened in both
 -- stateOf u, outputOf u  the state of leaf i, and the output, from the opening that discloses them; the first one hides leaf u
 -- axisOf u u′            'the lowest set bit of their xor, counted from 1'
+-- leafComparison         the answer at layers 5 and 4
 -- comparison             the answer
 use mathlib.Core.Bool.{Bool, _&&_, not, cond}
 use mathlib.Core.List.{List, [], _∷_, _++_}
@@ -27,10 +28,10 @@ use Rattle.parameters.specs.declared.Parameters.{Parameters}
 use Rattle.layout.specs.Layout.{leaves, isLast, axisLength}
 use Rattle.exchange.specs.Sequences.{joined, least}
 use Rattle.exchange.specs.Strings.{string}
-use Rattle.exchange.specs.Leaf.{commitment}
 use Rattle.exchange.specs.Extractor.{Finding, states as extracted}
 pub use Rattle.leaves.specs.States.{stateAt}
-use Rattle.comparison.specs.Chain.{chain}
+use Rattle.leaves.specs.Commitments.{commitmentsOf}
+use Rattle.comparison.specs.Chain.{rowChain, leafChain}
 pub mod Laws
 pub mod Leaf
 pub mod Steps
@@ -51,11 +52,8 @@ rowAt p rows j = part rows (j * axisLength p) (axisLength p)
 unfoldable pub digestAt : Parameters → List ℕ → List ℕ → ℕ → List ℕ
 digestAt p prefix rows j = SHAKE256 (string 6 prefix ((j + 1) ∷ rowAt p rows j)) 32
 
-unfoldable pub commitmentAt : Parameters → List ℕ → List ℕ → ℕ → List ℕ → List ℕ → ℕ → List ℕ
-commitmentAt p prefix states hidden given aux i = cond (eqb i hidden) given (commitment SHAKE256 p prefix i (stateAt states i) aux)
-
 abbrev pub commitments : Parameters → List ℕ → View → ℕ → List ℕ
-commitments p prefix v = commitmentAt p prefix (v .states) (v .leaf) (v .given) (v .aux)
+commitments p prefix v = commitmentsOf p prefix (v .states) (v .leaf) (v .given) (v .aux)
 
 unfoldable pub leafAt : Parameters → List ℕ → List ℕ → ℕ → List ℕ
 leafAt p states aux i = stateAt states i ++ cond (isLast p i) aux []
@@ -85,13 +83,18 @@ outputOf p u states aux others other-aux = joined (stateOf u states others) (lea
 abbrev pub axisOf : ℕ → ℕ → ℕ
 axisOf u u′ = trailingZeros 8 (bitXor u u′) + 1
 
-unfoldable pub comparison : Parameters → List ℕ → View → View → Finding
-comparison p prefix v v′ =
-    chain
-    (ltb (firstApart (digestAt p prefix (v .rows)) (digestAt p prefix (v′ .rows)) (p .axes)) (p .axes))
-    (firstApart (rowAt p (v .rows)) (rowAt p (v′ .rows)) (p .axes))
-    (p .axes)
+unfoldable pub leafComparison : Parameters → List ℕ → View → View → Finding
+leafComparison p prefix v v′ =
+    leafChain
     (ltb (firstApart (commitments p prefix v) (commitments p prefix v′) (leaves p)) (leaves p))
     (firstOpened (v .leaf) (v′ .leaf) (leafAt p (v .states) (v .aux)) (leafAt p (v′ .states) (v′ .aux)) (leaves p))
     (leaves p)
     (extracted (axisOf (v .leaf) (v′ .leaf)) (outputOf p (v .leaf) (v .states) (v .aux) (v′ .states) (v′ .aux)))
+
+unfoldable pub comparison : Parameters → List ℕ → View → View → Finding
+comparison p prefix v v′ =
+    rowChain
+    (ltb (firstApart (digestAt p prefix (v .rows)) (digestAt p prefix (v′ .rows)) (p .axes)) (p .axes))
+    (firstApart (rowAt p (v .rows)) (rowAt p (v′ .rows)) (p .axes))
+    (p .axes)
+    (leafComparison p prefix v v′)

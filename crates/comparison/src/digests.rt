@@ -12,7 +12,8 @@ ghost use Rattle.comparison.specs.Shapes.{Rows};
 // Is the digest of an axis the same in both openings?
 fn same_digest(p: Parameters, prefix: &[u8], rows: &[u8], others: &[u8], axis: usize) -> bool
     requires { ⌜ Rows p (now rows) (now others) × (axis < p .axes) ⌝ }
-    ensures { λ r. ⌜ r ≡ eqList (digestAt p (now (prefix .entry)) (now (rows .entry)) axis) (digestAt p (now (prefix .entry)) (now (others .entry)) axis) ⌝ }
+    ensures { λ r. ⌜ r ≡ eqList (digestAt p (now (prefix .entry)) (now (rows .entry)) axis)
+        (digestAt p (now (prefix .entry)) (now (others .entry)) axis) ⌝ }
 {
     let size = axis_length(p);
     let at = axis * size;
@@ -27,7 +28,8 @@ fn same_digest(p: Parameters, prefix: &[u8], rows: &[u8], others: &[u8], axis: u
 // The first axis, from 0, whose digests differ, or D where none does.
 pub fn first_digest(p: Parameters, prefix: &[u8], rows: &[u8], others: &[u8]) -> usize
     requires { ⌜ Rows p (now rows) (now others) ⌝ }
-    ensures { λ r. ⌜ r ≡ firstApart (digestAt p (now (prefix .entry)) (now (rows .entry))) (digestAt p (now (prefix .entry)) (now (others .entry))) (p .axes) ⌝ }
+    ensures { λ r. ⌜ r ≡ firstApart (digestAt p (now (prefix .entry)) (now (rows .entry)))
+        (digestAt p (now (prefix .entry)) (now (others .entry))) (p .axes) ⌝ }
 {
     let d = p.axes;
     let mut axis = 0;

@@ -10,15 +10,16 @@ ghost use Rattle.comparison.specs.Output.{placed};
 ghost use Rattle.comparison.specs.Shapes.{Placed, Output};
 
 // Writes the states of all leaves to out: the first opening's, over them that of the leaf which it hides.
-fn put_states(p: Parameters, first: usize, states: &[u8], others: &[u8], out: &mut [u8])
-    requires { ⌜ Placed p first (now states) (now others) (now out) ⌝ }
-    ensures { λ _. ⌜ now (out .exit) ≡ placed (leaves p) first (now (states .entry)) (now (others .entry)) (now (out .entry)) ⌝ }
+fn put_states(p: Parameters, first: usize, opened: &[u8], other_opened: &[u8], out: &mut [u8])
+    requires { ⌜ Placed p first (now opened) (now «other_opened») (now out) ⌝ }
+    ensures { λ _. ⌜ now (out .exit)
+        ≡ placed (leaves p) first (now (opened .entry)) (now («other_opened» .entry)) (now (out .entry)) ⌝ }
 {
     let all = 32 * leaf_count(p);
-    put_at(out, 0, &states[..all]);
+    put_at(out, 0, &opened[..all]);
     let at = 32 * first;
     let end = at + 32;
-    put_at(out, at, &others[at..end]);
+    put_at(out, at, &other_opened[at..end]);
 }
 
 // Fills out with the states of all leaves and aux; the first opening hides the leaf `first`.
@@ -26,15 +27,16 @@ pub fn write_output(
     p: Parameters,
     first: usize,
     aux: &[u8],
-    states: &[u8],
+    opened: &[u8],
     other_aux: &[u8],
-    others: &[u8],
+    other_opened: &[u8],
     out: &mut [u8],
 )
-    requires { ⌜ Output p first (now aux) (now states) (now «other_aux») (now others) (now out) ⌝ }
-    ensures { λ _. ⌜ now (out .exit) ≡ outputOf p first (now (states .entry)) (now (aux .entry)) (now (others .entry)) (now («other_aux» .entry)) ⌝ }
+    requires { ⌜ Output p first (now aux) (now opened) (now «other_aux») (now «other_opened») (now out) ⌝ }
+    ensures { λ _. ⌜ now (out .exit) ≡ outputOf p first (now (opened .entry)) (now (aux .entry))
+        (now («other_opened» .entry)) (now («other_aux» .entry)) ⌝ }
 {
-    put_states(p, first, states, others, out);
+    put_states(p, first, opened, other_opened, out);
     let all = 32 * leaf_count(p);
     if is_last(p, first) {
         put_at(out, all, other_aux);

@@ -1,3 +1,4 @@
+pub mod Compared
 pub mod Given
 pub mod Early
 pub mod Judged

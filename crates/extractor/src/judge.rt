@@ -1,46 +1,44 @@
 // An opening checked.
 use answers::Answer;
-use layout::axis_length;
-use layout::leaf_count;
+use layout::opened_length;
+use layout::statement_length;
 use layout::work_length;
 use openings::check_opening;
 use parameters::Parameters;
-ghost use lib.ListN.{length};
+ghost use lib.ListN.{take};
 ghost use Rattle.exchange.specs.Values.{keyOf};
-ghost use Rattle.calls.specs.Extractor.{transcript};
+ghost use Rattle.layout.specs.Layout.{openedLength};
+ghost use Rattle.openings.specs.Statement.{exchangeIn};
+ghost use Rattle.layout.specs.Layout.{statementLength};
 ghost use Rattle.extractor.specs.Judged.{Judging, Judged};
 
-// Checks an opening in the front of the work area, which ends as zeros, and keeps states and rows.
+// Checks an opening against the front of `statement` in the front of the work area, which ends as zeros; the front of
+// `opened` then holds what it gives.
 pub fn judge(
     p: Parameters,
-    m1: &[u8],
-    m2: &[u8],
-    m3: &[u8],
+    statement: &[u8],
     leaf: u8,
-    m5: &[u8],
+    message5: &[u8],
     matrix: &[u8],
     y: &[u8],
     work: &mut [u8],
-    states: &mut [u8],
-    rows: &mut [u8],
+    opened: &mut [u8],
 ) -> Answer
-    requires { ⌜ Judging p (transcript (now m1) (now m2) (now m3) leaf (now m5)) (length (now matrix)) (length (now y)) (length (now work)) (now states) (now rows) ⌝ }
-    ensures { λ r. ⌜ Judged p (transcript (now (m1 .entry)) (now (m2 .entry)) (now (m3 .entry)) leaf (now (m5 .entry))) (keyOf (now (matrix .entry)) (now (y .entry))) (now (work .entry)) r (now (work .exit)) (now (states .exit)) (now (rows .exit)) ⌝ }
+    requires { ⌜ Judging p (now statement) leaf (now message5) (now matrix) (now y) (now work) (now opened) ⌝ }
+    ensures { λ r. ⌜ Judged p (exchangeIn p (take (statementLength p) (now (statement .entry))) leaf (now (message5 .entry)))
+        (keyOf (now (matrix .entry)) (now (y .entry))) (now (work .entry)) r (now (work .exit)) (take (openedLength p) (now (opened .exit))) ⌝ }
 {
+    let size = statement_length(p);
     let area = work_length(p);
-    let all_states = 32 * leaf_count(p);
-    let all_rows = p.axes * axis_length(p);
+    let all = opened_length(p);
     check_opening(
         p,
-        m1,
-        m2,
-        m3,
+        &statement[..size],
         leaf as usize,
-        m5,
+        message5,
         matrix,
         y,
         &mut work[..area],
-        &mut states[..all_states],
-        &mut rows[..all_rows],
+        &mut opened[..all],
     )
 }

@@ -5,11 +5,17 @@ mod judge;
 
 use answers::Answer;
 use checks::early_checks;
+use checks::exchange_lengths;
+use checks::lent_lengths;
+use checks::same_statement;
 use compare::compare_openings;
+use comparison::Hidden;
 use comparison::findings::Extraction;
 use judge::judge;
-use layout::MOST_ROWS;
-use layout::MOST_STATES;
+use layout::MOST_OPENED;
+use layout::MOST_STATEMENT;
+use layout::statement_length;
+use openings::statement::put_statement;
 use parameters::Parameters;
 ghost use mathlib.Core.Path.{_≡_};
 ghost use Rattle.shake256.specs.Fips.{SHAKE256};
@@ -36,78 +42,38 @@ pub fn extract(
     work: &mut [u8],
     out: &mut [u8],
 ) -> Extraction
-    ensures { λ r. ⌜ given r (now (out .exit)) (now (work .exit)) ≡ spec.extraction SHAKE256 p (spec.transcript (now (first1 .entry)) (now (first2 .entry)) (now (first3 .entry)) first4 (now (first5 .entry))) (spec.transcript (now (second1 .entry)) (now (second2 .entry)) (now (second3 .entry)) second4 (now (second5 .entry))) (keyOf (now (matrix .entry)) (now (y .entry))) (now (work .entry)) (now (out .entry)) ⌝ }
+    ensures { λ r. ⌜ given r (now (out .exit)) (now (work .exit)) ≡ spec.extraction SHAKE256 p
+        (spec.transcript (now (first1 .entry)) (now (first2 .entry)) (now (first3 .entry)) first4 (now (first5 .entry)))
+        (spec.transcript (now (second1 .entry)) (now (second2 .entry)) (now (second3 .entry)) second4 (now (second5 .entry)))
+        (keyOf (now (matrix .entry)) (now (y .entry))) (now (work .entry)) (now (out .entry)) ⌝ }
 {
-    let early = early_checks(
-        p,
-        first1,
-        first2,
-        first3,
-        first4,
-        first5,
-        second1,
-        second2,
-        second3,
-        second4,
-        second5,
-        matrix,
-        y,
-        work,
-        out,
-    );
+    let same = same_statement(first1, first2, first3, second1, second2, second3);
+    let first = exchange_lengths(first1, first2, first3, first4, first5);
+    let second = exchange_lengths(second1, second2, second3, second4, second5);
+    let rest = lent_lengths(matrix, y, work, out);
+    let early = early_checks(p, first, second, rest, same);
     match early {
         Answer::Done => {}
         Answer::Refused(r) => return Extraction::Refused(r),
     }
-    let mut states = [0u8; MOST_STATES];
-    let mut rows = [0u8; MOST_ROWS];
-    let one = judge(
-        p,
-        first1,
-        first2,
-        first3,
-        first4,
-        first5,
-        matrix,
-        y,
-        work,
-        &mut states,
-        &mut rows,
-    );
+    let size = statement_length(p);
+    let mut statement = [0u8; MOST_STATEMENT];
+    put_statement(p, first1, first2, first3, &mut statement[..size]);
+    let mut opened = [0u8; MOST_OPENED];
+    let one = judge(p, &statement, first4, first5, matrix, y, work, &mut opened);
     match one {
         Answer::Done => {}
         Answer::Refused(r) => return Extraction::Refused(r),
     }
-    let mut others = [0u8; MOST_STATES];
-    let mut other_rows = [0u8; MOST_ROWS];
-    let two = judge(
-        p,
-        second1,
-        second2,
-        second3,
-        second4,
-        second5,
-        matrix,
-        y,
-        work,
-        &mut others,
-        &mut other_rows,
-    );
+    let mut other = [0u8; MOST_OPENED];
+    let two = judge(p, &statement, second4, second5, matrix, y, work, &mut other);
     match two {
         Answer::Done => {}
         Answer::Refused(r) => return Extraction::Refused(r),
     }
-    compare_openings(
-        p,
-        first1,
-        first4,
-        first5,
-        &states,
-        &rows,
-        second4,
-        second5,
-        &others,
-        &other_rows,
-        out,
-    )
+    let hidden = Hidden {
+        first: first4 as usize,
+        second: second4 as usize,
+    };
+    compare_openings(p, first1, hidden, first5, &opened, second5, &other, out)
 }

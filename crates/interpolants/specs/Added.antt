@@ -19,7 +19,8 @@ use native.Mathlib.Omega.{arith}
 use lib.ListN.{length, take, drop, getD, set, length-set}
 use lib.Seq.{getD-set-other}
 use Rattle.cube.specs.Sum.{sum}
-use Rattle.lists.specs.Xor.{_⊕_, ⊕-assoc, ⊕-zero, zero-⊕}
+use Rattle.lists.specs.Xor.{_⊕_}
+use Rattle.lists.specs.Xor.Laws.{⊕-assoc, ⊕-zero, zero-⊕}
 use Rattle.lists.specs.Part.{part, putAt}
 use Rattle.lists.specs.Part.Laws.{length-part, getD-part, length-putAt, lent-back, part-putAt-same, part-putAt-before, part-putAt-behind}
 use Rattle.interpolants.specs.Sums.{total}

@@ -8,7 +8,7 @@ use Prim.Native.Nat.{ℕ, _<_}
 use native.Mathlib.Omega.{arith}
 use lib.Dec.{T, eqb, eqb→eq, lit<}
 use lib.ListN.{getD}
-use Rattle.lists.specs.Xor.{positive}
+use Rattle.lists.specs.Xor.Laws.{positive}
 use Rattle.lists.specs.Computed.{all, below}
 use Rattle.bytefield.specs.Product.{_⊗_}
 use Rattle.bytefield.specs.Product.Laws.{⊗-comm, ⊗-assoc, ⊗-zero, one-⊗}

@@ -1,4 +1,4 @@
--- S from power sums: T is the polynomial of the power sums of the weighted entries of x, and G the complement. T divided by G is S.
+-- S from power sums: T is the polynomial of the power sums of the scaled entries of x, and G the complement. T divided by G is S.
 --
 --   transform-elsewhere, transform-here
 --                       T is zero at the bytes above m, and G(f_i)·x_i at each point f_i
@@ -12,9 +12,11 @@ use native.Mathlib.Omega.{arith}
 use lib.Dec.{lit<}
 use lib.ListN.{length, getD, replicate, length-map, List·getD-eq-default}
 use lib.Seq.{ext-getD}
-use Rattle.lists.specs.Xor.{_⊕_, zero-⊕}
+use Rattle.lists.specs.Xor.{_⊕_}
+use Rattle.lists.specs.Xor.Laws.{zero-⊕}
 use Rattle.algebra.specs.Ring.{ops}
-use Rattle.algebra.specs.Each.{each-from, each-to-map}
+use Rattle.algebra.specs.Each.Laws.{each-from}
+use Rattle.algebra.specs.Each.Laws.{each-to-map}
 use Rattle.algebra.specs.Polynomial.{eval, values, Zeros}
 use Rattle.algebra.specs.Polynomial.Roots.{root-bound}
 use Rattle.algebra.specs.Polynomial.Maps.{map-eval}
@@ -22,32 +24,35 @@ use Rattle.bytefield.specs.Product.{_⊗_, byteOps}
 use Rattle.bytefield.specs.Product.Laws.{⊗-lt, one-⊗, bytefield}
 use Rattle.bytefield.specs.Inverse.{inverse}
 use Rattle.bytefield.specs.Inverse.Laws.{⊗-inverse}
-use Rattle.bytefield.specs.Byte.{byte, byteRing, byteField, byte-zero, byte-homomorphism}
+use Rattle.bytefield.specs.Byte.{byte, byteRing, byteField}
+use Rattle.bytefield.specs.Byte.Laws.{byte-zero}
+use Rattle.bytefield.specs.Byte.Laws.{byte-homomorphism}
 use Rattle.packed.specs.Maps.{getD-map-in}
 use Rattle.interpolants.specs.PowerSum.{timesEach, PowerSums}
 use Rattle.interpolants.specs.Classes.Laws.{getD-timesEach}
-use Rattle.polynomial.specs.Bytes.{Bytes, inField, byte-equal, byte-at, byte-eval}
+use Rattle.polynomial.specs.Bytes.{Bytes, inField}
+use Rattle.polynomial.specs.Bytes.Laws.{byte-equal, byte-at, byte-eval}
 use Rattle.polynomial.specs.Interpolant.{interpolationPoints, interpolantOf}
 use Rattle.polynomial.specs.Interpolant.Laws.{length-ascending, ascending-at, ascending-distinct, interpolant-unique}
 use Rattle.interpolants.specs.Cancel.{⊗-cancel}
-use Rattle.interpolants.specs.Complement.{complementOf, weightsOf}
-use Rattle.interpolants.specs.Complement.Laws.{missing, bytes-complement, complement-zero, complement-some, weight-at}
+use Rattle.interpolants.specs.Complement.{complementOf, scalesOf}
+use Rattle.interpolants.specs.Complement.Laws.{missing, bytes-complement, complement-zero, complement-some, scale-at}
 use Rattle.interpolants.specs.Interpolating.Transform.{transform-value}
 pub mod Transform
 
 -- ---- what the power sums are at the points, and elsewhere
 
-module _ (m : ℕ) (x t : List ℕ) (short : m < 256) (long : length x ≡ m) (sums : PowerSums (timesEach x (weightsOf m)) t) where
+module _ (m : ℕ) (x t : List ℕ) (short : m < 256) (long : length x ≡ m) (sums : PowerSums (timesEach x (scalesOf m)) t) where
   pub transform-elsewhere : (z : ℕ) → m < z → z < 256 → eval byteOps t z ≡ 0
   transform-elsewhere z h k =
       let past : getD x (z - 1) 0 ≡ 0 = List·getD-eq-default x 0 (omega arith) in
-      rw (transform-value (timesEach x (weightsOf m)) t z sums (omega arith) k, getD-timesEach x (weightsOf m) (z - 1), past) (simp bytefield)
+      rw (transform-value (timesEach x (scalesOf m)) t z sums (omega arith) k, getD-timesEach x (scalesOf m) (z - 1), past) (simp bytefield)
 
   pub transform-here : (i : ℕ) → i < m → eval byteOps t (1 + i) ≡ eval byteOps (complementOf m) (1 + i) ⊗ getD x i 0
   transform-here i h =
       let place : 1 + i - 1 ≡ i = omega arith in
       let once : (g a : ℕ) → a ⊗ ((1 + i) ⊗ g) ⊗ inverse (1 + i) ≡ (1 + i) ⊗ inverse (1 + i) ⊗ (g ⊗ a) = λ g a. simp bytefield in
-      rw (transform-value (timesEach x (weightsOf m)) t (1 + i) sums (omega arith) (omega arith), place, getD-timesEach x (weightsOf m) i, weight-at m i h)
+      rw (transform-value (timesEach x (scalesOf m)) t (1 + i) sums (omega arith) (omega arith), place, getD-timesEach x (scalesOf m) i, scale-at m i h)
       (rw (once (eval byteOps (complementOf m) (1 + i)) (getD x i 0), ⊗-inverse (1 + i) (omega arith) (omega arith)) (one-⊗ _ (⊗-lt _ _)))
 
 -- ---- the division by G

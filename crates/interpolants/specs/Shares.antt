@@ -17,12 +17,13 @@ use Rattle.lists.specs.Xor.{_⊕_}
 use Rattle.algebra.specs.Polynomial.{eval, pow}
 use Rattle.bytefield.specs.Product.{_⊗_, byteOps}
 use Rattle.bytefield.specs.Product.Laws.{bytefield, ⊗-lt, one-⊗}
-use Rattle.polynomial.specs.Bytes.{Bytes, bytes-take}
+use Rattle.polynomial.specs.Bytes.{Bytes}
+use Rattle.polynomial.specs.Bytes.Laws.{bytes-take}
 use Rattle.polynomial.specs.Interpolant.{interpolantOf}
 use Rattle.packed.specs.Share.{share}
 use Rattle.packed.specs.Share.Laws.{length-share}
 use Rattle.interpolants.specs.PowerSum.{timesEach, PowerSums}
-use Rattle.interpolants.specs.Complement.{complementOf, weightsOf}
+use Rattle.interpolants.specs.Complement.{complementOf, scalesOf}
 use Rattle.interpolants.specs.Complement.Laws.{length-complement, complement-monic}
 use Rattle.interpolants.specs.Interpolating.{transform-elsewhere, transform-here, interpolant-made}
 use Rattle.interpolants.specs.Division.{Divided}
@@ -70,7 +71,7 @@ module _ (m : ℕ) (few : m < 256) where
       (λ z. rw (monic-value (complementOf m) (take (255 - m) (complementOf m)) (255 - m) z (complement-monic m) l) (rw (eg, l) at divided i h z))
       (simp length-drop (omega arith))
 
-  pub share-made : (i : ℕ) (a t a′ w g : List ℕ) → i < 8 → length a ≡ 255 → length a′ ≡ 255 → w ≡ weightsOf m → g ≡ complementOf m
+  pub share-made : (i : ℕ) (a t a′ w g : List ℕ) → i < 8 → length a ≡ 255 → length a′ ≡ 255 → w ≡ scalesOf m → g ≡ complementOf m
       → PowerSums (timesEach (share i (take m a)) w) (share i t) → Divided (take (255 - m) g) t a′
       → share i a′ ≡ replicate (255 - m) 0 ++ interpolantOf (share i (take m a))
   share-made i a t a′ w g h la la′ ew eg sums divided =

@@ -12,7 +12,8 @@ use Prim.Native.Nat.{ℕ, zero, suc, _+_, _*_}
 use native.Mathlib.Nat.{add-zero, add-suc, add-comm, mul-zero, mul-suc}
 use Rattle.cube.specs.Group.{Group2}
 use Rattle.cube.specs.Sum.{sum}
-use Rattle.lists.specs.Xor.{_⊕_, ⊕-assoc, ⊕-comm, ⊕-zero, ⊕-self}
+use Rattle.lists.specs.Xor.{_⊕_}
+use Rattle.lists.specs.Xor.Laws.{⊕-assoc, ⊕-comm, ⊕-zero, ⊕-self}
 use Rattle.lists.specs.Additive.{Additive, additive-zero}
 use Rattle.bytefield.specs.Product.{_⊗_}
 use Rattle.bytefield.specs.Powers.{power}

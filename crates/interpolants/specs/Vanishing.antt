@@ -13,17 +13,20 @@ use native.Mathlib.Omega.{arith}
 use lib.Dec.{lit<}
 use lib.ListN.{length, take, drop, getD, replicate, length-replicate, length-append, length-map, replicate-append-replicate}
 use lib.Seq.{take-at, drop-at, length-take-le}
-use Rattle.lists.specs.Xor.{_⊕_, ⊕-comm, ⊕-self, ⊕-self-left}
+use Rattle.lists.specs.Xor.{_⊕_}
+use Rattle.lists.specs.Xor.Laws.{⊕-comm, ⊕-self, ⊕-self-left}
 use Rattle.lists.specs.Sum.{xorList}
 use Rattle.lists.specs.Sum.Laws.{xorList-comm, xorList-zeros}
 use Rattle.lists.specs.Part.Laws.{tail-part, tail-back}
-use Rattle.algebra.specs.Each.{each-all, each-to-map}
+use Rattle.algebra.specs.Each.Laws.{each-all}
+use Rattle.algebra.specs.Each.Laws.{each-to-map}
 use Rattle.algebra.specs.Polynomial.{eval, pow, values}
 use Rattle.bytefield.specs.Product.{_⊗_, byteOps}
 use Rattle.bytefield.specs.Product.Laws.{⊗-comm, bytefield}
 use Rattle.bytefield.specs.Powers.{power, logs-at}
 use Rattle.bytefield.specs.Tables.{logs}
-use Rattle.polynomial.specs.Bytes.{Bytes, byte-at, byte-eval, bytes-take}
+use Rattle.polynomial.specs.Bytes.{Bytes}
+use Rattle.polynomial.specs.Bytes.Laws.{byte-at, byte-eval, bytes-take}
 use Rattle.polynomial.specs.Interpolant.{interpolationPoints, interpolantOf, vanishingOf}
 use Rattle.polynomial.specs.Interpolant.Laws.{length-ascending, ascending-at, product-zero, length-vanishing, bytes-vanishing, vanishing-monic, interpolant-unique}
 use Rattle.packed.specs.Maps.{getD-map-in}

@@ -14,8 +14,7 @@ or-rot x r j h = rw up (or-shifted (x % 2 ^ j) r (x / 2 ^ j) (shr-lt r j h))
 
 -- a shift up and a shift down by the rest of the width are a rotation
 pub or-rotl : (x r w : ℕ) → r ≤ w → x < 2 ^ w → bitOr (x * 2 ^ r % 2 ^ w) (x / 2 ^ (w - r)) ≡ x * 2 ^ r % 2 ^ w + x / 2 ^ (w - r)
-or-rotl x r w le h =
-    subst (λ (n : ℕ). bitOr (x * 2 ^ r % 2 ^ n) (x / 2 ^ (w - r)) ≡ x * 2 ^ r % 2 ^ n + x / 2 ^ (w - r)) (sub-add-cancel le)
+or-rotl x r w le h = subst (λ (n : ℕ). bitOr (x * 2 ^ r % 2 ^ n) (x / 2 ^ (w - r)) ≡ x * 2 ^ r % 2 ^ n + x / 2 ^ (w - r)) (sub-add-cancel le)
     (or-rot x r (w - r) (subst (λ (n : ℕ). x < 2 ^ n) (sym (add-sub-of-le le)) h))
 
 -- a rotation by 0

@@ -13,11 +13,8 @@ bit a z = a / 2 ^ z % 2
 
 -- a bit of the low k places
 bit-mod : (a k z : ℕ) → z < k → bit (a % 2 ^ k) z ≡ bit a z
-bit-mod a k z h =
-    let more = k - suc z in
-    let sum : (more + 1) + z ≡ k = omega arith in
-    subst (λ (n : ℕ). bit (a % 2 ^ n) z ≡ bit a z) sum
-    (ap (λ (x : ℕ). x % 2) (field a (more + 1) z) ∙ mod-mod-pow (a / 2 ^ z) more 1)
+bit-mod a k z h = let more = k - suc z in let sum : (more + 1) + z ≡ k = omega arith in
+    subst (λ (n : ℕ). bit (a % 2 ^ n) z ≡ bit a z) sum (ap (λ (x : ℕ). x % 2) (field a (more + 1) z) ∙ mod-mod-pow (a / 2 ^ z) more 1)
 
 -- the bits of two numbers side by side
 bit-above : (hi lo r z : ℕ) → lo < 2 ^ r → bit (hi * 2 ^ r + lo) (r + z) ≡ bit hi z
@@ -37,22 +34,13 @@ module _ (a r j : ℕ) (small : a < 2 ^ (r + j)) where
 pub rotl-bit : (a r z : ℕ) → a < 2 ^ 64 → r < 64 → z < 64 → bit (rotl a r) ((z + r) % 64) ≡ bit a z
 unfolding rotl
 rotl-bit a r z small hr hz =
-    let j = 64 - r in
-    let width : j + r ≡ 64 = omega arith in
-    let width′ : r + j ≡ 64 = omega arith in
+    let j = 64 - r in let width : j + r ≡ 64 = omega arith in let width′ : r + j ≡ 64 = omega arith in
     let small′ : a < 2 ^ (r + j) = subst (λ (n : ℕ). a < 2 ^ n) (sym width′) small in
-    ⊎-elim
-    (λ over.
-    let down = z - j in
-    let place : (z + r) % 64 ≡ down = omega arith in
-    ap (bit (a * 2 ^ r % 2 ^ 64 + a / 2 ^ j)) place
+    ⊎-elim (λ over. let down = z - j in let place : (z + r) % 64 ≡ down = omega arith in ap (bit (a * 2 ^ r % 2 ^ 64 + a / 2 ^ j)) place
     ∙ subst (λ (n : ℕ). bit (a * 2 ^ r % 2 ^ n + a / 2 ^ j) down ≡ bit a (j + down)) width (bit-down a r j small′ down (omega arith))
     ∙ ap (bit a) (back j z (omega arith)))
-    (λ under.
-    let place : (z + r) % 64 ≡ r + z = omega arith in
-    ap (bit (a * 2 ^ r % 2 ^ 64 + a / 2 ^ j)) place
-    ∙ subst (λ (n : ℕ). bit (a * 2 ^ r % 2 ^ n + a / 2 ^ j) (r + z) ≡ bit a z) width (bit-up a r j small′ z (omega arith)))
-    (eq-zero-or-pos (j - z))
+    (λ under. let place : (z + r) % 64 ≡ r + z = omega arith in ap (bit (a * 2 ^ r % 2 ^ 64 + a / 2 ^ j)) place
+    ∙ subst (λ (n : ℕ). bit (a * 2 ^ r % 2 ^ n + a / 2 ^ j) (r + z) ≡ bit a z) width (bit-up a r j small′ z (omega arith))) (eq-zero-or-pos (j - z))
   where
     back : (j z : ℕ) → j ≤ z → j + (z - j) ≡ z
     back j z h = omega arith

@@ -16,7 +16,8 @@ ghost use Rattle.text.specs.Fold.{fold};
 ghost use Rattle.text.specs.Scanner.Word.{wordStep, wordAccepts};
 ghost use Rattle.text.specs.Scanner.Decimal.{decimalStep};
 ghost use Rattle.keytext.specs.Form.{wordOf};
-ghost use Rattle.keytext.specs.Scan.{start, broken, withWord, withNumber, hexed, hexByte, held, byteStep, accepted, savedNumbers, savedLengths, closed, fieldEnd, lineEnd, step, complete};
+ghost use Rattle.keytext.specs.Scan.{start, broken, withWord, withNumber, hexed, hexByte, held, byteStep, accepted};
+ghost use Rattle.keytext.specs.Scan.{savedNumbers, savedLengths, closed, fieldEnd, lineEnd, step, complete};
 
 // A key's text as its bytes come. `sound` while it can still be the four lines; `line` of them have ended, and `field` fields of the next one; the
 // field begun is read by the scanner of its kind. `numbers` are the set line's, and `lengths` the bytes of the matrix, y and x_A, as far as they are read.
@@ -88,7 +89,8 @@ impl KeyScan {
 
     // One byte more of a field.
     fn byte(self, b: u8, matrix: &mut [u8], y: &mut [u8], x_a: &mut [u8]) -> Self
-        ensures { λ r. ⌜ held r (now (matrix .exit)) (now (y .exit)) (now («x_a» .exit)) ≡ byteStep (held self (now (matrix .entry)) (now (y .entry)) (now («x_a» .entry))) b ⌝ }
+        ensures { λ r. ⌜ held r (now (matrix .exit)) (now (y .exit)) (now («x_a» .exit))
+            ≡ byteStep (held self (now (matrix .entry)) (now (y .entry)) (now («x_a» .entry))) b ⌝ }
     {
         if self.line > 3 {
             return self.broken();
@@ -206,7 +208,8 @@ impl KeyScan {
 
     // After one byte more.
     fn step(self, b: u8, matrix: &mut [u8], y: &mut [u8], x_a: &mut [u8]) -> Self
-        ensures { λ r. ⌜ held r (now (matrix .exit)) (now (y .exit)) (now («x_a» .exit)) ≡ step (held self (now (matrix .entry)) (now (y .entry)) (now («x_a» .entry))) b ⌝ }
+        ensures { λ r. ⌜ held r (now (matrix .exit)) (now (y .exit)) (now («x_a» .exit))
+            ≡ step (held self (now (matrix .entry)) (now (y .entry)) (now («x_a» .entry))) b ⌝ }
     {
         if b == b'\n' {
             return self.line_end();
@@ -219,7 +222,8 @@ impl KeyScan {
 
     // After one piece more of the text. What a slice has no room for is counted and not stored.
     pub fn feed(self, piece: &[u8], matrix: &mut [u8], y: &mut [u8], x_a: &mut [u8]) -> Self
-        ensures { λ r. ⌜ held r (now (matrix .exit)) (now (y .exit)) (now («x_a» .exit)) ≡ fold step (held self (now (matrix .entry)) (now (y .entry)) (now («x_a» .entry))) (now (piece .entry)) ⌝ }
+        ensures { λ r. ⌜ held r (now (matrix .exit)) (now (y .exit)) (now («x_a» .exit))
+            ≡ fold step (held self (now (matrix .entry)) (now (y .entry)) (now («x_a» .entry))) (now (piece .entry)) ⌝ }
     {
         let mut scan = self;
         let mut i = 0;

@@ -8,7 +8,7 @@ ghost use mathlib.Core.Path.{_≡_};
 ghost use mathlib.Core.Bool.{true};
 ghost use Prim.Native.Nat.{_+_, _*_, _-_, _≤_, _<_};
 ghost use lib.ListN.{length, replicate};
-ghost use Rattle.bytefield.specs.Tables.{logs, powers};
+ghost use Rattle.bytefield.specs.Tables.{fieldTables};
 ghost use Rattle.polynomial.specs.Interpolant.{interpolantOf, vanishingOf};
 ghost use Rattle.relation.specs.Key.{locatorOf, quotientOf};
 ghost use Rattle.parameters.specs.Limits.{Within};
@@ -43,33 +43,25 @@ fn locator_line(
     w: usize,
     x: &[u8],
     q: &mut [u8],
-    log: &[u8; 256],
-    pow: &[u8; 256],
+    tables: &[u8; 512],
 ) -> usize
     requires { ⌜ Weighted w (now x) ⌝ }
-    requires { ⌜ (now log ≡ logs) × (now pow ≡ powers) × (length (now q) ≡ w + 1) × (at + 2 * w + 11 ≤ length (now out)) ⌝ }
+    requires { ⌜ (now tables ≡ fieldTables) × (length (now q) ≡ w + 1) × (at + 2 * w + 11 ≤ length (now out)) ⌝ }
     ensures { λ r. ⌜ Written (now (out .entry)) at (resultLine locatorWord (locatorOf w (now (x .entry)))) r (now (out .exit)) ⌝ }
     ensures { λ r. ⌜ r ≡ at + 2 * w + 11 ⌝ }
 {
-    key::locator(w, x, q, log, pow);
+    key::locator(w, x, q, tables);
     result_line(out, at, b"locator", q)
 }
 
 // The line of S, which is made in s.
-fn interpolant_line(
-    out: &mut [u8],
-    at: usize,
-    x: &[u8],
-    s: &mut [u8],
-    log: &[u8; 256],
-    pow: &[u8; 256],
-) -> usize
-    requires { ⌜ (now log ≡ logs) × (now pow ≡ powers) × (length (now s) ≡ length (now x)) × (length (now x) < 256) × (at + 2 * length (now x) + 3 ≤ length (now out)) ⌝ }
+fn interpolant_line(out: &mut [u8], at: usize, x: &[u8], s: &mut [u8], tables: &[u8; 512]) -> usize
+    requires { ⌜ (now tables ≡ fieldTables) × (length (now s) ≡ length (now x)) × (length (now x) < 256) × (at + 2 * length (now x) + 3 ≤ length (now out)) ⌝ }
     ensures { λ r. ⌜ Written (now (out .entry)) at (resultLine sWord (interpolantOf (now (x .entry)))) r (now (out .exit)) ⌝ }
     ensures { λ r. ⌜ r ≡ at + 2 * length (now (x .entry)) + 3 ⌝ }
 {
     lists::copy(s, x);
-    polynomial::interpolate(s, log, pow);
+    polynomial::interpolate(s, tables);
     result_line(out, at, b"S", s)
 }
 
@@ -81,31 +73,24 @@ fn quotient_line(
     x: &[u8],
     work: &mut [u8],
     p: &mut [u8],
-    log: &[u8; 256],
-    pow: &[u8; 256],
+    tables: &[u8; 512],
 ) -> usize
     requires { ⌜ Weighted w (now x) ⌝ }
-    requires { ⌜ (now log ≡ logs) × (now pow ≡ powers) × (length (now work) ≡ length (now x)) × (length (now p) ≡ w) × (at + 2 * w + 3 ≤ length (now out)) ⌝ }
+    requires { ⌜ (now tables ≡ fieldTables) × (length (now work) ≡ length (now x)) × (length (now p) ≡ w) × (at + 2 * w + 3 ≤ length (now out)) ⌝ }
     ensures { λ r. ⌜ Written (now (out .entry)) at (resultLine pWord (quotientOf w (now (x .entry)))) r (now (out .exit)) ⌝ }
     ensures { λ r. ⌜ r ≡ at + 2 * w + 3 ⌝ }
 {
-    key::quotient(w, x, work, p, log, pow);
+    key::quotient(w, x, work, p, tables);
     result_line(out, at, b"P", p)
 }
 
 // The line of F, which is made in f.
-fn vanishing_line(
-    out: &mut [u8],
-    at: usize,
-    f: &mut [u8],
-    log: &[u8; 256],
-    pow: &[u8; 256],
-) -> usize
-    requires { ⌜ (now log ≡ logs) × (now pow ≡ powers) × (0 < length (now f)) × (length (now f) ≤ 256) × (at + 2 * length (now f) + 3 ≤ length (now out)) ⌝ }
+fn vanishing_line(out: &mut [u8], at: usize, f: &mut [u8], tables: &[u8; 512]) -> usize
+    requires { ⌜ (now tables ≡ fieldTables) × (0 < length (now f)) × (length (now f) ≤ 256) × (at + 2 * length (now f) + 3 ≤ length (now out)) ⌝ }
     ensures { λ r. ⌜ Written (now (out .entry)) at (resultLine fWord (vanishingOf (length (now (f .entry)) - 1))) r (now (out .exit)) ⌝ }
     ensures { λ r. ⌜ r ≡ at + 2 * length (now (f .entry)) + 3 ⌝ }
 {
-    polynomial::vanishing(f, log, pow);
+    polynomial::vanishing(f, tables);
     result_line(out, at, b"F", f)
 }
 
@@ -118,19 +103,18 @@ fn key_lines(
     s: &mut [u8],
     p: &mut [u8],
     f: &mut [u8],
-    log: &[u8; 256],
-    pow: &[u8; 256],
+    tables: &[u8; 512],
 ) -> usize
     requires { ⌜ Weighted w (now x) ⌝ }
-    requires { ⌜ (now log ≡ logs) × (now pow ≡ powers) × (2580 ≤ length (now out)) ⌝ }
+    requires { ⌜ (now tables ≡ fieldTables) × (2580 ≤ length (now out)) ⌝ }
     requires { ⌜ (length (now q) ≡ w + 1) × (length (now s) ≡ length (now x)) × (length (now p) ≡ w) × (length (now f) ≡ length (now x) + 1) ⌝ }
     ensures { λ r. ⌜ Written (now (out .entry)) 0 (keyLines w (now (x .entry))) r (now (out .exit)) ⌝ }
 {
     let a = result_line(out, 0, b"vector", x);
-    let b = locator_line(out, a, w, x, q, log, pow);
-    let c = interpolant_line(out, b, x, s, log, pow);
-    let d = quotient_line(out, c, w, x, s, p, log, pow);
-    vanishing_line(out, d, f, log, pow)
+    let b = locator_line(out, a, w, x, q, tables);
+    let c = interpolant_line(out, b, x, s, tables);
+    let d = quotient_line(out, c, w, x, s, p, tables);
+    vanishing_line(out, d, f, tables)
 }
 
 // Room for 255 bytes, the most of x, S and P.
@@ -148,9 +132,9 @@ fn room_256() -> [u8; 256]
 }
 
 // The five lines, with room of its own for Q, S, P and F.
-fn lines_of(out: &mut [u8], w: usize, x: &[u8], log: &[u8; 256], pow: &[u8; 256]) -> usize
+fn lines_of(out: &mut [u8], w: usize, x: &[u8], tables: &[u8; 512]) -> usize
     requires { ⌜ Weighted w (now x) ⌝ }
-    requires { ⌜ (now log ≡ logs) × (now pow ≡ powers) × (2580 ≤ length (now out)) ⌝ }
+    requires { ⌜ (now tables ≡ fieldTables) × (2580 ≤ length (now out)) ⌝ }
     ensures { λ r. ⌜ Written (now (out .entry)) 0 (keyLines w (now (x .entry))) r (now (out .exit)) ⌝ }
 {
     let mut q = room_256();
@@ -168,8 +152,7 @@ fn lines_of(out: &mut [u8], w: usize, x: &[u8], log: &[u8; 256], pow: &[u8; 256]
         &mut s[..m],
         &mut p[..w],
         &mut f[..e],
-        log,
-        pow,
+        tables,
     )
 }
 
@@ -218,31 +201,31 @@ fn weighed(
     x_a: &[u8],
     x: &mut [u8],
     out: &mut [u8],
-    log: &[u8; 256],
-    pow: &[u8; 256],
+    tables: &[u8; 512],
 ) -> usize
-    requires { ⌜ (now log ≡ logs) × (now pow ≡ powers) × (2580 ≤ length (now out)) ⌝ }
-    requires { ⌜ (1 ≤ w) × (w ≤ length (now x)) × (length (now x) < 256) × (length (now x) ≡ length (now «x_a») + length (now y)) × (length (now matrix) ≡ length (now y) * length (now «x_a»)) ⌝ }
+    requires { ⌜ (now tables ≡ fieldTables) × (2580 ≤ length (now out)) ⌝ }
+    requires { ⌜ (1 ≤ w) × (w ≤ length (now x)) × (length (now x) < 256)
+        × (length (now x) ≡ length (now «x_a») + length (now y)) × (length (now matrix) ≡ length (now y) * length (now «x_a»)) ⌝ }
     ensures { λ r. ⌜ Written (now (out .entry)) 0 (weighed w (vectorOf (now (matrix .entry)) (now (y .entry)) (now («x_a» .entry)))) r (now (out .exit)) ⌝ }
 {
-    key::vector(x_a, matrix, y, x, log, pow);
+    key::vector(x_a, matrix, y, x, tables);
     if !key::within_weight(w, x) {
         return refused(out, Refusal::Weight);
     }
-    lines_of(out, w, x, log, pow)
+    lines_of(out, w, x, tables)
 }
 
 // The listing of a key of the right lengths, with room of its own for x and the tables of the field.
 fn listed(p: Parameters, matrix: &[u8], y: &[u8], x_a: &[u8], out: &mut [u8]) -> usize
     requires { ⌜ Within p ⌝ }
     requires { ⌜ (length (now matrix) ≡ sizeOf p) × (length (now y) ≡ rowsOf p) × (length (now «x_a») ≡ p .k) × (2580 ≤ length (now out)) ⌝ }
-    ensures { λ r. ⌜ Written (now (out .entry)) 0 (weighed (p .w) (vectorOf (now (matrix .entry)) (now (y .entry)) (now («x_a» .entry)))) r (now (out .exit)) ⌝ }
+    ensures { λ r. ⌜ Written (now (out .entry)) 0 (weighed (p .w) (vectorOf (now (matrix .entry)) (now (y .entry)) (now («x_a» .entry))))
+        r (now (out .exit)) ⌝ }
 {
-    let log = bytefield::log_table();
-    let pow = bytefield::power_table();
+    let tables = bytefield::field_tables();
     let mut x = room_255();
     let m = p.m;
-    weighed(p.w, matrix, y, x_a, &mut x[..m], out, &log, &pow)
+    weighed(p.w, matrix, y, x_a, &mut x[..m], out, &tables)
 }
 
 // The checks 10, 1 and 2 of a text that was scanned into slices of these lengths, ended here.
@@ -266,7 +249,8 @@ pub fn read_checks(scan: KeyScan, matrix: usize, y: usize, x_a: usize) -> Answer
 
 // The listing of a text that was scanned into the three slices, ended here: its bytes stand at the front of out, and the answer is how many they are.
 pub fn finish(scan: KeyScan, matrix: &[u8], y: &[u8], x_a: &[u8], out: &mut [u8; 2580]) -> usize
-    ensures { λ r. ⌜ (r ≡ length (finishOf scan (now (matrix .entry)) (now (y .entry)) (now («x_a» .entry)))) × (now (out .exit) ≡ putAt (now (out .entry)) 0 (finishOf scan (now (matrix .entry)) (now (y .entry)) (now («x_a» .entry)))) ⌝ }
+    ensures { λ r. ⌜ (r ≡ length (finishOf scan (now (matrix .entry)) (now (y .entry)) (now («x_a» .entry))))
+        × (now (out .exit) ≡ putAt (now (out .entry)) 0 (finishOf scan (now (matrix .entry)) (now (y .entry)) (now («x_a» .entry)))) ⌝ }
 {
     let checked = read_checks(scan, matrix.len(), y.len(), x_a.len());
     if let Answer::Refused(r) = checked {

@@ -25,6 +25,10 @@
 -- siblingsLength p   'D sibling seeds'
 -- message5Length p i 'Length 5: 16D + 32 + 8t, plus k + 2w + 4t with aux', which is there 'unless i* = n−1';
 --                    'For a leaf not below n, message 5's longer length counts'
+-- statesLength p, rowsLength p   the states of all leaves; the rows of all axes
+-- rowsEnd p, openedLength p      what an opening gives: states, rows, and the hidden leaf's commitment
+-- message2Place, prefixPlace p   what an opening is held to: h, h', message 2, then the prefix
+-- statementLength p  the same with a prefix of 32 bytes
 -- workLength p       a share for each party of every axis: 'a work area may be longer, never shorter than 2·D·(k+2w+12t)' (`work-is`)
 -- outputLength p     the extractor's 'output has 32n + k + 2w + 4t bytes'
 use mathlib.Core.Bool.{Bool, cond}
@@ -110,6 +114,20 @@ atP p = atQ p + p .w
 abbrev pub atC : Parameters → ℕ
 atC p = atP p + p .w
 
+-- ---- what an opening gives: the states of all leaves, the rows of all axes, the hidden leaf's commitment
+
+abbrev pub statesLength : Parameters → ℕ
+statesLength p = 32 * leaves p
+
+abbrev pub rowsLength : Parameters → ℕ
+rowsLength p = p .axes * axisLength p
+
+abbrev pub rowsEnd : Parameters → ℕ
+rowsEnd p = statesLength p + rowsLength p
+
+abbrev pub openedLength : Parameters → ℕ
+openedLength p = rowsEnd p + 32
+
 -- ---- messages, work area, output
 
 abbrev pub message2Length : Parameters → ℕ
@@ -121,8 +139,17 @@ siblingsLength p = 16 * levels p
 unfoldable pub message5Length : Parameters → ℕ → ℕ
 message5Length p i = siblingsLength p + 32 + valuesLength p + cond (isLast p i) 0 (auxLength p)
 
+abbrev pub message2Place : ℕ
+message2Place = 64
+
+abbrev pub prefixPlace : Parameters → ℕ
+prefixPlace p = message2Place + message2Length p
+
+abbrev pub statementLength : Parameters → ℕ
+statementLength p = prefixPlace p + 32
+
 unfoldable pub workLength : Parameters → ℕ
 workLength p = side p * p .axes * shareLength p
 
 unfoldable pub outputLength : Parameters → ℕ
-outputLength p = 32 * leaves p + auxLength p
+outputLength p = statesLength p + auxLength p

@@ -26,6 +26,12 @@ pub const LONGEST_ROW: usize = 96;
 // The rows of nine sums at t 8.
 pub const MOST_BLOCKS: usize = 864;
 
+// What an opening gives, at D 8, t 8.
+pub const MOST_OPENED: usize = 9760;
+
+// What an opening is held to, at t 8 with a prefix of 32 bytes.
+pub const MOST_STATEMENT: usize = 160;
+
 // The sibling seeds at D 8.
 pub const MOST_SIBLINGS: usize = 128;
 
@@ -229,6 +235,46 @@ pub fn message5_length(p: Parameters, leaf: usize) -> usize
     short + aux_length(p)
 }
 
+// The length of the states of all leaves.
+pub fn states_length(p: Parameters) -> usize
+    requires { ⌜ Within p ⌝ }
+    ensures { λ r. ⌜ r ≡ spec.statesLength p ⌝ }
+{
+    32 * leaf_count(p)
+}
+
+// Where the rows of all axes end, which stand behind the states in what an opening gives.
+pub fn rows_end(p: Parameters) -> usize
+    requires { ⌜ Within p ⌝ }
+    ensures { λ r. ⌜ r ≡ spec.rowsEnd p ⌝ }
+{
+    states_length(p) + p.axes * axis_length(p)
+}
+
+// The length of what an opening gives: states, rows, and the hidden leaf's commitment.
+pub fn opened_length(p: Parameters) -> usize
+    requires { ⌜ Within p ⌝ }
+    ensures { λ r. ⌜ r ≡ spec.openedLength p ⌝ }
+{
+    rows_end(p) + 32
+}
+
+// Where the prefix starts in what an opening is held to, behind h, h' and message 2.
+pub fn prefix_place(p: Parameters) -> usize
+    requires { ⌜ Within p ⌝ }
+    ensures { λ r. ⌜ r ≡ spec.prefixPlace p ⌝ }
+{
+    64 + message2_length(p)
+}
+
+// The length of what an opening is held to, with a prefix of 32 bytes.
+pub fn statement_length(p: Parameters) -> usize
+    requires { ⌜ Within p ⌝ }
+    ensures { λ r. ⌜ r ≡ spec.statementLength p ⌝ }
+{
+    prefix_place(p) + 32
+}
+
 // The length of the work area that a call zeroes: a share for each of the two parties of every axis.
 pub fn work_length(p: Parameters) -> usize
     requires { ⌜ Within p ⌝ }
@@ -242,7 +288,7 @@ pub fn output_length(p: Parameters) -> usize
     requires { ⌜ Within p ⌝ }
     ensures { λ r. ⌜ r ≡ spec.outputLength p ⌝ }
 {
-    32 * leaf_count(p) + aux_length(p)
+    states_length(p) + aux_length(p)
 }
 
 // Have matrix, y and work area, of these lengths, the lengths that every call asks?

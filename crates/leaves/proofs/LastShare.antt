@@ -9,7 +9,5 @@ use Rattle.lists.specs.Part.{putAt}
 
 pub putAt-last : (d ys aux : List ℕ) (n : ℕ) → length ys ≡ n → length d ≡ n + length aux → putAt (ys ++ drop n d) n aux ≡ ys ++ aux
 unfolding putAt
-putAt-last d ys aux n e size =
-    let long : length (ys ++ drop n d) ≤ n + length aux = simp (length-append, length-drop) (omega arith) in
-    ap₂ (λ (a b : List ℕ). a ++ (aux ++ b)) (take-at ys (drop n d) n e) (drop-of-length-le (ys ++ drop n d) long)
-    ∙ ap (_++_ ys) (append-nil aux)
+putAt-last d ys aux n e size = let long : length (ys ++ drop n d) ≤ n + length aux = simp (length-append, length-drop) (omega arith) in
+    ap₂ (λ (a b : List ℕ). a ++ (aux ++ b)) (take-at ys (drop n d) n e) (drop-of-length-le (ys ++ drop n d) long) ∙ ap (_++_ ys) (append-nil aux)

@@ -26,14 +26,14 @@ fn absorb_commitment(
     p: Parameters,
     leaf: usize,
     states: &[u8],
-    hidden: usize,
+    hidden_leaf: usize,
     given: &[u8],
     aux: &[u8],
 ) -> Sponge
     requires { ⌜ Absorb p leaf (now states) ⌝ }
-    ensures { λ r. ⌜ r ≡ absorbed all (commitmentsAfter start p (now (states .entry)) hidden (now (given .entry)) (now (aux .entry)) leaf) ⌝ }
+    ensures { λ r. ⌜ r ≡ absorbed all (commitmentsAfter start p (now (states .entry)) «hidden_leaf» (now (given .entry)) (now (aux .entry)) leaf) ⌝ }
 {
-    if leaf == hidden {
+    if leaf == hidden_leaf {
         return absorb(all, given);
     }
     let at = 32 * leaf;
@@ -48,20 +48,22 @@ pub fn digest_commitments(
     p: Parameters,
     prefix: &[u8],
     states: &[u8],
-    hidden: usize,
+    hidden_leaf: usize,
     given: &[u8],
     aux: &[u8],
     out: &mut [u8],
 )
     requires { ⌜ Commitments p (now states) ⌝ }
-    ensures { λ _. ⌜ now (out .exit) ≡ SHAKE256 (string5 (now (prefix .entry)) (commitmentsOf p (now (prefix .entry)) (now (states .entry)) hidden (now (given .entry)) (now (aux .entry))) (layout.leaves p)) (length (now (out .entry))) ⌝ }
+    ensures { λ _. ⌜ now (out .exit) ≡ SHAKE256 (string5 (now (prefix .entry))
+        (commitmentsOf p (now (prefix .entry)) (now (states .entry)) «hidden_leaf» (now (given .entry)) (now (aux .entry))) (layout.leaves p))
+        (length (now (out .entry))) ⌝ }
 {
     let start = begin(COMMITMENTS, prefix);
     let mut all = begin(ALL_COMMITMENTS, prefix);
     let n = leaf_count(p);
     let mut i = 0;
     while i < n {
-        let next = absorb_commitment(all, start, p, i, states, hidden, given, aux);
+        let next = absorb_commitment(all, start, p, i, states, hidden_leaf, given, aux);
         all = next;
         i += 1;
     }

@@ -11,7 +11,9 @@ use native.Mathlib.Nat.{mod-lt, zero-mul, one-mul}
 use native.Mathlib.Omega.{arith}
 use lib.Pow.{pow-pos, split, shr-lt}
 use lib.Dec.{T, eqb, eqb→eq}
-use Rattle.lists.specs.Xor.{_⊕_, digit, zero-⊕, ⊕-zero, ⊕-self, ⊕-self-left, ⊕-mod, ⊕-top}
+use Rattle.lists.specs.Xor.{_⊕_}
+use Rattle.lists.specs.Xor.Laws.{digit}
+use Rattle.lists.specs.Xor.Laws.{zero-⊕, ⊕-zero, ⊕-self, ⊕-self-left, ⊕-mod, ⊕-top}
 use Rattle.lists.specs.Computed.{all, below}
 
 abbrev pub Additive : (ℕ → ℕ) → Type 0

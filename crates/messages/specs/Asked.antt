@@ -1,51 +1,69 @@
 -- What the functions of this crate ask for.
 --
--- FirstAsked p prefix states out                     a prefix of 32 bytes, the states of all leaves, and room for message 1
--- LeafAsked p m2 leaf matrix state aux               message 2, the matrix, a leaf's number of one byte, its state, and aux
--- OpeningAsked p run m2 leaf matrix state aux out    the same for a leaf of the tree, the root's seed, and room for message 5
--- LastAsked p m2 leaf matrix out                     message 2, the matrix, a leaf, and room for message 5
--- ProductsAsked p drawn out    a sum of shares, and room for a point at each position
--- AuxAsked p x drawn out       a vector of at most w nonzero entries, a sum of shares, and room for aux
--- Held p x run area             what a session holds of a run, and an area of the length that is zeroed
--- Keyed p m2 matrix y           message 2, matrix and y of the lengths that the parameters say
--- StatesAsked p run states      the root's seed, and room for the states of all leaves
--- SumAsked p x states sum aux   the key's vector, the states of all leaves, room for their sum and for aux
--- AddAsked p x area aux                          the key's vector, a work area, and room for aux
--- RespondAsked p m2 matrix y parts hidden rows   message 2 and the key, D + 1 shares, α and β of a leaf, and room for the rows of all axes
+-- Arrays p x run work           x at the front of 255 bytes, not too heavy; a run; a work area that is long enough
+-- FillAsked p x run sums        x alone, a run, and room for the sums
+-- Keyed p message2 matrix y     message 2, matrix and y of the lengths that the parameters say
+-- Disclosing p message2 leaf matrix out              message 2, a leaf, the matrix, and room for message 5
+-- FirstAsked p prefix states out                     the states of all leaves, and room for message 1
+-- LeafAsked p message2 leaf matrix state aux         message 2, the matrix, a leaf's number of one byte, its state, and aux
+-- OpeningAsked p run message2 leaf matrix state aux out    the same for a leaf of the tree, a run, and room for message 5
+-- ProductsAsked p drawn out     a sum of shares, and room for a point at each position
+-- AuxAsked p x drawn out        a vector of at most w nonzero entries, a sum of shares, and room for aux
+-- StatesAsked p run states      a run, and room for the states of all leaves
+-- AddAsked p x sums aux         the key's vector, the sums, and room for aux
+-- RespondAsked p message2 matrix y sums    message 2 and the key, and the sums
 use mathlib.Core.Path.{_≡_}
 use mathlib.Core.List.{List}
-use Prim.Native.Nat.{ℕ, _*_, _-_, _<_, _+_}
-use lib.ListN.{length}
+use Prim.Native.Nat.{ℕ, _*_, _-_, _<_, _≤_, _+_}
+use lib.ListN.{length, take}
 use Rattle.parameters.specs.declared.Parameters.{Parameters}
 use Rattle.parameters.specs.Limits.{Within}
-use Rattle.layout.specs.Layout.{leaves, auxLength, message2Length, message5Length, pointsLength, shareLength, workLength, valuesLength, axisLength, sumsLength}
-use Rattle.exchange.specs.Run.{Run}
+use Rattle.layout.specs.Layout.{leaves, auxLength, message2Length, message5Length, pointsLength, shareLength, workLength, sumsLength}
+use Rattle.relation.specs.Key.{weightOf}
 use Rattle.relation.specs.Light.{Light}
+
+pub record Arrays (p : Parameters) (x run work : List ℕ) : Type 0 where
+  pub within : Within p
+  pub light : weightOf (take (p .m) x) ≤ p .w
+  pub x-is : length x ≡ 255
+  pub run-fits : 16 ≤ length run
+  pub work-fits : workLength p ≤ length work
+
+pub record FillAsked (p : Parameters) (x run sums : List ℕ) : Type 0 where
+  pub within : Within p
+  pub light : Light (p .w) x
+  pub x-is : length x ≡ p .m
+  pub run-fits : 16 ≤ length run
+  pub sums-are : length sums ≡ sumsLength p
+
+pub record Keyed (p : Parameters) (message2 matrix y : List ℕ) : Type 0 where
+  pub message2-is : length message2 ≡ message2Length p
+  pub matrix-is : length matrix ≡ (p .m - p .k) * p .k
+  pub y-is : length y ≡ p .m - p .k
+
+pub record Disclosing (p : Parameters) (message2 : List ℕ) (leaf : ℕ) (matrix out : List ℕ) : Type 0 where
+  pub message2-is : length message2 ≡ message2Length p
+  pub is-leaf : leaf < leaves p
+  pub matrix-is : length matrix ≡ (p .m - p .k) * p .k
+  pub out-is : length out ≡ message5Length p leaf
 
 pub record FirstAsked (p : Parameters) (prefix states out : List ℕ) : Type 0 where
   pub within : Within p
-  pub prefix-is : length prefix ≡ 32
   pub states-are : length states ≡ 32 * leaves p
-  pub out-is : length out ≡ 64
+  pub out-is : length out ≡ length prefix + 32
 
-pub record LeafAsked (p : Parameters) (m2 : List ℕ) (leaf : ℕ) (matrix state aux : List ℕ) : Type 0 where
+pub record LeafAsked (p : Parameters) (message2 : List ℕ) (leaf : ℕ) (matrix state aux : List ℕ) : Type 0 where
   pub within : Within p
-  pub m2-is : length m2 ≡ message2Length p
+  pub message2-is : length message2 ≡ message2Length p
   pub number : leaf < 256
   pub matrix-is : length matrix ≡ (p .m - p .k) * p .k
   pub state-is : length state ≡ 32
   pub aux-is : length aux ≡ auxLength p
 
-pub record OpeningAsked (p : Parameters) (run : Run) (m2 : List ℕ) (leaf : ℕ) (matrix state aux out : List ℕ) : Type 0 where
-  pub of : LeafAsked p m2 leaf matrix state aux
+pub record OpeningAsked (p : Parameters) (run message2 : List ℕ) (leaf : ℕ) (matrix state aux out : List ℕ) : Type 0 where
+  pub of : LeafAsked p message2 leaf matrix state aux
   pub is-leaf : leaf < leaves p
-  pub root-is : length (run .root) ≡ 16
-  pub out-is : length out ≡ message5Length p leaf
-
-pub record LastAsked (p : Parameters) (m2 : List ℕ) (leaf : ℕ) (matrix out : List ℕ) : Type 0 where
-  pub m2-is : length m2 ≡ message2Length p
-  pub is-leaf : leaf < leaves p
-  pub matrix-is : length matrix ≡ (p .m - p .k) * p .k
+  pub run-fits : 16 ≤ length run
   pub out-is : length out ≡ message5Length p leaf
 
 pub record ProductsAsked (p : Parameters) (drawn out : List ℕ) : Type 0 where
@@ -60,41 +78,19 @@ pub record AuxAsked (p : Parameters) (x drawn out : List ℕ) : Type 0 where
   pub sized-drawn : length drawn ≡ shareLength p
   pub sized-out : length out ≡ auxLength p
 
-pub record Held (p : Parameters) (x : List ℕ) (run : Run) (area : List ℕ) : Type 0 where
+pub record StatesAsked (p : Parameters) (run states : List ℕ) : Type 0 where
   pub within : Within p
-  pub light : Light (p .w) x
-  pub x-is : length x ≡ p .m
-  pub root-is : length (run .root) ≡ 16
-  pub area-is : length area ≡ workLength p
-
-pub record Keyed (p : Parameters) (m2 matrix y : List ℕ) : Type 0 where
-  pub m2-is : length m2 ≡ message2Length p
-  pub matrix-is : length matrix ≡ (p .m - p .k) * p .k
-  pub y-is : length y ≡ p .m - p .k
-
-pub record StatesAsked (p : Parameters) (run : Run) (states : List ℕ) : Type 0 where
-  pub within : Within p
-  pub root-is : length (run .root) ≡ 16
+  pub run-fits : 16 ≤ length run
   pub states-are : length states ≡ 32 * leaves p
 
-pub record SumAsked (p : Parameters) (x states sum aux : List ℕ) : Type 0 where
+pub record AddAsked (p : Parameters) (x sums aux : List ℕ) : Type 0 where
   pub within : Within p
   pub light : Light (p .w) x
   pub x-is : length x ≡ p .m
-  pub states-are : length states ≡ 32 * leaves p
-  pub sum-is : length sum ≡ shareLength p
+  pub sums-are : length sums ≡ sumsLength p
   pub aux-is : length aux ≡ auxLength p
 
-pub record AddAsked (p : Parameters) (x area aux : List ℕ) : Type 0 where
+pub record RespondAsked (p : Parameters) (message2 matrix y sums : List ℕ) : Type 0 where
   pub within : Within p
-  pub light : Light (p .w) x
-  pub x-is : length x ≡ p .m
-  pub area-is : length area ≡ workLength p
-  pub aux-is : length aux ≡ auxLength p
-
-pub record RespondAsked (p : Parameters) (m2 matrix y parts hidden rows : List ℕ) : Type 0 where
-  pub within : Within p
-  pub keyed : Keyed p m2 matrix y
-  pub parts-are : length parts ≡ sumsLength p
-  pub hidden-is : length hidden ≡ valuesLength p
-  pub rows-are : length rows ≡ p .axes * axisLength p
+  pub keyed : Keyed p message2 matrix y
+  pub sums-are : length sums ≡ sumsLength p

@@ -1,33 +1,41 @@
 -- What the check of an opening gives.
 --
--- Recomputed p m1 m2 leaf s v a key area states rows   states and rows, before anything is compared, and a work area of zeros
--- PartsChecked p m1 m2 m3 leaf s c v a key r area states rows   the same, and the answer
--- Checked p m1 m2 m3 leaf m5 key r area states rows   the verdict, a work area of zeros, and what the opening gives of leaves and axes
+-- LeavesOpened p pre leaf s c a work work′ o   from sibling seeds s, commitment c and aux a: the states of all leaves and c in o, the sums of the disclosed
+--                            leaves in the front of the work area, which stays behind them
+-- AxesOpened p s leaf v key work o work′ o′   what the parties of every axis announce, from these sums, in o′ too, and a work area of zeros
+-- Checked p e key r work o   the verdict, a work area of zeros, and what the opening gives of leaves and axes, with message 5's commitment, in o
 use mathlib.Core.Path.{_≡_}
 use mathlib.Core.List.{List}
 use Prim.Native.Nat.{ℕ}
-use lib.ListN.{take, replicate}
+use lib.ListN.{take, drop, replicate}
 use Rattle.shake256.specs.Fips.{SHAKE256}
 use Rattle.answers.specs.declared.Answer.{Answer}
 use Rattle.parameters.specs.declared.Parameters.{Parameters}
-use Rattle.layout.specs.Layout.{workLength}
+use Rattle.layout.specs.Layout.{sumsLength, workLength}
 use Rattle.exchange.specs.Values.{Key}
-use Rattle.exchange.specs.Opening.{exchange, verdict}
-use Rattle.openings.specs.From.{statesFrom, rowsFrom, judged}
+use Rattle.exchange.specs.Opening.{Exchange, commitmentOf, verdict}
+use Rattle.parties.specs.Sums.Front.{filled}
+use Rattle.openings.specs.Statement.{message2In}
+use Rattle.openings.specs.Parts.{statesIn, rowsIn, hiddenCommitment}
+use Rattle.openings.specs.From.{statesFrom, announcedFrom}
 use Rattle.openings.specs.Opened.{openedStates, openedRows}
 pub mod Laws
 
-pub record Recomputed (p : Parameters) (m1 m2 : List ℕ) (leaf : ℕ) (siblings values aux : List ℕ) (key : Key) (area states rows : List ℕ) : Type 0 where
-  pub zeros : area ≡ replicate (workLength p) 0
-  pub states-are : states ≡ statesFrom p (take 32 m1) leaf siblings
-  pub rows-are : rows ≡ rowsFrom p key (take 32 m1) m2 states leaf values aux
+pub record LeavesOpened (p : Parameters) (prefix : List ℕ) (leaf : ℕ) (siblings commitment aux work work′ o : List ℕ) : Type 0 where
+  pub states-are : statesIn p o ≡ statesFrom p prefix leaf siblings
+  pub commitment-is : hiddenCommitment p o ≡ commitment
+  pub sums-are : take (sumsLength p) work′ ≡ filled p prefix (statesIn p o) leaf aux
+  pub rest-stays : drop (sumsLength p) work′ ≡ drop (sumsLength p) work
 
-pub record PartsChecked (p : Parameters) (m1 m2 m3 : List ℕ) (leaf : ℕ) (siblings commitment values aux : List ℕ) (key : Key) (r : Answer) (area states rows : List ℕ) : Type 0 where
-  pub made : Recomputed p m1 m2 leaf siblings values aux key area states rows
-  pub answer : r ≡ judged p m1 m3 leaf commitment aux states rows
+pub record AxesOpened (p : Parameters) (s : List ℕ) (leaf : ℕ) (values : List ℕ) (key : Key) (work o work′ o′ : List ℕ) : Type 0 where
+  pub states-stay : statesIn p o′ ≡ statesIn p o
+  pub commitment-stays : hiddenCommitment p o′ ≡ hiddenCommitment p o
+  pub rows-are : rowsIn p o′ ≡ announcedFrom p key (message2In p s) (take (sumsLength p) work) leaf values
+  pub zeros : work′ ≡ replicate (workLength p) 0
 
-pub record Checked (p : Parameters) (m1 m2 m3 : List ℕ) (leaf : ℕ) (m5 : List ℕ) (key : Key) (r : Answer) (area states rows : List ℕ) : Type 0 where
-  pub answer : r ≡ verdict SHAKE256 p (exchange m1 m2 m3 leaf m5) key
-  pub zeros : area ≡ replicate (workLength p) 0
-  pub states-are : states ≡ openedStates p (exchange m1 m2 m3 leaf m5)
-  pub rows-are : rows ≡ openedRows p (exchange m1 m2 m3 leaf m5) key
+pub record Checked (p : Parameters) (e : Exchange) (key : Key) (r : Answer) (work o : List ℕ) : Type 0 where
+  pub answer : r ≡ verdict SHAKE256 p e key
+  pub zeros : work ≡ replicate (workLength p) 0
+  pub states-are : statesIn p o ≡ openedStates p e
+  pub rows-are : rowsIn p o ≡ openedRows p e key
+  pub commitment-is : hiddenCommitment p o ≡ commitmentOf p e

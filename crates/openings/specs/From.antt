@@ -2,20 +2,19 @@
 --
 -- statesFrom p pre leaf s          the states of all leaves, from the sibling seeds s of the hidden leaf
 -- digestFrom p pre leaf c a st n   n bytes of the digest of all commitments, from the states st, and commitment c and aux a of message 5
--- announcedFrom p key m2 area leaf v    what the parties of every axis announce, from the sums in the front of the work area, and α and β in v
+-- announcedFrom p key m2 sums leaf v    what the parties of every axis announce, from the sums, and α and β in v
 -- rowsFrom p key pre m2 st leaf v a     the same, from the states st and aux a
 -- responseFrom p pre rows n        n bytes of the digest of what the parties of every axis announce
--- judged p m1 m3 leaf c a st rows  the answer, from the comparisons of the two digests with messages 1 and 3
+-- judged p s leaf a o              the answer, from the comparisons of the two digests of what an opening gives in o with h and h' of the statement s
 use mathlib.Core.List.{List, [], _∷_}
 use Prim.Native.Nat.{ℕ}
-use lib.ListN.{take, drop}
 use Rattle.shake256.specs.Fips.{SHAKE256}
 use Rattle.lists.specs.Equal.{eqList}
 use Rattle.answers.specs.declared.Answer.{Answer}
 use Rattle.answers.specs.declared.Refusal.the-variants.{Commitment, Response}
 use Rattle.answers.specs.Checks.{checks}
 use Rattle.parameters.specs.declared.Parameters.{Parameters}
-use Rattle.layout.specs.Layout.{leaves, sumsLength}
+use Rattle.layout.specs.Layout.{levels, leaves}
 use Rattle.exchange.specs.Sequences.{joined}
 use Rattle.exchange.specs.Strings.{string5}
 use Rattle.exchange.specs.Tree.{openedSeeds}
@@ -26,15 +25,17 @@ use Rattle.leaves.specs.Commitments.{commitmentsOf}
 use Rattle.parties.specs.Sums.Front.{filled}
 use Rattle.axes.specs.Announcing.{rowOf}
 use Rattle.axes.specs.RowStrings.{rowsString}
+use Rattle.openings.specs.Statement.{digestIn, responseIn, prefixIn}
+use Rattle.openings.specs.Parts.{statesIn, rowsIn, hiddenCommitment}
 
 unfoldable pub statesFrom : Parameters → List ℕ → ℕ → List ℕ → List ℕ
-statesFrom p prefix leaf siblings = statesOf prefix (laid (openedSeeds SHAKE256 prefix (p .axes) 1 leaf siblings)) (leaves p)
+statesFrom p prefix leaf siblings = statesOf prefix (laid (openedSeeds SHAKE256 prefix (levels p) 1 leaf siblings)) (leaves p)
 
 unfoldable pub digestFrom : Parameters → List ℕ → ℕ → List ℕ → List ℕ → List ℕ → ℕ → List ℕ
 digestFrom p prefix leaf commitment aux states n = SHAKE256 (string5 prefix (commitmentsOf p prefix states leaf commitment aux) (leaves p)) n
 
 unfoldable pub announcedFrom : Parameters → Key → List ℕ → List ℕ → ℕ → List ℕ → List ℕ
-announcedFrom p key m2 area leaf values = joined (rowOf p key m2 (take (sumsLength p) area) leaf values) (p .axes)
+announcedFrom p key m2 sums leaf values = joined (rowOf p key m2 sums leaf values) (p .axes)
 
 unfoldable pub rowsFrom : Parameters → Key → List ℕ → List ℕ → List ℕ → ℕ → List ℕ → List ℕ → List ℕ
 rowsFrom p key prefix m2 states leaf values aux = announcedFrom p key m2 (filled p prefix states leaf aux) leaf values
@@ -42,10 +43,10 @@ rowsFrom p key prefix m2 states leaf values aux = announcedFrom p key m2 (filled
 unfoldable pub responseFrom : Parameters → List ℕ → List ℕ → ℕ → List ℕ
 responseFrom p prefix rows n = SHAKE256 (rowsString SHAKE256 p prefix rows) n
 
-unfoldable pub judged : Parameters → List ℕ → List ℕ → ℕ → List ℕ → List ℕ → List ℕ → List ℕ → Answer
-judged p m1 m3 leaf commitment aux states rows =
+unfoldable pub judged : Parameters → List ℕ → ℕ → List ℕ → List ℕ → Answer
+judged p s leaf aux o =
     checks (
-    (eqList (digestFrom p (take 32 m1) leaf commitment aux states 32) (drop 32 m1), Commitment)
-    ∷ (eqList (responseFrom p (take 32 m1) rows 32) m3, Response)
+    (eqList (digestFrom p (prefixIn p s) leaf (hiddenCommitment p o) aux (statesIn p o) 32) (digestIn s), Commitment)
+    ∷ (eqList (responseFrom p (prefixIn p s) (rowsIn p o) 32) (responseIn s), Response)
     ∷ []
     )

@@ -1,3 +1,5 @@
+pub mod Statement
+pub mod Parts
 pub mod From
 pub mod Opened
 pub mod Asked

@@ -1,40 +1,124 @@
-// Layers 1, 2, 4 and 5 of an opening: the states of the disclosed leaves, and h recomputed.
+// Layers 1 to 5 of an opening: the states of the disclosed leaves, their sums, and h recomputed.
+use layout::at_x;
 use layout::leaf_count;
+use layout::levels;
+use layout::prefix_place;
+use layout::rows_end;
+use layout::share_length;
+use layout::states_length;
+use layout::sums_length;
 use leaves::commitments::digest_commitments;
 use leaves::states::leaf_states;
 use lists::equal;
+use lists::put_at;
+use lists::xor_at;
 use parameters::Parameters;
+use parties::party_sums;
 use seedtree::opened_seeds;
 ghost use mathlib.Core.Path.{_≡_};
-ghost use lib.ListN.{take, drop};
 ghost use Rattle.lists.specs.Equal.{eqList};
+ghost use Rattle.parties.specs.Sums.Front.{filled};
+ghost use Rattle.openings.specs.Statement.{digestIn, prefixIn};
+ghost use Rattle.openings.specs.Parts.{statesIn, hiddenCommitment};
 ghost use Rattle.openings.specs.From.{statesFrom, digestFrom};
-ghost use Rattle.openings.specs.Asked.{SiblingsAsked, CommitmentAsked};
+ghost use Rattle.openings.specs.Asked.{SiblingsAsked, SumsAsked, LeavesAsked, VerdictAsked};
+ghost use Rattle.openings.specs.Checked.{LeavesOpened};
 
 // Fills `states` with the states of all leaves, from the sibling seeds of the hidden leaf.
-pub fn opened_states(p: Parameters, prefix: &[u8], leaf: usize, siblings: &[u8], states: &mut [u8])
-    requires { ⌜ SiblingsAsked p leaf (now siblings) (now states) ⌝ }
-    ensures { λ _. ⌜ now (states .exit) ≡ statesFrom p (now (prefix .entry)) leaf (now (siblings .entry)) ⌝ }
+fn opened_states(
+    p: Parameters,
+    prefix: &[u8],
+    hidden_leaf: usize,
+    siblings: &[u8],
+    states: &mut [u8],
+)
+    requires { ⌜ SiblingsAsked p «hidden_leaf» (now siblings) (now states) ⌝ }
+    ensures { λ _. ⌜ now (states .exit) ≡ statesFrom p (now (prefix .entry)) «hidden_leaf» (now (siblings .entry)) ⌝ }
 {
     let n = leaf_count(p);
     let half = 16 * n;
-    opened_seeds(prefix, p.axes, leaf, siblings, &mut states[half..]);
+    opened_seeds(
+        prefix,
+        levels(p),
+        hidden_leaf,
+        siblings,
+        &mut states[half..],
+    );
     leaf_states(prefix, n, states);
 }
 
-// Is the recomputed h message 1's? The hidden leaf's commitment is the one given, any other's comes from its state.
-pub fn commitment_agrees(
+// The sums over the disclosed leaves. Aux is in leaf n−1 alone, which is in the last party of every axis; where that leaf is
+// hidden, aux is empty.
+fn sum_leaves(
     p: Parameters,
-    m1: &[u8],
-    leaf: usize,
-    given: &[u8],
+    prefix: &[u8],
+    hidden_leaf: usize,
     aux: &[u8],
     states: &[u8],
-) -> bool
-    requires { ⌜ CommitmentAsked p (now m1) (now states) ⌝ }
-    ensures { λ r. ⌜ r ≡ eqList (digestFrom p (take 32 (now (m1 .entry))) leaf (now (given .entry)) (now (aux .entry)) (now (states .entry)) 32) (drop 32 (now (m1 .entry))) ⌝ }
+    sums: &mut [u8],
+)
+    requires { ⌜ SumsAsked p (now aux) (now states) (now sums) ⌝ }
+    ensures { λ _. ⌜ now (sums .exit) ≡ filled p (now (prefix .entry)) (now (states .entry)) «hidden_leaf» (now (aux .entry)) ⌝ }
 {
+    party_sums(p, prefix, states, hidden_leaf, sums);
+    xor_at(sums, p.axes * share_length(p) + at_x(p), aux);
+}
+
+// Fills the states of `opened`, from the sibling seeds, and its commitment, which is message 5's; the sums of the disclosed
+// leaves go to the front of the work area.
+pub fn open_leaves(
+    p: Parameters,
+    prefix: &[u8],
+    hidden_leaf: usize,
+    siblings: &[u8],
+    commitment: &[u8],
+    aux: &[u8],
+    work: &mut [u8],
+    opened: &mut [u8],
+)
+    requires { ⌜ LeavesAsked p «hidden_leaf» (now siblings) (now commitment) (now aux) (now work) (now opened) ⌝ }
+    ensures { λ _. ⌜ LeavesOpened p (now (prefix .entry)) «hidden_leaf» (now (siblings .entry)) (now (commitment .entry)) (now (aux .entry))
+        (now (work .entry)) (now (work .exit)) (now (opened .exit)) ⌝ }
+{
+    let states = states_length(p);
+    let rows = rows_end(p);
+    let sums = sums_length(p);
+    opened_states(p, prefix, hidden_leaf, siblings, &mut opened[..states]);
+    put_at(opened, rows, commitment);
+    sum_leaves(
+        p,
+        prefix,
+        hidden_leaf,
+        aux,
+        &opened[..states],
+        &mut work[..sums],
+    );
+}
+
+// Is the recomputed h the statement's? The hidden leaf's commitment is the one given, any other's comes from its state.
+pub fn commitment_agrees(
+    p: Parameters,
+    statement: &[u8],
+    hidden_leaf: usize,
+    aux: &[u8],
+    opened: &[u8],
+) -> bool
+    requires { ⌜ VerdictAsked p (now statement) (now opened) ⌝ }
+    ensures { λ r. ⌜ r ≡ eqList (digestFrom p (prefixIn p (now (statement .entry))) «hidden_leaf» (hiddenCommitment p (now (opened .entry)))
+        (now (aux .entry)) (statesIn p (now (opened .entry))) 32) (digestIn (now (statement .entry))) ⌝ }
+{
+    let at = prefix_place(p);
+    let states = states_length(p);
+    let rows = rows_end(p);
     let mut h = [0u8; 32];
-    digest_commitments(p, &m1[..32], states, leaf, given, aux, &mut h);
-    equal(&h, &m1[32..])
+    digest_commitments(
+        p,
+        &statement[at..],
+        &opened[..states],
+        hidden_leaf,
+        &opened[rows..],
+        aux,
+        &mut h,
+    );
+    equal(&h, &statement[..32])
 }

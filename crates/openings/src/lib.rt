@@ -1,160 +1,83 @@
 // An opening checked, for verifier and extractor alike (document 01, 'Parties' and 'Messages'). All of it is recomputed
-// before anything is compared, so that states and rows hold what the opening gives whatever the answer is.
+// before anything is compared, so that `opened` holds what the opening gives whatever the answer is.
 mod commitment;
 mod response;
+pub mod statement;
 
 use crate::commitment::commitment_agrees;
-use crate::commitment::opened_states;
-use crate::response::opened_rows;
+use crate::commitment::open_leaves;
+use crate::response::open_axes;
 use crate::response::response_agrees;
 use answers::Answer;
 use answers::Refusal;
 use layout::MOST_SIBLINGS;
 use layout::MOST_VALUES;
+use layout::prefix_place;
 use layout::siblings_length;
 use layout::values_length;
 use parameters::Parameters;
 use reader::opening::read_opening;
 ghost use mathlib.Core.Path.{_≡_};
 ghost use Rattle.exchange.specs.Values.{keyOf};
+ghost use Rattle.openings.specs.Statement.{exchangeIn};
 ghost use Rattle.openings.specs.From.{judged};
-ghost use Rattle.openings.specs.Asked.{OpeningAsked, RecomputeAsked, JudgeAsked};
-ghost use Rattle.openings.specs.Checked.{Recomputed, PartsChecked, Checked};
+ghost use Rattle.openings.specs.Asked.{OpeningAsked, VerdictAsked};
+ghost use Rattle.openings.specs.Checked.{Checked};
 
-// Fills `states` with the states of all leaves and `rows` with what the parties of every axis announce; the work area ends
-// as zeros.
-fn recompute(
+// The answer: 5 where the recomputed h differs from the statement's, 7 where the recomputed h' does.
+fn verdict_of(
     p: Parameters,
-    m1: &[u8],
-    m2: &[u8],
-    leaf: usize,
-    siblings: &[u8],
-    values: &[u8],
+    statement: &[u8],
+    hidden_leaf: usize,
     aux: &[u8],
-    matrix: &[u8],
-    y: &[u8],
-    area: &mut [u8],
-    states: &mut [u8],
-    rows: &mut [u8],
-)
-    requires { ⌜ RecomputeAsked p (now m1) (now m2) leaf (now siblings) (now values) (now aux) (now matrix) (now y) (now area) (now states) (now rows) ⌝ }
-    ensures { λ _. ⌜ Recomputed p (now (m1 .entry)) (now (m2 .entry)) leaf (now (siblings .entry)) (now (values .entry)) (now (aux .entry)) (keyOf (now (matrix .entry)) (now (y .entry))) (now (area .exit)) (now (states .exit)) (now (rows .exit)) ⌝ }
-{
-    opened_states(p, &m1[..32], leaf, siblings, states);
-    opened_rows(
-        p,
-        &m1[..32],
-        m2,
-        leaf,
-        values,
-        aux,
-        matrix,
-        y,
-        states,
-        area,
-        rows,
-    );
-}
-
-// The answer: 5 where the recomputed h differs from message 1's, 7 where the recomputed h' differs from message 3.
-fn judge(
-    p: Parameters,
-    m1: &[u8],
-    m3: &[u8],
-    leaf: usize,
-    commitment: &[u8],
-    aux: &[u8],
-    states: &[u8],
-    rows: &[u8],
+    opened: &[u8],
 ) -> Answer
-    requires { ⌜ JudgeAsked p (now m1) (now states) (now rows) ⌝ }
-    ensures { λ r. ⌜ r ≡ judged p (now (m1 .entry)) (now (m3 .entry)) leaf (now (commitment .entry)) (now (aux .entry)) (now (states .entry)) (now (rows .entry)) ⌝ }
+    requires { ⌜ VerdictAsked p (now statement) (now opened) ⌝ }
+    ensures { λ r. ⌜ r ≡ judged p (now (statement .entry)) «hidden_leaf» (now (aux .entry)) (now (opened .entry)) ⌝ }
 {
-    if !commitment_agrees(p, m1, leaf, commitment, aux, states) {
+    if !commitment_agrees(p, statement, hidden_leaf, aux, opened) {
         return Answer::Refused(Refusal::Commitment);
     }
-    if !response_agrees(p, &m1[..32], rows, m3) {
+    if !response_agrees(p, statement, opened) {
         return Answer::Refused(Refusal::Response);
     }
     Answer::Done
 }
 
-// Checks the opening of an exchange whose message 5 has these parts.
-fn check_parts(
-    p: Parameters,
-    m1: &[u8],
-    m2: &[u8],
-    m3: &[u8],
-    leaf: usize,
-    siblings: &[u8],
-    commitment: &[u8],
-    values: &[u8],
-    aux: &[u8],
-    matrix: &[u8],
-    y: &[u8],
-    area: &mut [u8],
-    states: &mut [u8],
-    rows: &mut [u8],
-) -> Answer
-    requires { ⌜ RecomputeAsked p (now m1) (now m2) leaf (now siblings) (now values) (now aux) (now matrix) (now y) (now area) (now states) (now rows) ⌝ }
-    ensures { λ r. ⌜ PartsChecked p (now (m1 .entry)) (now (m2 .entry)) (now (m3 .entry)) leaf (now (siblings .entry)) (now (commitment .entry)) (now (values .entry)) (now (aux .entry)) (keyOf (now (matrix .entry)) (now (y .entry))) r (now (area .exit)) (now (states .exit)) (now (rows .exit)) ⌝ }
-{
-    recompute(
-        p,
-        m1,
-        m2,
-        leaf,
-        siblings,
-        values,
-        aux,
-        matrix,
-        y,
-        area,
-        states,
-        rows,
-    );
-    judge(p, m1, m3, leaf, commitment, aux, states, rows)
-}
-
-// Checks the opening of an exchange. Whatever the answer, `states` and `rows` then hold the states of all leaves and what the
-// parties of every axis announce, and the work area is zeros.
+// Checks the opening of an exchange against its statement. Whatever the answer, `opened` then holds the states of all leaves,
+// what the parties of every axis announce and the hidden leaf's commitment, and the work area is zeros.
 pub fn check_opening(
     p: Parameters,
-    m1: &[u8],
-    m2: &[u8],
-    m3: &[u8],
+    statement: &[u8],
     leaf: usize,
-    m5: &[u8],
+    message5: &[u8],
     matrix: &[u8],
     y: &[u8],
-    area: &mut [u8],
-    states: &mut [u8],
-    rows: &mut [u8],
+    work: &mut [u8],
+    opened: &mut [u8],
 ) -> Answer
-    requires { ⌜ OpeningAsked p (now m1) (now m2) (now m3) leaf (now m5) (now matrix) (now y) (now area) (now states) (now rows) ⌝ }
-    ensures { λ r. ⌜ Checked p (now (m1 .entry)) (now (m2 .entry)) (now (m3 .entry)) leaf (now (m5 .entry)) (keyOf (now (matrix .entry)) (now (y .entry))) r (now (area .exit)) (now (states .exit)) (now (rows .exit)) ⌝ }
+    requires { ⌜ OpeningAsked p (now statement) leaf (now message5) (now matrix) (now y) (now work) (now opened) ⌝ }
+    ensures { λ r. ⌜ Checked p (exchangeIn p (now (statement .entry)) leaf (now (message5 .entry)))
+        (keyOf (now (matrix .entry)) (now (y .entry))) r (now (work .exit)) (now (opened .exit)) ⌝ }
 {
     let mut siblings = [0u8; MOST_SIBLINGS];
     let mut commitment = [0u8; 32];
     let mut values = [0u8; MOST_VALUES];
-    let rest = read_opening(p, m5, &mut siblings, &mut commitment, &mut values);
+    let rest = read_opening(p, message5, &mut siblings, &mut commitment, &mut values);
     let seeds = siblings_length(p);
-    let points = values_length(p);
-    let aux = m5.len() - rest;
-    check_parts(
+    let size = values_length(p);
+    let place = prefix_place(p);
+    let aux = message5.len() - rest;
+    open_leaves(
         p,
-        m1,
-        m2,
-        m3,
+        &statement[place..],
         leaf,
         &siblings[..seeds],
         &commitment,
-        &values[..points],
-        &m5[aux..],
-        matrix,
-        y,
-        area,
-        states,
-        rows,
-    )
+        &message5[aux..],
+        work,
+        opened,
+    );
+    open_axes(p, statement, leaf, &values[..size], matrix, y, work, opened);
+    verdict_of(p, statement, leaf, &message5[aux..], opened)
 }

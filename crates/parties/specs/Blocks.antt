@@ -1,8 +1,5 @@
--- A list of blocks of one size, one after another: block q is the part of that size from index q * size on.
+-- A list added at a place of another, and to one of several blocks of one size: block q is the part of that size from index q * size on.
 --
--- joined-parts       a list of n blocks is the join of its blocks
--- part-joined        block q of joined lists of one length is list q
--- joined-zeros       blocks of zeros
 -- xorAt-zeros        an addition at a place is a sum with zeros before it
 -- xorAt-nil          an addition of nothing
 -- xorAt-inner        an addition further on is one of more zeros
@@ -12,45 +9,19 @@
 use mathlib.Core.Path.{_≡_, sym, ap, ap₂, _∙_}
 use mathlib.Core.Bool.{cond}
 use mathlib.Core.List.{List, [], _++_, append-nil, append-assoc}
-use Prim.Native.Nat.{ℕ, zero, suc, _+_, _-_, _*_, _≤_, _<_}
-use native.Mathlib.Nat.{zero-mul, suc-mul, le-of-eq}
+use Prim.Native.Nat.{ℕ, _+_, _-_, _*_, _≤_, _<_}
 use native.Mathlib.Decide.{decLt, ℕ-discrete}
 use native.Mathlib.Omega.{arith}
 use borrow.Author.Tests.{eq-eqb, ne-eqb}
 use lib.Dec.{eqb}
 use lib.ListN.{length, take, drop, replicate, length-append, length-replicate, replicate-append-replicate, take-append-drop}
-use lib.Seq.{take-add, take-all, drop-drop, length-take-le}
+use lib.Seq.{drop-drop, length-take-le}
 use Rattle.lists.specs.Part.{part, putAt}
 use Rattle.lists.specs.Part.Laws.{length-part, part-whole, part-append-right, part-fits, part-putAt-before, part-putAt-behind}
 use Rattle.lists.specs.Sum.{xorList, xorAt}
 use Rattle.lists.specs.Sum.Laws.{xorList-append, xorList-nil, xorList-zeros, part-xorList, length-xorList, length-xorAt}
 use Rattle.exchange.specs.Sequences.{joined}
-use Rattle.exchange.specs.Sequences.Laws.{joined-at, joined-ext, length-joined}
-
--- ---- blocks read
-
-front : (d : List ℕ) (size n : ℕ) → take (n * size) d ≡ joined (λ q. part d (q * size) size) n
-unfolding joined part
-front d size zero = ap (λ (k : ℕ). take k d) (zero-mul size)
-front d size (suc n) =
-    ap (λ (k : ℕ). take k d) (suc-mul n size) ∙ take-add (n * size) size d
-    ∙ ap (λ (s : List ℕ). s ++ take size (drop (n * size) d)) (front d size n)
-
-pub joined-parts : (d : List ℕ) (size n : ℕ) → length d ≡ n * size → d ≡ joined (λ q. part d (q * size) size) n
-joined-parts d size n e = sym (take-all (n * size) d (le-of-eq e)) ∙ front d size n
-
-pub part-joined : (f : ℕ → List ℕ) (size n : ℕ) → ((i : ℕ) → i < n → length (f i) ≡ size) → (q : ℕ) → q < n
-    → part (joined f n) (q * size) size ≡ f q
-unfolding part
-part-joined f size n h q l =
-    ap (λ (s : List ℕ). take size (drop (q * size) s)) (sym (append-nil (joined f n))) ∙ joined-at f size n h [] q l
-
-pub joined-zeros : (size n : ℕ) → joined (λ q. replicate size 0) n ≡ replicate (n * size) 0
-unfolding joined
-joined-zeros size zero = ap (λ (k : ℕ). replicate k 0) (sym (zero-mul size))
-joined-zeros size (suc n) =
-    ap (λ (s : List ℕ). s ++ replicate size 0) (joined-zeros size n) ∙ replicate-append-replicate (n * size) size 0
-    ∙ ap (λ (k : ℕ). replicate k 0) (sym (suc-mul n size))
+use Rattle.exchange.specs.Sequences.Laws.{part-joined, joined-parts, joined-ext, length-joined}
 
 -- ---- a list added
 

@@ -1,36 +1,36 @@
--- The laws of sums over leaves: one leaf hidden, the two parties of an axis, aux.
+-- The laws of sums over leaves: one leaf hidden, the parties of an axis, aux.
 --
 -- disclosedOf p hidden j c   the test for the leaves of party c on axis j, but for the hidden leaf
 -- total-picks             equal tests give equal sums
--- total-split             the leaves that pass a second test, and those that fail it, make up all that were picked
--- both-parties            the sums of both parties of an axis make up the sum of all disclosed leaves
+-- total-split, total-less the leaves that pass a second test, and those that fail it, make up all that were picked
+-- less-ext                equal lists leave the same
+-- last-party              what the sums of all parties of an axis but the last one leave of the sum of all is that of the last one
 -- hides-none, party-hides-none   a number that is no leaf's hides none
--- last-digit              leaf n−1 is in the second party of every axis
--- first-without-aux       so aux enters no first party
+-- party-without-aux       leaf n−1 is in the last party of every axis, so aux enters no other
 -- total-with-aux          the sum of all disclosed leaves has aux in it, in its place, where leaf n−1 is disclosed
 -- total-without-aux       where it is hidden, aux has no influence
 use mathlib.Core.Path.{_≡_, refl, sym, ap, ap₂, _∙_}
 use mathlib.Core.Bool.{Bool, true, false, _&&_, not, cond, and-true}
 use mathlib.Core.List.{List, [], _++_, append-nil}
-use Prim.Native.Nat.{ℕ, zero, suc, _+_, _-_, _/_, _%_, _^_, _≤_, _<_}
+use Prim.Native.Nat.{ℕ, zero, suc, _+_, _-_, _≤_, _<_}
 use native.Mathlib.Nat.{le-refl, le-of-eq}
+use native.Mathlib.Decide.{decLt, ℕ-discrete}
 use native.Mathlib.Omega.{arith}
-use borrow.Author.Tests.{ne-eqb, eqb-true, eqb-false, not-true}
-use lib.Arith.{digits-div, digits-mod}
-use lib.Dec.{eqb, lit<}
+use borrow.Author.Tests.{eq-eqb, ne-eqb, lt-ltb, le-ltb, eqb-true, eqb-false, not-true}
+use lib.Dec.{eqb, ltb}
 use lib.ListN.{length, take, replicate, length-replicate}
-use lib.Pow.{ones-split, ones-lt}
 use Rattle.lists.specs.Sum.{xorList, xorAt}
 use Rattle.lists.specs.Sum.Laws.{length-xorList, xorList-comm, xorList-assoc, xorList-append, xorList-self, xorList-zeros}
 use Rattle.parameters.specs.declared.Parameters.{Parameters}
-use Rattle.layout.specs.Layout.{bits, leaves, digit, auxLength, shareLength, atX}
-use Rattle.layout.specs.Layout.Laws.{leaves-pos, leaves-is, digit-bit, digit-lt}
+use Rattle.layout.specs.Layout.{others, leaves, digit, auxLength, shareLength, atX}
+use Rattle.layout.specs.Layout.Laws.{side-others, leaves-pos, digit-lt, digit-last}
 use Rattle.exchange.specs.Strings.{string3}
 use Rattle.exchange.specs.Leaf.{share}
 use Rattle.exchange.specs.Leaf.Laws.{share-last, share-other, length-share-le}
 use Rattle.exchange.specs.Parties.{total, partyOf}
 use Rattle.exchange.specs.Parties.Laws.{total-yes, total-ext, length-total}
 use Rattle.parties.specs.Blocks.{xorAt-zeros}
+use Rattle.parties.specs.Sums.{less}
 
 abbrev pub disclosedOf : Parameters → ℕ → ℕ → ℕ → ℕ → Bool
 disclosedOf p hidden j c i = partyOf p j c i && not (eqb i hidden)
@@ -61,25 +61,67 @@ module _ (p : Parameters) (s : ℕ → List ℕ) where
       join (f n) (picks n) (total p (λ i. f i && picks i) s n) (total p (λ i. not (f i) && picks i) s n) (s n)
       ∙ ap (λ (l : List ℕ). cond (picks n) (xorList l (s n)) l) (total-split f picks n)
 
--- ---- the two parties of an axis
+  -- one summand is the sum less the other
+  rest : (a b : List ℕ) → length a ≡ length b → xorList (xorList a b) a ≡ b
+  rest a b e =
+      ap (λ (l : List ℕ). xorList l a) (xorList-comm a b) ∙ xorList-assoc b a a ∙ ap (xorList b) (xorList-self a)
+      ∙ xorList-zeros b (length a) (le-of-eq e)
+
+  pub total-less : ((i : ℕ) → length (s i) ≤ shareLength p) → (f picks : ℕ → Bool) (n : ℕ)
+      → xorList (total p picks s n) (total p (λ i. f i && picks i) s n) ≡ total p (λ i. not (f i) && picks i) s n
+  total-less short f picks n =
+      ap (λ (l : List ℕ). xorList l (total p (λ i. f i && picks i) s n)) (sym (total-split f picks n))
+      ∙ rest (total p (λ i. f i && picks i) s n) (total p (λ i. not (f i) && picks i) s n) (size (λ i. f i && picks i) ∙ sym (size (λ i. not (f i) && picks i)))
+    where
+      size : (picks : ℕ → Bool) → length (total p picks s n) ≡ shareLength p
+      size picks = length-total p picks s n (λ i l e. short i)
+
+-- ---- the parties of an axis
+
+pub less-ext : (total : List ℕ) (f g : ℕ → List ℕ) (n : ℕ) → ((c : ℕ) → c < n → f c ≡ g c) → less total f n ≡ less total g n
+unfolding less
+less-ext total f g zero h = refl
+less-ext total f g (suc n) h = ap₂ xorList (less-ext total f g n (λ c l. h c (omega arith))) (h n (le-refl (suc n)))
+
+module _ (p : Parameters) (s : ℕ → List ℕ) (short : (i : ℕ) → length (s i) ≤ shareLength p) (picks : ℕ → Bool) (j n : ℕ) where
+  -- the picked leaves of the parties from k on
+  abbrev from : ℕ → ℕ → Bool
+  from k i = not (ltb (digit p j i) k) && picks i
+
+  own : (k i : ℕ) → partyOf p j k i && picks i ≡ partyOf p j k i && from k i
+  unfolding partyOf
+  own k i = go (ℕ-discrete (digit p j i) k)
+    where
+      go : Dec (digit p j i ≡ k) → eqb (digit p j i) k && picks i ≡ eqb (digit p j i) k && from k i
+      go (yes e) = ap (λ (t : Bool). eqb (digit p j i) k && (not t && picks i)) (sym (le-ltb (digit p j i) k (omega arith)))
+      go (no e) = rw (ne-eqb (digit p j i) k e) refl
+
+  next : (k i : ℕ) → not (partyOf p j k i) && from k i ≡ from (suc k) i
+  unfolding partyOf
+  next k i = go (ℕ-discrete (digit p j i) k) (decLt (digit p j i) k)
+    where
+      go : Dec (digit p j i ≡ k) → Dec (digit p j i < k) → not (eqb (digit p j i) k) && from k i ≡ from (suc k) i
+      go (yes e) l = rw (eq-eqb (digit p j i) k e, lt-ltb (digit p j i) (suc k) (omega arith)) refl
+      go (no e) (yes l) = rw (ne-eqb (digit p j i) k e, lt-ltb (digit p j i) k l, lt-ltb (digit p j i) (suc k) (omega arith)) refl
+      go (no e) (no l) = rw (ne-eqb (digit p j i) k e, le-ltb (digit p j i) k (omega arith), le-ltb (digit p j i) (suc k) (omega arith)) refl
+
+  parties-less : (k : ℕ) → less (total p picks s n) (λ c. total p (λ i. partyOf p j c i && picks i) s n) k ≡ total p (from k) s n
+  unfolding less
+  parties-less zero = total-picks p s picks (from 0) n (λ i l. ap (λ (t : Bool). not t && picks i) (sym (le-ltb (digit p j i) 0 (omega arith))))
+  parties-less (suc k) =
+      ap₂ xorList (parties-less k) (total-picks p s (λ i. partyOf p j k i && picks i) (λ i. partyOf p j k i && from k i) n (λ i l. own k i))
+      ∙ total-less p s short (partyOf p j k) (from k) n
+      ∙ total-picks p s (λ i. not (partyOf p j k i) && from k i) (from (suc k)) n (λ i l. next k i)
+
+  pub last-party : less (total p picks s n) (λ c. total p (λ i. partyOf p j c i && picks i) s n) (others p) ≡ total p (λ i. partyOf p j (others p) i && picks i) s n
+  unfolding partyOf
+  last-party = parties-less (others p) ∙ total-picks p s (from (others p)) (λ i. eqb (digit p j i) (others p) && picks i) n (λ i l. go i (decLt (digit p j i) (others p)))
+    where
+      go : (i : ℕ) → Dec (digit p j i < others p) → from (others p) i ≡ eqb (digit p j i) (others p) && picks i
+      go i (yes l) = rw (lt-ltb (digit p j i) (others p) l, ne-eqb (digit p j i) (others p) (λ e. omega arith)) refl
+      go i (no l) = rw (le-ltb (digit p j i) (others p) (omega arith), eq-eqb (digit p j i) (others p) (omega (arith, digit-lt p j i, side-others p))) refl
 
 module _ (p : Parameters) where
-  second-test : (j i : ℕ) → partyOf p j 1 i ≡ not (partyOf p j 0 i)
-  unfolding partyOf bits
-  second-test j i = go (digit p j i) (digit-lt p j i)
-    where
-      go : (c : ℕ) → c < 2 → eqb c 1 ≡ not (eqb c 0)
-      go zero h = refl
-      go (suc zero) h = refl
-      go (suc (suc c)) h = absurd (omega arith)
-
-  pub both-parties : (s : ℕ → List ℕ) (hidden j n : ℕ)
-      → xorList (total p (disclosedOf p hidden j 0) s n) (total p (disclosedOf p hidden j 1) s n) ≡ total p (λ i. not (eqb i hidden)) s n
-  both-parties s hidden j n =
-      ap (xorList (total p (disclosedOf p hidden j 0) s n))
-      (total-picks p s (disclosedOf p hidden j 1) (λ i. not (partyOf p j 0 i) && not (eqb i hidden)) n (λ i l. ap (λ (t : Bool). t && not (eqb i hidden)) (second-test j i)))
-      ∙ total-split p s (partyOf p j 0) (λ i. not (eqb i hidden)) n
-
   -- ---- a number that is no leaf's
 
   pub hides-none : (s : ℕ → List ℕ) (hidden n : ℕ) → n ≤ hidden → total p (λ i. not (eqb i hidden)) s n ≡ total p (λ i. true) s n
@@ -90,27 +132,6 @@ module _ (p : Parameters) where
   party-hides-none s hidden j c n h =
       total-picks p s (disclosedOf p hidden j c) (partyOf p j c) n
       (λ i l. ap (λ (t : Bool). partyOf p j c i && not t) (ne-eqb i hidden (λ e. omega arith)) ∙ and-true (partyOf p j c i))
-
--- ---- leaf n−1
-
--- all bits below d are set in 2^d − 1
-all-ones : (j d : ℕ) → j < d → (2 ^ d - 1) / 2 ^ j % 2 ≡ 1
-all-ones j d h =
-    ap (λ (n : ℕ). (2 ^ n - 1) / 2 ^ j % 2) whole
-    ∙ ap (λ (x : ℕ). x / 2 ^ j % 2) (ones-split (k + 1) j)
-    ∙ ap (λ (x : ℕ). x % 2) (digits-div (2 ^ (k + 1) - 1) (ones-lt j) ∙ ones-split k 1)
-    ∙ digits-mod (2 ^ k - 1) {m = 2} {r = 1} (lit< tt)
-  where
-    k : ℕ
-    k = d - j - 1
-
-    whole : d ≡ k + 1 + j
-    whole = omega arith
-
-module _ (p : Parameters) where
-  pub last-digit : (j : ℕ) → j < p .axes → digit p j (leaves p - 1) ≡ 1
-  last-digit j h =
-      digit-bit p j (leaves p - 1) ∙ ap (λ (n : ℕ). (n - 1) / 2 ^ j % 2) (leaves-is p) ∙ all-ones j (p .axes) h
 
 -- ---- aux
 
@@ -126,15 +147,15 @@ module _ (hash : List ℕ → ℕ → List ℕ) (p : Parameters) (prefix : List 
   unfolding shares
   same-share aux aux′ i other = share-other hash p prefix i (st i) aux other ∙ sym (share-other hash p prefix i (st i) aux′ other)
 
-  pub first-without-aux : (aux aux′ : List ℕ) (hidden j : ℕ) → j < p .axes
-      → total p (disclosedOf p hidden j 0) (λ i. share hash p prefix i (st i) aux) (leaves p)
-      ≡ total p (disclosedOf p hidden j 0) (λ i. share hash p prefix i (st i) aux′) (leaves p)
+  pub party-without-aux : (aux aux′ : List ℕ) (hidden j c : ℕ) → j < p .axes → c < others p
+      → total p (disclosedOf p hidden j c) (λ i. share hash p prefix i (st i) aux) (leaves p)
+      ≡ total p (disclosedOf p hidden j c) (λ i. share hash p prefix i (st i) aux′) (leaves p)
   unfolding partyOf shares
-  first-without-aux aux aux′ hidden j h =
-      total-ext p (disclosedOf p hidden j 0) (shares aux) (shares aux′) (leaves p)
-      (λ i l e. same-share aux aux′ i
-      (λ z. let first : digit p j i ≡ 0 = eqb-true (digit p j i) 0 (and-left (partyOf p j 0 i) (not (eqb i hidden)) e) in
-      let second : digit p j i ≡ 1 = ap (digit p j) z ∙ last-digit p j h in
+  party-without-aux aux aux′ hidden j c h l =
+      total-ext p (disclosedOf p hidden j c) (shares aux) (shares aux′) (leaves p)
+      (λ i below e. same-share aux aux′ i
+      (λ z. let own : digit p j i ≡ c = eqb-true (digit p j i) c (and-left (partyOf p j c i) (not (eqb i hidden)) e) in
+      let last : digit p j i ≡ others p = ap (digit p j) z ∙ digit-last p j h in
       omega arith))
 
   pub total-without-aux : (aux aux′ : List ℕ) (hidden : ℕ) → hidden ≡ leaves p - 1

@@ -4,18 +4,16 @@
 -- Blocks f size d q i          the first i parts of d, of one size, are f 0 to f (i−1) by now
 -- blocks-none, -turn, -end     they are written from the front on, each into its lent part
 -- joined-split, blocks-more    the same for several parts at once
--- blocks-at                    part i, once all are written
 use mathlib.Core.Path.{_≡_, refl, sym, ap, ap₂, _∙_}
-use mathlib.Core.List.{List, [], _++_, append-assoc, append-nil}
+use mathlib.Core.List.{List, _++_, append-assoc, append-nil}
 use Prim.Native.Nat.{ℕ, zero, suc, _+_, _-_, _*_, _≤_, _<_}
 use native.Mathlib.Nat.{suc-mul, zero-mul, one-mul, add-mul, mul-le-mul-right}
 use native.Mathlib.Numerals.{add-one}
 use native.Mathlib.Omega.{arith}
 use lib.ListN.{length, take, drop, length-append, length-take, length-drop}
-use Rattle.lists.specs.Part.{part, putAt}
+use Rattle.lists.specs.Part.{putAt}
 use Rattle.lists.specs.Part.Laws.{lent-back, part-fits, putAt-putAt, putAt-whole}
 use Rattle.exchange.specs.Sequences.{joined}
-use Rattle.exchange.specs.Sequences.Laws.{joined-at}
 
 pub within-blocks : (i n size a m : ℕ) → i < n → a ≡ i * size → m ≡ n * size → a + size ≤ m
 within-blocks i n size a m l ea em = let f = part-fits i n size l in omega arith
@@ -66,8 +64,3 @@ module _ (f : ℕ → List ℕ) (size n : ℕ) (d : List ℕ) (room : length d �
 
   pub blocks-end : (q : List ℕ) (i : ℕ) → i ≡ n → Blocks f size d q i → q ≡ joined f n
   blocks-end q i e g = g .written ∙ putAt-whole d (joined f i) (g .sized ∙ ap (λ (j : ℕ). j * size) e ∙ sym room) ∙ ap (joined f) e
-
-pub blocks-at : (f : ℕ → List ℕ) (size n : ℕ) (q : List ℕ) (i : ℕ) → ((j : ℕ) → j < n → length (f j) ≡ size) → i < n → q ≡ joined f n → part q (i * size) size ≡ f i
-unfolding part
-blocks-at f size n q i sized l e =
-    ap (λ (x : List ℕ). take size (drop (i * size) x)) (e ∙ sym (append-nil (joined f n))) ∙ joined-at f size n sized [] i l

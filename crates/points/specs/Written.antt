@@ -18,11 +18,14 @@ use lib.ListN.{length-take, length, getD, set, take, drop, length-append, length
 use lib.Seq.{length-take-le, take-at, drop-at, paste}
 use Rattle.lists.specs.Part.{part, putAt}
 use Rattle.lists.specs.Part.Laws.{putAt-none, putAt-more, putAt-all, putAt-whole, putAt-putAt, tail-part, tail-back}
-use Rattle.bytefield.specs.Byte.{byte, byteRing, val-byte}
+use Rattle.bytefield.specs.Byte.{byte, byteRing}
+use Rattle.bytefield.specs.Byte.Laws.{val-byte}
 use Rattle.tower.specs.Point.{pointOps, quad, lone, fourSum, fourTimes}
 use Rattle.tower.specs.Point.Laws.{bytes-times}
 use Rattle.tower.specs.Point.Written.{four-path}
-use Rattle.tower.specs.Field.{Point, point, bytesOf, bytesOf-point, point-bytesOf, point-times}
+use Rattle.tower.specs.Field.{Point, point, bytesOf}
+use Rattle.tower.specs.Field.Laws.{point-bytesOf}
+use Rattle.tower.specs.Field.Laws.{bytesOf-point, point-times}
 use Rattle.exchange.specs.Sequences.{joined}
 use Rattle.exchange.specs.Reading.{points, bytesAt, pointAt, encode, _⊞_, _⊠_}
 use Rattle.exchange.specs.Reading.Laws.{length-bytesOf, length-encode}

@@ -1,5 +1,5 @@
 // The points field: four bytes b0 b1 b2 b3 stand for b0 + b1·X + (b2 + b3·X)·Z, where X² = X + 20 and Z² = Z + 20·X (hexadecimal).
-// A product is read from a table of the multiples of one factor. The tables of the byte field are made once by the caller and lent.
+// A product is read from a table of the multiples of one factor. The field tables are made once by the caller and lent.
 pub mod encoding;
 
 ghost use mathlib.Core.Path.{_≡_};
@@ -7,7 +7,7 @@ ghost use mathlib.Core.Logic.{_⊎_};
 ghost use Prim.Native.Nat.{_+_, _<_, _≤_};
 ghost use lib.ListN.{length};
 ghost use Rattle.lists.specs.Part.{putAt};
-ghost use Rattle.bytefield.specs.Tables.{logs, powers};
+ghost use Rattle.bytefield.specs.Tables.{fieldTables};
 ghost use Rattle.tower.specs.Field.{Point, point, bytesOf};
 ghost use Rattle.packed.specs.Word.{bytes};
 ghost use Rattle.packed.specs.Table.{multiples};
@@ -111,26 +111,26 @@ pub fn product_by(a: [u8; 4], table: &[u64], made: usize) -> Counted
 }
 
 // b·X.
-fn by_x(b: [u8; 4], log: &[u8; 256], pow: &[u8; 256]) -> [u8; 4]
-    requires { ⌜ (now log ≡ logs) × (now pow ≡ powers) ⌝ }
+fn by_x(b: [u8; 4], tables: &[u8; 512]) -> [u8; 4]
+    requires { ⌜ now tables ≡ fieldTables ⌝ }
     ensures { λ r. ⌜ r ≡ bytesOf (point b ⊠ byX) ⌝ }
 {
     [
-        bytefield::product(b[1], 0x20, log, pow),
+        bytefield::product(b[1], 0x20, tables),
         bytefield::sum(b[0], b[1]),
-        bytefield::product(b[3], 0x20, log, pow),
+        bytefield::product(b[3], 0x20, tables),
         bytefield::sum(b[2], b[3]),
     ]
 }
 
 // b·Z; 6c is the square of 20.
-fn by_z(b: [u8; 4], log: &[u8; 256], pow: &[u8; 256]) -> [u8; 4]
-    requires { ⌜ (now log ≡ logs) × (now pow ≡ powers) ⌝ }
+fn by_z(b: [u8; 4], tables: &[u8; 512]) -> [u8; 4]
+    requires { ⌜ now tables ≡ fieldTables ⌝ }
     ensures { λ r. ⌜ r ≡ bytesOf (point b ⊠ byZ) ⌝ }
 {
     [
-        bytefield::product(b[3], 0x6c, log, pow),
-        bytefield::product(bytefield::sum(b[2], b[3]), 0x20, log, pow),
+        bytefield::product(b[3], 0x6c, tables),
+        bytefield::product(bytefield::sum(b[2], b[3]), 0x20, tables),
         bytefield::sum(b[0], b[2]),
         bytefield::sum(b[1], b[3]),
     ]
@@ -157,13 +157,13 @@ fn put_multiples(out: &mut [u64], at: usize, b: [u8; 4])
 }
 
 // out becomes the multiples of a point: by the steps of the tower, X and Z, and by bytes.
-pub fn multiples_of(out: &mut [u64], b: [u8; 4], log: &[u8; 256], pow: &[u8; 256])
-    requires { ⌜ (length (now out) ≡ 128) × (now log ≡ logs) × (now pow ≡ powers) ⌝ }
+pub fn multiples_of(out: &mut [u64], b: [u8; 4], tables: &[u8; 512])
+    requires { ⌜ (length (now out) ≡ 128) × (now tables ≡ fieldTables) ⌝ }
     ensures { λ _. ⌜ now (out .exit) ≡ multiplesOf (point b) ⌝ }
 {
-    let x = by_x(b, log, pow);
-    let z = by_z(b, log, pow);
-    let xz = by_z(x, log, pow);
+    let x = by_x(b, tables);
+    let z = by_z(b, tables);
+    let xz = by_z(x, tables);
     put_multiples(out, 0, b);
     put_multiples(out, 32, x);
     put_multiples(out, 64, z);
@@ -171,12 +171,12 @@ pub fn multiples_of(out: &mut [u64], b: [u8; 4], log: &[u8; 256], pow: &[u8; 256
 }
 
 // The product of two points, by the multiples of the second.
-pub fn product(a: [u8; 4], b: [u8; 4], log: &[u8; 256], pow: &[u8; 256]) -> [u8; 4]
-    requires { ⌜ (now log ≡ logs) × (now pow ≡ powers) ⌝ }
+pub fn product(a: [u8; 4], b: [u8; 4], tables: &[u8; 512]) -> [u8; 4]
+    requires { ⌜ now tables ≡ fieldTables ⌝ }
     ensures { λ r. ⌜ r ≡ bytesOf (point a ⊠ point b) ⌝ }
 {
     let mut table = [0u64; 128];
-    multiples_of(&mut table, b, log, pow);
+    multiples_of(&mut table, b, tables);
     let made = product_by(a, &table, 0);
     made.point
 }

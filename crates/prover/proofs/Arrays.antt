@@ -2,6 +2,7 @@
 use mathlib.Core.Path.{_≡_, sym, _∙_}
 use mathlib.Core.List.{List, [], _∷_}
 use Prim.Native.Nat.{ℕ, _≤_}
+use native.Mathlib.Omega.{arith}
 use lib.ListN.{length, length-map}
 use denote.RattleType.{Valss}
 use denote.Shadow.{shadow}
@@ -9,8 +10,7 @@ use denote.Struct.Declared.{shape}
 use denote.Struct.Laws.{val}
 use denote.Struct.Struct.{within}
 use Rattle.layout.specs.Layout.{workLength}
-use Rattle.exchange.specs.Run.{runOf}
-use Rattle.messages.specs.Rounds.{Arrays}
+use Rattle.messages.specs.Asked.{Arrays}
 use Rattle.prover.specs.declared.Prover.{Prover}
 use Rattle.prover.specs.Facts.{Ready}
 use Rattle.calls.specs.Prover.{heldX}
@@ -28,12 +28,15 @@ module _ (s : Prover) (told : (vs : Valss (shape the-type .fields)) × shadow (w
   pub message2-length : length (s .message2) ≡ 64
   message2-length = sym (length-map (s .message2) _) ∙ told .1 .1 .1 .1 .1 .1 .1 .0 .1 .0 .1
 
-  pub held-arrays : (work : List ℕ) → Ready (held s) → workLength (s .parameters) ≤ length work → Arrays (s .parameters) (s .x) (runOf (s .salt) (s .root)) work
+  pub salt-length : length (s .salt) ≡ 32
+  salt-length = sym (length-map (s .salt) _) ∙ told .1 .1 .1 .1 .1 .0 .1 .0 .1
+
+  pub held-arrays : (run work : List ℕ) → length run ≡ 48 → Ready (held s) → workLength (s .parameters) ≤ length work → Arrays (s .parameters) (s .x) run work
   unfolding heldX
-  held-arrays work h fits = record {
+  held-arrays run work e h fits = record {
     within = h .within;
     light = h .light;
     x-is = x-length;
-    root-is = root-length;
+    run-fits = omega arith;
     work-fits = fits;
   }

@@ -1,41 +1,46 @@
 -- What the prover's calls ask of their arguments alone.
 --
--- beginTests p xA salt root matrix y work out       the lengths of the slices that begin is lent, one test each
--- argumentChecks p xA salt root matrix y work out   the checks of begin but 13
--- Sized p xA salt root matrix y work out            the slices that begin is lent have the lengths that it asks
--- Weighing p xA matrix y x                          matrix, y and x_A of the lengths that the parameters say, and 255 zeros to make x in
+-- beginTests p xA matrix y l           the lengths of the slices that begin is lent, one test each; l has those but of x_A, matrix and y
+-- beginRow p xA matrix y l again       the checks of begin, where `again` says that salt and root are those of the exchange held
+-- lengthsOf salt root work out         the lengths of these slices
+-- Sized p xA matrix y l                the slices that begin is lent have the lengths that it asks
+-- Weighing p xA matrix y x             matrix, y and x_A of the lengths that the parameters say, and 255 zeros to make x in
 use mathlib.Core.Path.{_≡_}
-use mathlib.Core.Bool.{Bool}
+use mathlib.Core.Bool.{Bool, not}
 use mathlib.Core.List.{List, [], _∷_}
 use Prim.Native.Nat.{ℕ, _*_, _-_}
 use lib.Dec.{eqb, leb}
 use lib.ListN.{length, replicate}
 use Rattle.lists.specs.Checks.{allTrue}
 use Rattle.answers.specs.declared.Refusal.{Refusal}
-use Rattle.answers.specs.declared.Refusal.the-variants.{Parameter, Length, Weight}
+use Rattle.answers.specs.declared.Refusal.the-variants.{Parameter, Length, Weight, Repeated}
 use Rattle.parameters.specs.declared.Parameters.{Parameters}
 use Rattle.parameters.specs.Limits.{withinLimits, Within}
 use Rattle.relation.specs.Key.{weightOf, vectorOf}
 use Rattle.layout.specs.Lent.{lentTests, Lent}
+use Rattle.prover.specs.declared.arguments.Lengths.{Lengths}
 pub mod Laws
 
-unfoldable pub beginTests : Parameters → ℕ → ℕ → ℕ → ℕ → ℕ → ℕ → ℕ → List Bool
-beginTests p xA salt root matrix y work out = eqb xA (p .k) ∷ eqb salt 32 ∷ eqb root 16 ∷ eqb out 64 ∷ lentTests p matrix y work
+unfoldable pub beginTests : Parameters → ℕ → ℕ → ℕ → Lengths → List Bool
+beginTests p xA matrix y l = eqb xA (p .k) ∷ eqb (l .salt) 32 ∷ eqb (l .root) 16 ∷ eqb (l .out) 64 ∷ lentTests p matrix y (l .work)
 
-module _ (p : Parameters) (xA salt root matrix y work out : List ℕ) where
-  unfoldable pub argumentChecks : List (Bool × Refusal)
-  argumentChecks =
-      (withinLimits p, Parameter)
-      ∷ (allTrue (beginTests p (length xA) (length salt) (length root) (length matrix) (length y) (length work) (length out)), Length)
-      ∷ (leb (weightOf (vectorOf matrix y xA)) (p .w), Weight)
-      ∷ []
+unfoldable pub beginRow : Parameters → List ℕ → List ℕ → List ℕ → Lengths → Bool → List (Bool × Refusal)
+beginRow p xA matrix y l again =
+    (withinLimits p, Parameter)
+    ∷ (allTrue (beginTests p (length xA) (length matrix) (length y) l), Length)
+    ∷ (leb (weightOf (vectorOf matrix y xA)) (p .w), Weight)
+    ∷ (not again, Repeated)
+    ∷ []
 
-  pub record Sized : Type 0 where
-    pub xA-is : length xA ≡ p .k
-    pub salt-is : length salt ≡ 32
-    pub root-is : length root ≡ 16
-    pub out-is : length out ≡ 64
-    pub lent : Lent p (length matrix) (length y) (length work)
+abbrev pub lengthsOf : List ℕ → List ℕ → List ℕ → List ℕ → Lengths
+lengthsOf salt root work out = record { salt = length salt; root = length root; work = length work; out = length out }
+
+pub record Sized (p : Parameters) (xA matrix y : ℕ) (l : Lengths) : Type 0 where
+  pub xA-is : xA ≡ p .k
+  pub salt-is : l .salt ≡ 32
+  pub root-is : l .root ≡ 16
+  pub out-is : l .out ≡ 64
+  pub lent : Lent p matrix y (l .work)
 
 pub record Weighing (p : Parameters) (xA matrix y x : List ℕ) : Type 0 where
   pub within : Within p

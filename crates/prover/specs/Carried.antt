@@ -64,11 +64,11 @@ unfolding begunWith
 begun-made p x salt root work next out′ work′ e f g = rw (e, f, g)
 
 module _ (s : Prover) (key : Key) (work out : List ℕ) where
-  pub answered-made : (m2 : List ℕ) (next : Prover) (out′ work′ : List ℕ) → next ≡ nextAnswered s (padded 64 m2)
-      → out′ ≡ message3 SHAKE256 (s .parameters) (heldX s) (runOf (s .salt) (s .root)) key m2 → work′ ≡ zeroed (workLength (s .parameters)) work
-      → outcomeOf Done next out′ work′ ≡ answered SHAKE256 s m2 key work out
+  pub answered-made : (message2 : List ℕ) (next : Prover) (out′ work′ : List ℕ) → next ≡ nextAnswered s (padded 64 message2)
+      → out′ ≡ message3 SHAKE256 (s .parameters) (heldX s) (runOf (s .salt) (s .root)) key message2 → work′ ≡ zeroed (workLength (s .parameters)) work
+      → outcomeOf Done next out′ work′ ≡ answered SHAKE256 s message2 key work out
   unfolding answered
-  answered-made m2 next out′ work′ e f g = rw (e, f, g)
+  answered-made message2 next out′ work′ e f g = rw (e, f, g)
 
   pub opened-made : (i : ℕ) (next : Prover) (out′ work′ : List ℕ) → next ≡ nextClosed s
       → out′ ≡ message5 SHAKE256 (s .parameters) (heldX s) (runOf (s .salt) (s .root)) key (heldMessage2 s) i → work′ ≡ zeroed (workLength (s .parameters)) work

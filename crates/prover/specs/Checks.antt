@@ -1,7 +1,6 @@
 -- The checks of the prover's calls: from the values of the tests to the answer, and from the answer to what the call gives.
 --
--- first-refused, first-passed            checks in a row, and others behind them
--- begin-late, begin-row                  the checks of begin: those of its arguments, and 13 behind them
+-- begin-told                             the checks of begin, of a session
 -- points-row, leaf-row                   the checks of a call from the values of its tests
 -- settle-refused, done-is                what an answer says of the call
 -- begin-refused, points-refused, leaf-refused   a check failed: session, output and work area stay
@@ -10,18 +9,18 @@
 -- begin-facts, points-facts, leaf-facts  what the checks that passed say
 use mathlib.Core.Path.{_≡_, refl, sym, _∙_}
 use mathlib.Core.Bool.{Bool, true, false, _||_, not, cond, true≢false, false≢true}
-use mathlib.Core.List.{List, [], _∷_, _++_}
+use mathlib.Core.List.{List}
 use Prim.Native.Nat.{ℕ}
 use lib.Dec.{eqb, leb, ltb}
 use lib.ListN.{length}
 use borrow.Author.Tests.{eqb-true, leb-true, ltb-true}
-use Rattle.lists.specs.Checks.{allTrue, all-at, and-left, and-right}
+use Rattle.lists.specs.Checks.{allTrue}
+use Rattle.lists.specs.Checks.Laws.{all-at, and-left, and-right}
 use Rattle.answers.specs.declared.Answer.{Answer}
 use Rattle.answers.specs.declared.Answer.the-variants.{Done, Refused}
-use Rattle.answers.specs.declared.Refusal.the-variants.{Parameter, Length, Weight, Leaf, NotDue, Closed as ExchangeClosed, Repeated}
-use Rattle.answers.specs.declared.Refusal.{Refusal}
+use Rattle.answers.specs.declared.Refusal.the-variants.{Parameter, Length, Weight, Leaf, NotDue, Closed as ExchangeClosed}
 use Rattle.answers.specs.Checks.{check, checks}
-use Rattle.answers.specs.Checks.Laws.{Done≢Refused, check-true, check-rest}
+use Rattle.answers.specs.Checks.Laws.{check-true, check-rest}
 use Rattle.parameters.specs.declared.Parameters.{Parameters}
 use Rattle.parameters.specs.Limits.{withinLimits}
 use Rattle.parameters.specs.Limits.Laws.{test-within}
@@ -30,7 +29,7 @@ use Rattle.layout.specs.Layout.{leaves, message2Length, message5Length}
 use Rattle.exchange.specs.Values.{Key}
 use Rattle.layout.specs.Lent.{lent, Lent}
 use Rattle.layout.specs.Lent.Laws.{test-lent}
-use Rattle.prover.specs.Arguments.{beginTests, argumentChecks}
+use Rattle.prover.specs.Arguments.{beginTests, beginRow, lengthsOf}
 use Rattle.prover.specs.Arguments.Laws.{begin-sized}
 use Rattle.prover_phase.specs.declared.Phase.{Phase}
 use Rattle.prover_phase.specs.declared.Phase.the-variants.{Fresh, Begun, Answered, Closed}
@@ -38,40 +37,19 @@ use Rattle.calls.specs.Lengths.{keyLengths, beginLengths, pointsLengths, leafLe
 use Rattle.calls.specs.Prover.{Prover, Outcome, settle, isFresh, isBegun, isAnswered, heldX, intact, standing, closed, pointsDue, leafDue, repeated, beginChecks, begun, begin, pointsChecks, answered, points, leafChecks, opened, leaf}
 use Rattle.prover.specs.Facts.{isDone, outcomeOf, Ready, Begins, Answering, Opening}
 
--- ---- checks behind others
-
-first-refused : (cs ds : List (Bool × Refusal)) (r : Refusal) → checks cs ≡ Refused r → checks (cs ++ ds) ≡ Refused r
-first-refused [] ds r e = absurd (Done≢Refused e)
-first-refused ((true, q) ∷ cs) ds r e = first-refused cs ds r e
-first-refused ((false, q) ∷ cs) ds r e = e
-
-first-passed : (cs ds : List (Bool × Refusal)) → checks cs ≡ Done → checks (cs ++ ds) ≡ checks ds
-first-passed [] ds e = refl
-first-passed ((true, q) ∷ cs) ds e = first-passed cs ds e
-first-passed ((false, q) ∷ cs) ds e = absurd (Done≢Refused (sym e))
-
 -- ---- the checks as rows
 
 module _ (hash : List ℕ → ℕ → List ℕ) (s : Prover) (work out : List ℕ) where
   module _ (p : Parameters) (xA salt root : List ℕ) (key : Key) where
-    abbrev of-arguments : List (Bool × Refusal)
-    of-arguments = argumentChecks p xA salt root (key .matrix) (key .y) work out
+    pub begin-told : (a : Answer) (again : Bool) → a ≡ checks (beginRow p xA (key .matrix) (key .y) (lengthsOf salt root work out) again)
+        → again ≡ repeated s salt root → a ≡ beginChecks hash s p xA salt root key work out
+    unfolding beginRow beginTests beginChecks
+    begin-told a again e f = e ∙ rw f
 
-    joined : checks (of-arguments ++ ((not (repeated s salt root), Repeated) ∷ [])) ≡ beginChecks hash s p xA salt root key work out
-    unfolding argumentChecks beginTests beginChecks
-    joined = refl
-
-    pub begin-late : (a : Answer) (r : Refusal) → a ≡ checks of-arguments → a ≡ Refused r → a ≡ beginChecks hash s p xA salt root key work out
-    begin-late a r e f = f ∙ sym (first-refused of-arguments ((not (repeated s salt root), Repeated) ∷ []) r (sym e ∙ f)) ∙ joined
-
-    pub begin-row : (a : Answer) (again : Bool) → a ≡ checks of-arguments → a ≡ Done → repeated s salt root ≡ again
-        → check (not again) Repeated Done ≡ beginChecks hash s p xA salt root key work out
-    begin-row a again e f g = rw (← g) (sym (first-passed of-arguments ((not (repeated s salt root), Repeated) ∷ []) (sym e ∙ f)) ∙ joined)
-
-  module _ (m2 : List ℕ) (key : Key) where
+  module _ (message2 : List ℕ) (key : Key) where
     pub points-row : (ended due lengths : Bool) → closed s ≡ ended → pointsDue s ≡ due
-        → allTrue (pointsLengths (s .parameters) m2 key work out) ≡ lengths
-        → check (not ended) ExchangeClosed (check due NotDue (check lengths Length Done)) ≡ pointsChecks hash s m2 key work out
+        → allTrue (pointsLengths (s .parameters) message2 key work out) ≡ lengths
+        → check (not ended) ExchangeClosed (check due NotDue (check lengths Length Done)) ≡ pointsChecks hash s message2 key work out
     unfolding pointsChecks
     points-row ended due lengths e f g = rw (← e, ← f, ← g)
 
@@ -104,12 +82,12 @@ module _ (hash : List ℕ → ℕ → List ℕ) (s : Prover) (work out : List �
     unfolding begin
     begin-done h = rw (← e, done-is a h)
 
-  module _ (m2 : List ℕ) (e : a ≡ pointsChecks hash s m2 key work out) where
-    pub points-refused : isDone a ≡ false → outcomeOf a s out work ≡ points hash s m2 key work out
+  module _ (message2 : List ℕ) (e : a ≡ pointsChecks hash s message2 key work out) where
+    pub points-refused : isDone a ≡ false → outcomeOf a s out work ≡ points hash s message2 key work out
     unfolding points
-    points-refused h = rw (← e) (settle-refused a s out work (answered hash s m2 key work out) h)
+    points-refused h = rw (← e) (settle-refused a s out work (answered hash s message2 key work out) h)
 
-    pub points-done : isDone a ≡ true → answered hash s m2 key work out ≡ points hash s m2 key work out
+    pub points-done : isDone a ≡ true → answered hash s message2 key work out ≡ points hash s message2 key work out
     unfolding points
     points-done h = rw (← e, done-is a h)
 
@@ -162,27 +140,27 @@ module _ (hash : List ℕ → ℕ → List ℕ) (s : Prover) (work out : List �
         let late = check-rest (withinLimits p) Parameter _ e in
         record {
           within = test-within p (check-true (withinLimits p) Parameter _ e);
-          sized = begin-sized p xA salt root (key .matrix) (key .y) work out (check-true (allTrue (beginLengths p xA salt root key work out)) Length _ late);
+          sized = begin-sized p xA (key .matrix) (key .y) (lengthsOf salt root work out) (check-true (allTrue (beginLengths p xA salt root key work out)) Length _ late);
           light =
               leb-true _ (p .w)
               (check-true (leb (weightOf (vectorOf (key .matrix) (key .y) xA)) (p .w)) Weight _
               (check-rest (allTrue (beginLengths p xA salt root key work out)) Length _ late));
         }
 
-  pub points-facts : (m2 : List ℕ) (a : Answer) → a ≡ pointsChecks hash s m2 key work out → isDone a ≡ true → Answering s m2 (key .matrix) (key .y) work out
+  pub points-facts : (message2 : List ℕ) (a : Answer) → a ≡ pointsChecks hash s message2 key work out → isDone a ≡ true → Answering s message2 (key .matrix) (key .y) work out
   unfolding pointsChecks
-  points-facts m2 a f h =
+  points-facts message2 a f h =
       let e = sym f ∙ done-is a h in
-      let tests = pointsLengths (s .parameters) m2 key work out in
+      let tests = pointsLengths (s .parameters) message2 key work out in
       let due = check-rest (not (closed s)) ExchangeClosed _ e in
       let sized = check-true (allTrue tests) Length Done (check-rest (pointsDue s) NotDue _ due) in
       record {
         ready = points-ready s (check-true (pointsDue s) NotDue _ due);
-        m2-is = eqb-true (length m2) (message2Length (s .parameters)) (all-at tests sized 0);
+        message2-is = eqb-true (length message2) (message2Length (s .parameters)) (all-at tests sized 0);
         out-is = eqb-true (length out) 32 (all-at tests sized 1);
         lent =
             lent-facts (s .parameters) key work
-            (and-right (eqb (length out) 32) _ (and-right (eqb (length m2) (message2Length (s .parameters))) _ sized));
+            (and-right (eqb (length out) 32) _ (and-right (eqb (length message2) (message2Length (s .parameters))) _ sized));
       }
 
   pub leaf-facts : (i : ℕ) (a : Answer) → a ≡ leafChecks hash s i key work out → isDone a ≡ true → Opening s i (key .matrix) (key .y) work out

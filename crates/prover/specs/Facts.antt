@@ -5,7 +5,7 @@
 -- Ready s                           the parameters that a session holds are within their limits, and its x is not too heavy
 -- Begins p xA salt root matrix y work out   what begin's checks say
 -- Starting p x salt root work out   the same of an x that stands at the front of 255 bytes
--- Answering s m2 matrix y work out  what the checks of points say
+-- Answering s message2 matrix y work out  what the checks of points say
 -- Opening s i matrix y work out     what the checks of leaf say
 use mathlib.Core.Path.{_≡_}
 use mathlib.Core.Bool.{Bool, true, false}
@@ -20,7 +20,7 @@ use Rattle.parameters.specs.Limits.{Within}
 use Rattle.relation.specs.Key.{vectorOf, weightOf}
 use Rattle.layout.specs.Layout.{leaves, message2Length, message5Length, workLength}
 use Rattle.layout.specs.Lent.{Lent}
-use Rattle.prover.specs.Arguments.{Sized}
+use Rattle.prover.specs.Arguments.{lengthsOf, Sized}
 use Rattle.calls.specs.Prover.{Prover, Outcome, heldX}
 
 -- did the checks pass?
@@ -33,7 +33,7 @@ outcomeOf a s out work = record { answer = answerNumber a; prover = s; out = out
 
 pub record Begins (p : Parameters) (xA salt root matrix y work out : List ℕ) : Type 0 where
   pub within : Within p
-  pub sized : Sized p xA salt root matrix y work out
+  pub sized : Sized p (length xA) (length matrix) (length y) (lengthsOf salt root work out)
   pub light : weightOf (vectorOf matrix y xA) ≤ p .w
 
 pub record Starting (p : Parameters) (x salt root work out : List ℕ) : Type 0 where
@@ -48,9 +48,9 @@ pub record Ready (s : Prover) : Type 0 where
   pub within : Within (s .parameters)
   pub light : weightOf (heldX s) ≤ s .parameters .w
 
-pub record Answering (s : Prover) (m2 matrix y work out : List ℕ) : Type 0 where
+pub record Answering (s : Prover) (message2 matrix y work out : List ℕ) : Type 0 where
   pub ready : Ready s
-  pub m2-is : length m2 ≡ message2Length (s .parameters)
+  pub message2-is : length message2 ≡ message2Length (s .parameters)
   pub out-is : length out ≡ 32
   pub lent : Lent (s .parameters) (length matrix) (length y) (length work)
 

@@ -1,7 +1,7 @@
 -- The session after a call that is carried out.
 --
 -- nextBegun f p x salt root  begin: a new exchange, x in 255 bytes, in the phase f
--- nextAnswered s m2          points: message 2 is held, in 64 bytes
+-- nextAnswered s message2          points: message 2 is held, in 64 bytes
 -- nextClosed s               leaf: 'Closing changes nothing else that a session holds'
 -- begunWith                  begin carried out, with x at the front of 255 bytes
 use mathlib.Core.List.{List}
@@ -21,7 +21,7 @@ abbrev pub nextBegun : Phase → Parameters → List ℕ → List ℕ → List �
 nextBegun f p x salt root = record { phase = f; parameters = p; x = x; salt = salt; root = root; message2 = replicate 64 0 }
 
 abbrev pub nextAnswered : Prover → List ℕ → Prover
-nextAnswered s m2 = record { phase = Answered; parameters = s .parameters; x = s .x; salt = s .salt; root = s .root; message2 = m2 }
+nextAnswered s message2 = record { phase = Answered; parameters = s .parameters; x = s .x; salt = s .salt; root = s .root; message2 = message2 }
 
 abbrev pub nextClosed : Prover → Prover
 nextClosed s = record { phase = Closed; parameters = s .parameters; x = s .x; salt = s .salt; root = s .root; message2 = s .message2 }

@@ -1,23 +1,14 @@
-// What the prover's calls ask of their arguments alone: parameters, lengths, and the weight of the key's vector.
-
-use crate::vector::weigh;
-use answers::Answer;
-use answers::Refusal;
+// The lengths that the prover's calls ask of what they are lent.
 use parameters::Parameters;
 ghost use mathlib.Core.Path.{_≡_};
 ghost use mathlib.Core.Bool.{_&&_};
 ghost use mathlib.Core.List.{_∷_};
 ghost use lib.Dec.{eqb};
-ghost use lib.ListN.{replicate};
 ghost use Rattle.lists.specs.Checks.{allTrue};
-ghost use Rattle.lists.specs.Part.{putAt};
-ghost use Rattle.answers.specs.declared.Answer.the-variants.{Done};
-ghost use Rattle.answers.specs.Checks.{checks};
 ghost use Rattle.parameters.specs.Limits.{Within};
-ghost use Rattle.relation.specs.Key.{vectorOf};
 ghost use Rattle.layout.specs.Layout.{message2Length, message5Length};
 ghost use Rattle.layout.specs.Lent.{lentTests};
-ghost use Rattle.prover.specs.Arguments.{beginTests, argumentChecks};
+ghost use Rattle.prover.specs.Arguments.{beginTests};
 
 // Do both hold?
 pub fn both(a: bool, b: bool) -> bool
@@ -29,63 +20,24 @@ pub fn both(a: bool, b: bool) -> bool
     false
 }
 
-// Have the slices that begin is lent, of these lengths, the lengths that the parameters say?
-fn begin_lengths(
-    p: Parameters,
-    x_a: usize,
-    salt: usize,
-    root: usize,
-    matrix: usize,
-    y: usize,
-    work: usize,
-    out: usize,
-) -> bool
-    requires { ⌜ Within p ⌝ }
-    ensures { λ r. ⌜ r ≡ allTrue (beginTests p «x_a» salt root matrix y work out) ⌝ }
-{
-    let seeds = both(
-        root == 16,
-        both(out == 64, layout::lent(p, matrix, y, work)),
-    );
-    both(x_a == p.k, both(salt == 32, seeds))
+// The lengths of what begin is lent besides x_A, matrix and y.
+pub struct Lengths {
+    pub salt: usize,
+    pub root: usize,
+    pub work: usize,
+    pub out: usize,
 }
 
-// The checks of begin but 13. Where they pass, x, which came as 255 zeros, has the key's vector at its front.
-pub fn begin_arguments(
-    p: Parameters,
-    x_a: &[u8],
-    salt: &[u8],
-    root: &[u8],
-    matrix: &[u8],
-    y: &[u8],
-    work: &[u8],
-    out: &[u8],
-    x: &mut [u8],
-) -> Answer
-    requires { ⌜ now x ≡ replicate 255 0 ⌝ }
-    ensures { λ r. ⌜ (r ≡ checks (argumentChecks p (now («x_a» .entry)) (now (salt .entry)) (now (root .entry)) (now (matrix .entry)) (now (y .entry))
-        (now (work .entry)) (now (out .entry))))
-        × (r ≡ Done → now (x .exit) ≡ putAt (replicate 255 0) 0 (vectorOf (now (matrix .entry)) (now (y .entry)) (now («x_a» .entry)))) ⌝ }
+// Have the slices that begin is lent, of these lengths, the lengths that the parameters say?
+pub fn begin_lengths(p: Parameters, x_a: usize, matrix: usize, y: usize, others: Lengths) -> bool
+    requires { ⌜ Within p ⌝ }
+    ensures { λ r. ⌜ r ≡ allTrue (beginTests p «x_a» matrix y others) ⌝ }
 {
-    if !parameters::within_limits(p) {
-        return Answer::Refused(Refusal::Parameter);
-    }
-    if !begin_lengths(
-        p,
-        x_a.len(),
-        salt.len(),
-        root.len(),
-        matrix.len(),
-        y.len(),
-        work.len(),
-        out.len(),
-    ) {
-        return Answer::Refused(Refusal::Length);
-    }
-    if !weigh(p, x_a, matrix, y, x) {
-        return Answer::Refused(Refusal::Weight);
-    }
-    Answer::Done
+    let seeds = both(
+        others.root == 16,
+        both(others.out == 64, layout::lent(p, matrix, y, others.work)),
+    );
+    both(x_a == p.k, both(others.salt == 32, seeds))
 }
 
 // Have the slices that points is lent, of these lengths, the lengths that the parameters say?

@@ -8,11 +8,10 @@ use prover_phase::is_fresh;
 ghost use mathlib.Core.Path.{_≡_};
 ghost use mathlib.Core.List.{List};
 ghost use Prim.Native.Nat.{ℕ};
-ghost use lib.ListN.{length};
 ghost use Rattle.prover_phase.specs.declared.Phase.{Phase};
 ghost use Rattle.calls.specs.Prover as spec;
 ghost use Rattle.prover.specs.Facts.{isDone};
-ghost use Rattle.prover.specs.Held.{session};
+ghost use Rattle.prover.specs.Held.{HeldVector, session};
 
 // Did the checks pass?
 pub fn is_done(a: Answer) -> bool
@@ -26,8 +25,8 @@ pub fn is_done(a: Answer) -> bool
 
 // Are the parameters within their limits, and has x at most w nonzero entries, as after every begin?
 fn intact(p: Parameters, x: &[u8]) -> bool
-    requires { ⌜ length (now x) ≡ 255 ⌝ }
-    ensures { λ r. ⌜ ((f : Phase) (salt root m2 : List ℕ) → r ≡ spec.intact (session f p (now (x .entry)) salt root m2)) ⌝ }
+    requires { ⌜ HeldVector (now x) ⌝ }
+    ensures { λ r. ⌜ ((f : Phase) (salt root message2 : List ℕ) → r ≡ spec.intact (session f p (now (x .entry)) salt root message2)) ⌝ }
 {
     if !parameters::within_limits(p) {
         return false;
@@ -38,8 +37,8 @@ fn intact(p: Parameters, x: &[u8]) -> bool
 
 // The phase that counts: a session that is not fresh and not intact, so one that no call made, counts as closed.
 pub fn standing(phase: Phase, p: Parameters, x: &[u8]) -> Phase
-    requires { ⌜ length (now x) ≡ 255 ⌝ }
-    ensures { λ r. ⌜ ((salt root m2 : List ℕ) → r ≡ spec.standing (session phase p (now (x .entry)) salt root m2)) ⌝ }
+    requires { ⌜ HeldVector (now x) ⌝ }
+    ensures { λ r. ⌜ ((salt root message2 : List ℕ) → r ≡ spec.standing (session phase p (now (x .entry)) salt root message2)) ⌝ }
 {
     if is_fresh(phase) {
         return phase;
@@ -52,8 +51,8 @@ pub fn standing(phase: Phase, p: Parameters, x: &[u8]) -> Phase
 
 // Is the exchange closed, so that only begin is due?
 pub fn closed(phase: Phase, p: Parameters, x: &[u8]) -> bool
-    requires { ⌜ length (now x) ≡ 255 ⌝ }
-    ensures { λ r. ⌜ ((salt root m2 : List ℕ) → r ≡ spec.closed (session phase p (now (x .entry)) salt root m2)) ⌝ }
+    requires { ⌜ HeldVector (now x) ⌝ }
+    ensures { λ r. ⌜ ((salt root message2 : List ℕ) → r ≡ spec.closed (session phase p (now (x .entry)) salt root message2)) ⌝ }
 {
     let counted = standing(phase, p, x);
     is_closed(counted)

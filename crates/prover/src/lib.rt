@@ -6,6 +6,7 @@ mod on_leaf;
 mod on_points;
 mod vector;
 
+use crate::arguments::Lengths;
 use answers::Answer;
 use parameters::Parameters;
 use prover_phase::Phase;
@@ -80,20 +81,14 @@ impl Prover {
         let phase = self.phase;
         let held_salt = self.salt;
         let held_root = self.root;
-        let answer = on_begin::begin_checks(
-            phase,
-            &held_salt,
-            &held_root,
-            p,
-            x_a,
-            salt,
-            root,
-            matrix,
-            y,
-            work,
-            out,
-            &mut x,
-        );
+        let again = on_begin::repeated(phase, &held_salt, &held_root, salt, root);
+        let others = Lengths {
+            salt: salt.len(),
+            root: root.len(),
+            work: work.len(),
+            out: out.len(),
+        };
+        let answer = on_begin::begin_checks(p, x_a, matrix, y, others, again, &mut x);
         if !held::is_done(answer) {
             return Called {
                 prover: self,

@@ -1,7 +1,10 @@
 // The call begin: its checks, and the call carried out.
 use crate::Called;
 use crate::Prover;
+use crate::arguments::Lengths;
+use crate::arguments::begin_lengths;
 use crate::arguments::both;
+use crate::vector::weigh;
 use answers::Answer;
 use answers::Refusal;
 use layout::arrays;
@@ -12,51 +15,50 @@ ghost use mathlib.Core.Path.{_≡_};
 ghost use mathlib.Core.List.{List};
 ghost use Prim.Native.Nat.{ℕ};
 ghost use lib.ListN.{replicate};
-ghost use Rattle.shake256.specs.Fips.{SHAKE256};
+ghost use Rattle.answers.specs.Checks.{checks};
 ghost use Rattle.answers.specs.declared.Answer.the-variants.{Done};
 ghost use Rattle.parameters.specs.declared.Parameters.{Parameters};
 ghost use Rattle.relation.specs.Key.{vectorOf};
-ghost use Rattle.exchange.specs.Values.{keyOf};
 ghost use Rattle.calls.specs.Prover as spec;
+ghost use Rattle.prover.specs.Arguments.{beginRow};
 ghost use Rattle.prover.specs.Facts.{Starting};
 ghost use Rattle.prover.specs.Held.{session, held, given};
 ghost use Rattle.prover.specs.Next.{nextBegun, begunWith};
 
 // Are salt and root both those of the exchange held, open or closed?
-fn repeated(phase: Phase, held_salt: &[u8], held_root: &[u8], salt: &[u8], root: &[u8]) -> bool
-    ensures { λ r. ⌜ ((p : Parameters) (x m2 : List ℕ) → r ≡ spec.repeated (session phase p x (now («held_salt» .entry)) (now («held_root» .entry)) m2)
-        (now (salt .entry)) (now (root .entry))) ⌝ }
+pub fn repeated(phase: Phase, held_salt: &[u8], held_root: &[u8], salt: &[u8], root: &[u8]) -> bool
+    ensures { λ r. ⌜ ((p : Parameters) (x message2 : List ℕ)
+        → r ≡ spec.repeated (session phase p x (now («held_salt» .entry)) (now («held_root» .entry)) message2) (now (salt .entry)) (now (root .entry))) ⌝ }
 {
     let same = both(lists::equal(salt, held_salt), lists::equal(root, held_root));
     both(!is_fresh(phase), same)
 }
 
-// The checks of begin. Where they pass, x, which came as 255 zeros, has the key's vector at its front.
+// The checks of begin, where `again` says that salt and root are those of the exchange held. Where they pass, x, which came as
+// 255 zeros, has the key's vector at its front.
 pub fn begin_checks(
-    phase: Phase,
-    held_salt: &[u8],
-    held_root: &[u8],
     p: Parameters,
     x_a: &[u8],
-    salt: &[u8],
-    root: &[u8],
     matrix: &[u8],
     y: &[u8],
-    work: &[u8],
-    out: &[u8],
+    others: Lengths,
+    again: bool,
     x: &mut [u8],
 ) -> Answer
     requires { ⌜ now x ≡ replicate 255 0 ⌝ }
-    ensures { λ r. ⌜ ((held-p : Parameters) (held-x m2 : List ℕ) → r ≡ spec.beginChecks SHAKE256
-        (session phase held-p held-x (now («held_salt» .entry)) (now («held_root» .entry)) m2) p (now («x_a» .entry)) (now (salt .entry)) (now (root .entry))
-        (keyOf (now (matrix .entry)) (now (y .entry))) (now (work .entry)) (now (out .entry)))
+    ensures { λ r. ⌜ (r ≡ checks (beginRow p (now («x_a» .entry)) (now (matrix .entry)) (now (y .entry)) others again))
         × (r ≡ Done → now (x .exit) ≡ spec.padded 255 (vectorOf (now (matrix .entry)) (now (y .entry)) (now («x_a» .entry)))) ⌝ }
 {
-    let answer = crate::arguments::begin_arguments(p, x_a, salt, root, matrix, y, work, out, x);
-    let Answer::Done = answer else {
-        return answer;
-    };
-    if repeated(phase, held_salt, held_root, salt, root) {
+    if !parameters::within_limits(p) {
+        return Answer::Refused(Refusal::Parameter);
+    }
+    if !begin_lengths(p, x_a.len(), matrix.len(), y.len(), others) {
+        return Answer::Refused(Refusal::Length);
+    }
+    if !weigh(p, x_a, matrix, y, x) {
+        return Answer::Refused(Refusal::Weight);
+    }
+    if again {
         return Answer::Refused(Refusal::Repeated);
     }
     Answer::Done
@@ -96,7 +98,8 @@ pub fn begun(
     requires { ⌜ Starting p x (now salt) (now root) (now work) (now out) ⌝ }
     ensures { λ r. ⌜ given r (now (out .exit)) (now (work .exit)) ≡ begunWith p x (now (salt .entry)) (now (root .entry)) (now (work .entry)) ⌝ }
 {
-    messages::rounds::message1(p, &x, salt, root, work, out);
+    let run = messages::run_of(salt, root);
+    messages::message1(p, &x, &run, work, out);
     let held_salt = arrays::array32(salt);
     let held_root = arrays::array16(root);
     let phase = prover_phase::after::begin();

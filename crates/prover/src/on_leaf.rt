@@ -12,18 +12,17 @@ use prover_phase::due::is_answered;
 ghost use mathlib.Core.Path.{_≡_};
 ghost use mathlib.Core.List.{List};
 ghost use Prim.Native.Nat.{ℕ};
-ghost use lib.ListN.{length};
 ghost use Rattle.shake256.specs.Fips.{SHAKE256};
 ghost use Rattle.exchange.specs.Values.{keyOf};
 ghost use Rattle.calls.specs.Prover as spec;
 ghost use Rattle.prover.specs.Facts.{Opening};
-ghost use Rattle.prover.specs.Held.{session, held, given};
+ghost use Rattle.prover.specs.Held.{HeldVector, session, held, given};
 ghost use Rattle.prover.specs.Next.{nextClosed};
 
 // Is leaf due?
 fn leaf_due(phase: Phase, p: Parameters, x: &[u8]) -> bool
-    requires { ⌜ length (now x) ≡ 255 ⌝ }
-    ensures { λ r. ⌜ ((salt root m2 : List ℕ) → r ≡ spec.leafDue (session phase p (now (x .entry)) salt root m2)) ⌝ }
+    requires { ⌜ HeldVector (now x) ⌝ }
+    ensures { λ r. ⌜ ((salt root message2 : List ℕ) → r ≡ spec.leafDue (session phase p (now (x .entry)) salt root message2)) ⌝ }
 {
     let counted = standing(phase, p, x);
     is_answered(counted)
@@ -40,9 +39,9 @@ pub fn leaf_checks(
     work: &[u8],
     out: &[u8],
 ) -> Answer
-    requires { ⌜ length (now x) ≡ 255 ⌝ }
-    ensures { λ r. ⌜ ((salt root m2 : List ℕ) → r ≡ spec.leafChecks SHAKE256 (session phase p (now (x .entry)) salt root m2) leaf (keyOf (now (matrix .entry)) (now (y .entry)))
-        (now (work .entry)) (now (out .entry))) ⌝ }
+    requires { ⌜ HeldVector (now x) ⌝ }
+    ensures { λ r. ⌜ ((salt root message2 : List ℕ) → r ≡ spec.leafChecks SHAKE256 (session phase p (now (x .entry)) salt root message2) leaf
+        (keyOf (now (matrix .entry)) (now (y .entry))) (now (work .entry)) (now (out .entry))) ⌝ }
 {
     if closed(phase, p, x) {
         return Answer::Refused(Refusal::Closed);
@@ -97,7 +96,9 @@ pub fn opened(
     let salt = s.salt;
     let root = s.root;
     let message2 = s.message2;
-    messages::rounds::message5(p, &x, &salt, &root, &message2, leaf, matrix, y, work, out);
+    let run = messages::run_of(&salt, &root);
+    let n = layout::message2_length(p);
+    messages::message5(p, &x, &run, &message2[..n], leaf, matrix, work, out);
     let prover = ended(s);
     Called {
         prover,

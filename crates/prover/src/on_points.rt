@@ -13,18 +13,17 @@ use prover_phase::due::is_begun;
 ghost use mathlib.Core.Path.{_≡_};
 ghost use mathlib.Core.List.{List};
 ghost use Prim.Native.Nat.{ℕ};
-ghost use lib.ListN.{length};
 ghost use Rattle.shake256.specs.Fips.{SHAKE256};
 ghost use Rattle.exchange.specs.Values.{keyOf};
 ghost use Rattle.calls.specs.Prover as spec;
 ghost use Rattle.prover.specs.Facts.{Answering};
-ghost use Rattle.prover.specs.Held.{session, held, given};
+ghost use Rattle.prover.specs.Held.{HeldVector, session, held, given};
 ghost use Rattle.prover.specs.Next.{nextAnswered};
 
 // Is points due?
 fn points_due(phase: Phase, p: Parameters, x: &[u8]) -> bool
-    requires { ⌜ length (now x) ≡ 255 ⌝ }
-    ensures { λ r. ⌜ ((salt root m2 : List ℕ) → r ≡ spec.pointsDue (session phase p (now (x .entry)) salt root m2)) ⌝ }
+    requires { ⌜ HeldVector (now x) ⌝ }
+    ensures { λ r. ⌜ ((salt root message2 : List ℕ) → r ≡ spec.pointsDue (session phase p (now (x .entry)) salt root message2)) ⌝ }
 {
     let counted = standing(phase, p, x);
     is_begun(counted)
@@ -41,9 +40,9 @@ pub fn points_checks(
     work: &[u8],
     out: &[u8],
 ) -> Answer
-    requires { ⌜ length (now x) ≡ 255 ⌝ }
-    ensures { λ r. ⌜ ((salt root m2 : List ℕ) → r ≡ spec.pointsChecks SHAKE256 (session phase p (now (x .entry)) salt root m2) (now (message2 .entry)) (keyOf (now (matrix .entry)) (now (y .entry)))
-        (now (work .entry)) (now (out .entry))) ⌝ }
+    requires { ⌜ HeldVector (now x) ⌝ }
+    ensures { λ r. ⌜ ((salt root held-message2 : List ℕ) → r ≡ spec.pointsChecks SHAKE256 (session phase p (now (x .entry)) salt root held-message2)
+        (now (message2 .entry)) (keyOf (now (matrix .entry)) (now (y .entry))) (now (work .entry)) (now (out .entry))) ⌝ }
 {
     if closed(phase, p, x) {
         return Answer::Refused(Refusal::Closed);
@@ -93,14 +92,15 @@ pub fn answered(
     out: &mut [u8],
 ) -> Called
     requires { ⌜ Answering (held s) (now message2) (now matrix) (now y) (now work) (now out) ⌝ }
-    ensures { λ r. ⌜ given r (now (out .exit)) (now (work .exit)) ≡ spec.answered SHAKE256 (held s) (now (message2 .entry)) (keyOf (now (matrix .entry)) (now (y .entry)))
-        (now (work .entry)) (now (out .entry)) ⌝ }
+    ensures { λ r. ⌜ given r (now (out .exit)) (now (work .exit)) ≡ spec.answered SHAKE256 (held s) (now (message2 .entry))
+        (keyOf (now (matrix .entry)) (now (y .entry))) (now (work .entry)) (now (out .entry)) ⌝ }
 {
     let p = s.parameters;
     let x = s.x;
     let salt = s.salt;
     let root = s.root;
-    messages::rounds::message3(p, &x, &salt, &root, message2, matrix, y, work, out);
+    let run = messages::run_of(&salt, &root);
+    messages::message3(p, &x, &run, message2, matrix, y, work, out);
     let padded = arrays::padded64(message2);
     let prover = responded(s, padded);
     Called {

@@ -14,9 +14,8 @@ fn light_vector(w: usize, x_a: &[u8], matrix: &[u8], y: &[u8], x: &mut [u8]) -> 
     ensures { λ r. ⌜ (now (x .exit) ≡ vectorOf (now (matrix .entry)) (now (y .entry)) (now («x_a» .entry)))
         × (r ≡ leb (weightOf (vectorOf (now (matrix .entry)) (now (y .entry)) (now («x_a» .entry)))) w) ⌝ }
 {
-    let log = bytefield::log_table();
-    let pow = bytefield::power_table();
-    key::vector(x_a, matrix, y, x, &log, &pow);
+    let tables = bytefield::field_tables();
+    key::vector(x_a, matrix, y, x, &tables);
     key::within_weight(w, x)
 }
 

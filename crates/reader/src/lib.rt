@@ -32,7 +32,8 @@ pub fn left<'a>(r: Reader<'a>) -> usize
 // The front of out becomes the next bytes, as many as out has room for and are left; the reader then stands behind them.
 pub fn take<'a>(r: Reader<'a>, out: &mut [u8]) -> Reader<'a>
     requires { ⌜ r .at ≤ length (now (r .message)) ⌝ }
-    ensures { λ q. ⌜ (q .message ≡ r .entry .message) × ((q .at ≡ behind (now (r .entry .message)) (r .entry .at) (now (out .entry))) × (now (out .exit) ≡ taken (now (r .entry .message)) (r .entry .at) (now (out .entry)))) ⌝ }
+    ensures { λ q. ⌜ (q .message ≡ r .entry .message) × ((q .at ≡ behind (now (r .entry .message)) (r .entry .at) (now (out .entry)))
+        × (now (out .exit) ≡ taken (now (r .entry .message)) (r .entry .at) (now (out .entry)))) ⌝ }
 {
     let next = copy_part(r.message, r.at, out);
     Reader {

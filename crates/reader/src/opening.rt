@@ -8,8 +8,17 @@ use parameters::Parameters;
 ghost use mathlib.Core.Path.{_≡_};
 ghost use lib.ListN.{length};
 ghost use Rattle.lists.specs.Part.{putAt};
-ghost use Rattle.reader.specs.Message5.{siblingsIn, commitmentIn, valuesIn, auxIn};
+ghost use Rattle.parameters.specs.Limits.{Within};
+ghost use Rattle.reader.specs.Message5.{auxPlace, siblingsIn, commitmentIn, valuesIn, auxIn};
 ghost use Rattle.reader.specs.Opening.{Asked, Parts};
+
+// Where aux starts.
+pub fn aux_place(p: Parameters) -> usize
+    requires { ⌜ Within p ⌝ }
+    ensures { λ r. ⌜ r ≡ auxPlace p ⌝ }
+{
+    siblings_length(p) + 32 + values_length(p)
+}
 
 // Takes the parts of a message one after another, each as far as it reaches; the answer is how much is left behind them.
 fn read_parts(
@@ -18,7 +27,8 @@ fn read_parts(
     commitment: &mut [u8],
     values: &mut [u8],
 ) -> usize
-    ensures { λ n. ⌜ Parts (now (message .entry)) (now (siblings .entry)) (now (commitment .entry)) (now (values .entry)) n (now (siblings .exit)) (now (commitment .exit)) (now (values .exit)) ⌝ }
+    ensures { λ n. ⌜ Parts (now (message .entry)) (now (siblings .entry)) (now (commitment .entry)) (now (values .entry)) n (now (siblings .exit))
+        (now (commitment .exit)) (now (values .exit)) ⌝ }
 {
     let reader = start(message);
     let behind_siblings = take(reader, siblings);

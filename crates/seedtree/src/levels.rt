@@ -30,7 +30,8 @@ fn node_hash(nodes: Sponge, v: usize, seed: &[u8], out: &mut [u8])
 // may overlap.
 pub fn expand(nodes: Sponge, v: usize, seeds: &mut [u8], from: usize, to: usize)
     requires { ⌜ Expand v (now seeds) from to ⌝ }
-    ensures { λ _. ⌜ ((prefix : List ℕ) → nodes ≡ begun 1 prefix → now (seeds .exit) ≡ putAt (now (seeds .entry)) to (tree.children SHAKE256 prefix v (part (now (seeds .entry)) from 16))) ⌝ }
+    ensures { λ _. ⌜ ((prefix : List ℕ) → nodes ≡ begun 1 prefix → now (seeds .exit)
+        ≡ putAt (now (seeds .entry)) to (tree.children SHAKE256 prefix v (part (now (seeds .entry)) from 16))) ⌝ }
 {
     let seed = seed_of(&seeds[from..from + 16]);
     node_hash(nodes, v, &seed, &mut seeds[to..to + 32]);
@@ -39,7 +40,8 @@ pub fn expand(nodes: Sponge, v: usize, seeds: &mut [u8], from: usize, to: usize)
 // The first c seeds of the buffer, those of nodes v, v + 1 and so on, become their children, from the last one on.
 fn grow(nodes: Sponge, c: usize, v: usize, seeds: &mut [u8])
     requires { ⌜ Grow c v (now seeds) ⌝ }
-    ensures { λ _. ⌜ ((prefix : List ℕ) → nodes ≡ begun 1 prefix → now (seeds .exit) ≡ putAt (now (seeds .entry)) 0 (grown SHAKE256 prefix c v (now (seeds .entry)))) ⌝ }
+    ensures { λ _. ⌜ ((prefix : List ℕ) → nodes ≡ begun 1 prefix → now (seeds .exit)
+        ≡ putAt (now (seeds .entry)) 0 (grown SHAKE256 prefix c v (now (seeds .entry)))) ⌝ }
 {
     let mut j = c;
     while 0 < j {
@@ -51,7 +53,8 @@ fn grow(nodes: Sponge, c: usize, v: usize, seeds: &mut [u8])
 // The seed at the front of the buffer, that of node v, becomes the seeds of the leaves l levels below.
 fn descend(nodes: Sponge, l: usize, v: usize, seeds: &mut [u8])
     requires { ⌜ Below l v (now seeds) ⌝ }
-    ensures { λ _. ⌜ ((prefix : List ℕ) → nodes ≡ begun 1 prefix → now (seeds .exit) ≡ laid (tree.leafSeeds SHAKE256 prefix l v (take 16 (now (seeds .entry))))) ⌝ }
+    ensures { λ _. ⌜ ((prefix : List ℕ) → nodes ≡ begun 1 prefix → now (seeds .exit)
+        ≡ laid (tree.leafSeeds SHAKE256 prefix l v (take 16 (now (seeds .entry))))) ⌝ }
 {
     let mut i = 0;
     let mut count = 1;

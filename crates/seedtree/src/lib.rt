@@ -84,7 +84,9 @@ pub fn sibling_seeds(prefix: &[u8], d: usize, root: &[u8], leaf: usize, out: &mu
 // at index `at`.
 fn open_sibling(nodes: Sponge, way: Way, l: usize, sibling: &[u8], seeds: &mut [u8], at: usize)
     requires { ⌜ Beside way l (now sibling) (now seeds) at ⌝ }
-    ensures { λ _. ⌜ ((prefix : List ℕ) → nodes ≡ begun 1 prefix → now (seeds .exit) ≡ putAt (now (seeds .entry)) (at + 16 * (way .size / 2 - skipped way)) (laid (tree.leafSeeds SHAKE256 prefix l (2 * way .node + (1 - side way)) (now (sibling .entry))))) ⌝ }
+    ensures { λ _. ⌜ ((prefix : List ℕ) → nodes ≡ begun 1 prefix → now (seeds .exit)
+        ≡ putAt (now (seeds .entry)) (at + 16 * (way .size / 2 - skipped way))
+        (laid (tree.leafSeeds SHAKE256 prefix l (2 * way .node + (1 - side way)) (now (sibling .entry))))) ⌝ }
 {
     let half = way.size / 2;
     let from = at + 16 * (half - way.skipped());

@@ -23,22 +23,18 @@ use Rattle.shake256.proofs.Blocks.{length-pad, finished-pad, absorbed-a
 -- a finished sponge has absorbed the padded message
 finished-padded : (M : List ℕ) → finished (absorbed start M) ≡ absorbed (mk zeros 0) (padded M)
 unfolding start
-finished-padded M =
-    finished-pad (absorbed start M)
+finished-padded M = finished-pad (absorbed start M)
     ∙ ap (λ (n : ℕ). absorbed (absorbed start M) (pad (rate - n))) (absorbed-at start M ∙ ap (λ (n : ℕ). n % rate) (zero-add (length M)))
     ∙ sym (absorbed-append start M (pad (rate - length M % rate)))
 
 length-padded : (M : List ℕ) → length (padded M) ≡ rate * (length (padded M) / rate)
-length-padded M =
-    let all : length (padded M) ≡ length M + length (pad (rate - length M % rate)) = length-append M (pad (rate - length M % rate)) in
+length-padded M = let all : length (padded M) ≡ length M + length (pad (rate - length M % rate)) = length-append M (pad (rate - length M % rate)) in
     omega (arith, length-pad (rate - length M % rate))
 
 pub squeezed-SHAKE256 : (M : List ℕ) (n : ℕ) → squeezed (finished (absorbed start M)) n ≡ SHAKE256 M n
 unfolding SHAKE256
-squeezed-SHAKE256 M n =
-    let k = length (padded M) / rate in
-    squeezed-ready (finished (absorbed start M)) n
-    ∙ ap (λ (z : Sponge). squeezed z n)
+squeezed-SHAKE256 M n = let k = length (padded M) / rate in
+    squeezed-ready (finished (absorbed start M)) n ∙ ap (λ (z : Sponge). squeezed z n)
     (ap ready (finished-padded M) ∙ absorbed-blocks k (padded M) zeros (length-padded M) refl)
     ∙ squeezed-blocks (enough n) n (absorb k (padded M) zeros) (omega arith)
 

@@ -14,6 +14,7 @@ use Rattle.fips.specs.Bytes.{byteAt, bytesAt}
 use Rattle.shake256.specs.Bytes.{xorAt, xorBytes}
 use Rattle.shake256.specs.declared.Sponge.{Sponge}
 use Rattle.shake256.specs.Stream.{permuted, ready, put, absorbed, next, after, squeezed}
+use Rattle.shake256.proofs.Lanes.{one-more}
 
 abbrev pub mk : List ℕ → ℕ → Sponge
 mk l n = record { lanes = l; at = n }
@@ -52,16 +53,12 @@ room : (s : Sponge) → (ready s .at < rate) × (ready (ready s) ≡ ready s)
 room s = ⊎-elim full free (eq-zero-or-pos (rate - s .at))
   where
     full : rate - s .at ≡ 0 → (ready s .at < rate) × (ready (ready s) ≡ ready s)
-    full e =
-        let h : rate ≤ s .at = omega arith in
-        let is = ready-full (s .lanes) (s .at) h in
-        (omega (arith, ap (λ (z : Sponge). z .at) is), ap ready is ∙ sym is)
+    full e = let h : rate ≤ s .at = omega arith in
+        let is = ready-full (s .lanes) (s .at) h in (omega (arith, ap (λ (z : Sponge). z .at) is), ap ready is ∙ sym is)
 
     free : 0 < rate - s .at → (ready s .at < rate) × (ready (ready s) ≡ ready s)
-    free e =
-        let h : s .at < rate = omega arith in
-        let is = ready-room (s .lanes) (s .at) h in
-        (omega (arith, ap (λ (z : Sponge). z .at) is), ap ready is)
+    free e = let h : s .at < rate = omega arith in
+        let is = ready-room (s .lanes) (s .at) h in (omega (arith, ap (λ (z : Sponge). z .at) is), ap ready is)
 
 pub ready-at : (s : Sponge) → ready s .at < rate
 ready-at s = room s .0
@@ -69,8 +66,7 @@ ready-at s = room s .0
 -- where the arms of the code's test meet: a full block was permuted, or there was room
 pub made-ready : {A B : Type 0} (s t : Sponge) → (A → (rate ≤ s .at) × (t ≡ permuted s)) → (B → (s .at < rate) × (t ≡ s)) → A ⊎ B
     → (t ≡ ready s) × (t .at < rate)
-made-ready s t full free came =
-    let is : t ≡ ready s =
+made-ready s t full free came = let is : t ≡ ready s =
     ⊎-elim (λ w. full w .1 ∙ sym (ready-full (s .lanes) (s .at) (full w .0))) (λ w. free w .1 ∙ sym (ready-room (s .lanes) (s .at) (free w .0))) came in
     (is, omega (arith, ap (λ (z : Sponge). z .at) is, ready-at s))
 
@@ -97,31 +93,23 @@ after-ready s (suc n) h = ap (λ (z : Sponge). after (mk (z .lanes) (z .at + 1))
 
 -- ---- runs of bytes within a block
 
-one-more : (n k : ℕ) → (n + 1) + k ≡ n + suc k
-one-more n k = omega arith
-
 pub absorbed-run : (l : List ℕ) (n : ℕ) (vs : List ℕ) → n + length vs ≤ rate → absorbed (mk l n) vs ≡ mk (xorBytes l n vs) (n + length vs)
 unfolding absorbed xorBytes
 absorbed-run l n [] h = ap (mk l) (sym (add-zero n))
-absorbed-run l n (v ∷ vs) h =
-    ap (λ (z : Sponge). absorbed (mk (xorAt (z .lanes) (z .at) v) (z .at + 1)) vs) (ready-room l n (omega arith))
-    ∙ absorbed-run (xorAt l n v) (n + 1) vs (omega arith)
-    ∙ ap (mk (xorBytes (xorAt l n v) (n + 1) vs)) (one-more n (length vs))
+absorbed-run l n (v ∷ vs) h = ap (λ (z : Sponge). absorbed (mk (xorAt (z .lanes) (z .at) v) (z .at + 1)) vs) (ready-room l n (omega arith))
+    ∙ absorbed-run (xorAt l n v) (n + 1) vs (omega arith) ∙ ap (mk (xorBytes (xorAt l n v) (n + 1) vs)) (one-more n (length vs))
 
 pub squeezed-run : (l : List ℕ) (n r : ℕ) → n + r ≤ rate → squeezed (mk l n) r ≡ bytesAt l n r
 unfolding squeezed
 squeezed-run l n zero h = refl
-squeezed-run l n (suc r) h =
-    ap (λ (z : Sponge). byteAt (z .lanes) (z .at) ∷ squeezed (mk (z .lanes) (z .at + 1)) r) (ready-room l n (omega arith))
+squeezed-run l n (suc r) h = ap (λ (z : Sponge). byteAt (z .lanes) (z .at) ∷ squeezed (mk (z .lanes) (z .at + 1)) r) (ready-room l n (omega arith))
     ∙ ap (λ (vs : List ℕ). byteAt l n ∷ vs) (squeezed-run l (n + 1) r (omega arith) ∙ ap (λ (k : ℕ). bytesAt l k r) (add-one n))
 
 pub after-run : (l : List ℕ) (n r : ℕ) → n + r ≤ rate → after (mk l n) r ≡ mk l (n + r)
 unfolding after
 after-run l n zero h = ap (mk l) (sym (add-zero n))
-after-run l n (suc r) h =
-    ap (λ (z : Sponge). after (mk (z .lanes) (z .at + 1)) r) (ready-room l n (omega arith))
-    ∙ after-run l (n + 1) r (omega arith)
-    ∙ ap (mk l) (one-more n r)
+after-run l n (suc r) h = ap (λ (z : Sponge). after (mk (z .lanes) (z .at + 1)) r) (ready-room l n (omega arith))
+    ∙ after-run l (n + 1) r (omega arith) ∙ ap (mk l) (one-more n r)
 
 pub length-bytesAt : (l : List ℕ) (i n : ℕ) → length (bytesAt l i n) ≡ n
 length-bytesAt l i zero = refl

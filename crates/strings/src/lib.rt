@@ -26,9 +26,12 @@ pub fn absorb(s: Sponge, piece: &[u8]) -> Sponge
 pub fn hash(start: Sponge, number: &[u8], body: &[u8], tail: &[u8], out: &mut [u8])
     ensures { λ _. ⌜ now (out .exit) ≡ spec.hashed start (now (number .entry) ++ (now (body .entry) ++ now (tail .entry))) (length (now (out .entry))) ⌝ }
 {
-    let numbered = start.absorb(number);
-    let whole = numbered.absorb(body).absorb(tail);
-    whole.finish().squeeze(out);
+    start
+        .absorb(number)
+        .absorb(body)
+        .absorb(tail)
+        .finish()
+        .squeeze(out);
 }
 
 // Fills out with the hash of a string that was made piece by piece: what s has absorbed, and nothing more.

@@ -11,7 +11,7 @@ use mathlib.Core.Bool.{Bool, true, false, _&&_, not, cond}
 use mathlib.Core.List.{List, [], _∷_}
 use Prim.Native.Nat.{ℕ}
 use borrow.Author.Tests.{not-true}
-use Rattle.lists.specs.Checks.{and-left, and-right}
+use Rattle.lists.specs.Checks.Laws.{and-left, and-right}
 use Rattle.lists.specs.Equal.{eqList}
 use Rattle.lists.specs.Equal.Laws.{eqList-true, eqList-false}
 use Rattle.claims.specs.Weight.{In, here, later}

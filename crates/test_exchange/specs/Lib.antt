@@ -1,3 +1,4 @@
+pub mod Definitions
 pub mod Layouts
 pub mod OneAxis
 pub mod OneAxisFindings

@@ -13,8 +13,7 @@ to : (i e : ℕ) → i ≤ e → i + (e - i) ≡ e
 to i e h = omega arith
 
 pub absorbed-part : (s t : Sponge) (m : List ℕ) (i e : ℕ) → i ≤ e → t ≡ absorbed s (take i m) → absorbed t (take (e - i) (drop i m)) ≡ absorbed s (take e m)
-absorbed-part s t m i e h is =
-    ap (λ (z : Sponge). absorbed z (take (e - i) (drop i m))) is
+absorbed-part s t m i e h is = ap (λ (z : Sponge). absorbed z (take (e - i) (drop i m))) is
     ∙ sym (absorbed-append s (take i m) (take (e - i) (drop i m)))
     ∙ ap (absorbed s) (sym (take-add i (e - i) m) ∙ ap (λ (n : ℕ). take n m) (to i e h))
 
@@ -23,13 +22,11 @@ after-part s t i e h is = ap (λ (z : Sponge). after z (e - i)) is ∙ sym (afte
 
 pub squeezed-part : (s t : Sponge) (o d : List ℕ) (i e : ℕ) → i ≤ e → t ≡ after s i → o ≡ squeezed s i ++ drop i d
     → take i o ++ (squeezed t (e - i) ++ drop (e - i) (drop i o)) ≡ squeezed s e ++ drop e d
-squeezed-part s t o d i e h t-is o-is =
-    (λ j. take i (o-is j) ++ (squeezed (t-is j) (e - i) ++ drop (e - i) (drop i (o-is j))))
+squeezed-part s t o d i e h t-is o-is = (λ j. take i (o-is j) ++ (squeezed (t-is j) (e - i) ++ drop (e - i) (drop i (o-is j))))
     ∙ (λ j. take-at (squeezed s i) (drop i d) i (length-squeezed s i) j
     ++ (squeezed (after s i) (e - i) ++ drop (e - i) (drop-at (squeezed s i) (drop i d) i (length-squeezed s i) j)))
     ∙ sym (append-assoc (squeezed s i) (squeezed (after s i) (e - i)) (drop (e - i) (drop i d)))
-    ∙ (λ j. sym (squeezed-add s i (e - i)) j ++ drop-drop (e - i) i d j)
-    ∙ ap (λ (n : ℕ). squeezed s n ++ drop n d) (to i e h)
+    ∙ (λ j. sym (squeezed-add s i (e - i)) j ++ drop-drop (e - i) i d j) ∙ ap (λ (n : ℕ). squeezed s n ++ drop n d) (to i e h)
 
 pub length-front : (s : Sponge) (d : List ℕ) (e : ℕ) → e ≤ length d → length (squeezed s e ++ drop e d) ≡ length d
 length-front s d e h = length-append (squeezed s e) (drop e d) ∙ omega (arith, length-squeezed s e, length-drop e d)

@@ -49,11 +49,10 @@ fn key_back() -> [u8; 104] {
 
 // The key's y, which is H'x_A + x_B.
 fn syndrome(x_a: &[u8; 126], matrix: &[u8; 13104]) -> [u8; 104] {
-    let log = bytefield::log_table();
-    let pow = bytefield::power_table();
+    let tables = bytefield::field_tables();
     let mut y = key_back();
     let mut image = [0u8; 104];
-    key::image(x_a, matrix, &mut image, &log, &pow);
+    key::image(x_a, matrix, &mut image, &tables);
     lists::xor_into(&mut y, &image);
     y
 }

@@ -36,11 +36,10 @@ pub record TermsAsked (size n stride at entries made : ℕ) : Type 0 where
   pub sized : entries ≡ n
   pub count : made ≤ 65536
 
-pub record EvaluationAsked (size n stride from len entries made : ℕ) : Type 0 where
+pub record EvaluationAsked (size n stride from len entries : ℕ) : Type 0 where
   pub few : n ≤ 64
   pub near : stride ≤ 65536
   pub start : from ≤ 65536
   pub short : len ≤ 256
   pub inside : 0 < n → from + (n - 1) * stride + len ≤ size
   pub sized : entries ≡ n
-  pub count : made ≤ 1099511627776

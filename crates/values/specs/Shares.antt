@@ -1,7 +1,7 @@
 -- Announcements one after another.
 --
 -- blockOf p out i             the part of out for share i: α, β and γ, 4t bytes each
--- Announcements p key m2 first shares n out   these parts are what each of n shares announces
+-- Announcements p key message2 first shares n out   these parts are what each of n shares announces
 use mathlib.Core.Path.{_≡_}
 use mathlib.Core.Bool.{Bool}
 use mathlib.Core.List.{List}
@@ -17,4 +17,4 @@ abbrev pub blockOf : Parameters → List ℕ → ℕ → List ℕ
 blockOf p out i = part out (i * rowLength p) (rowLength p)
 
 abbrev pub Announcements : Parameters → Key → List ℕ → Bool → List ℕ → ℕ → List ℕ → Type 0
-Announcements p key m2 first shares n out = (i : ℕ) → i < n → blockOf p out i ≡ announcedOf p key m2 first (shareOf p shares i)
+Announcements p key message2 first shares n out = (i : ℕ) → i < n → blockOf p out i ≡ announcedOf p key message2 first (shareOf p shares i)

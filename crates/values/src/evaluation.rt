@@ -1,5 +1,5 @@
 // Values of polynomials with bytes as coefficients at a point. The power of the point is carried from term to term, and every product is
-// counted. The tables of the byte field are made once by the caller and lent.
+// counted. The field tables are made once by the caller and lent.
 use points::Counted;
 use points::counted_product;
 use points::multiples_of;
@@ -8,7 +8,7 @@ use points::word_of;
 ghost use mathlib.Core.Path.{_≡_};
 ghost use Prim.Native.Nat.{_+_, _*_, _<_, _≤_};
 ghost use lib.ListN.{length, take};
-ghost use Rattle.bytefield.specs.Tables.{logs, powers};
+ghost use Rattle.bytefield.specs.Tables.{fieldTables};
 ghost use Rattle.tower.specs.Field.{Point, point, bytesOf};
 ghost use Rattle.packed.specs.Table.{multiples};
 ghost use Rattle.exchange.specs.Reading.{_⊠_};
@@ -27,7 +27,8 @@ fn add_terms(
     made: usize,
 ) -> usize
     requires { ⌜ TermsAsked (length (now s)) n stride at (length (now values)) made × (32 ≤ length (now own)) ⌝ }
-    ensures { λ r. ⌜ ((x : Point) → take 32 (now (own .entry)) ≡ multiples (wordOf x) → now (values .exit) ≡ termsOf (now (s .entry)) n stride at x (now (values .entry))) × (r ≡ made + n) ⌝ }
+    ensures { λ r. ⌜ ((x : Point) → take 32 (now (own .entry)) ≡ multiples (wordOf x)
+        → now (values .exit) ≡ termsOf (now (s .entry)) n stride at x (now (values .entry))) × (r ≡ made + n) ⌝ }
 {
     let mut count = made;
     let mut i = 0;
@@ -62,7 +63,8 @@ fn next_term(
     made: usize,
 ) -> Counted
     requires { ⌜ TermsAsked (length (now s)) n stride at (length (now values)) made × (128 ≤ length (now table)) ⌝ }
-    ensures { λ c. ⌜ (now (values .exit) ≡ termsOf (now (s .entry)) n stride at (point power) (now (values .entry))) × ((r : Point) → now (table .entry) ≡ multiplesOf r → c .point ≡ bytesOf (point power ⊠ r)) × (c .made ≡ made + n + 1) ⌝ }
+    ensures { λ c. ⌜ (now (values .exit) ≡ termsOf (now (s .entry)) n stride at (point power) (now (values .entry)))
+        × ((r : Point) → now (table .entry) ≡ multiplesOf r → c .point ≡ bytesOf (point power ⊠ r)) × (c .made ≡ made + n + 1) ⌝ }
 {
     let own = packed::multiples(word_of(power));
     let terms = add_terms(s, n, stride, at, &own, values, made);
@@ -79,16 +81,15 @@ pub fn values_at(
     len: usize,
     r: [u8; 4],
     values: &mut [u64],
-    made: usize,
-    log: &[u8; 256],
-    pow: &[u8; 256],
+    tables: &[u8; 512],
 ) -> Counted
-    requires { ⌜ EvaluationAsked (length (now s)) n stride from len (length (now values)) made × (now log ≡ logs) × (now pow ≡ powers) ⌝ }
-    ensures { λ c. ⌜ (now (values .exit) ≡ valuesOf (now (s .entry)) n stride from len (point r)) × (c .point ≡ bytesOf (pointPower (point r) len)) × (c .made ≡ made + len * (n + 1)) × (0 < n → c .made ≤ made + 2 * (n * len)) ⌝ }
+    requires { ⌜ EvaluationAsked (length (now s)) n stride from len (length (now values)) × (now tables ≡ fieldTables) ⌝ }
+    ensures { λ c. ⌜ (now (values .exit) ≡ valuesOf (now (s .entry)) n stride from len (point r)) × (c .point ≡ bytesOf (pointPower (point r) len))
+        × (c .made ≡ len * (n + 1)) × (0 < n → c .made ≤ 2 * (n * len)) ⌝ }
 {
     packed::clear(values);
     let mut table = [0u64; 128];
-    multiples_of(&mut table, r, log, pow);
+    multiples_of(&mut table, r, tables);
     let mut power = [1u8, 0, 0, 0];
     let mut count: usize = 0;
     let mut at = from;
@@ -103,6 +104,6 @@ pub fn values_at(
     }
     Counted {
         point: power,
-        made: made + count,
+        made: count,
     }
 }

@@ -1,11 +1,12 @@
 // What several shares announce at all positions: α, β and the part of v that does not depend on the sums α̂ and β̂, called γ.
-// The tables of the byte field are made once a call and lent down.
+// The field tables are made once a call and lent down.
 pub mod evaluation;
 mod position;
 mod term;
 mod valued;
 
 use crate::position::announce_at;
+use coefficients::Group;
 use layout::LONGEST_ROW;
 use layout::LONGEST_Y;
 use layout::MOST_COEFFICIENTS;
@@ -19,14 +20,14 @@ ghost use mathlib.Core.Bool.{cond};
 ghost use mathlib.Core.List.{[], _∷_};
 ghost use Prim.Native.Nat.{ℕ, _<_, _≤_};
 ghost use lib.ListN.{length};
-ghost use Rattle.bytefield.specs.Tables.{logs, powers};
+ghost use Rattle.bytefield.specs.Tables.{fieldTables};
 ghost use Rattle.tower.specs.Field.{point, bytesOf};
 ghost use Rattle.parameters.specs.Limits.{Within};
 ghost use Rattle.layout.specs.Layout.{atX};
 ghost use Rattle.exchange.specs.Values.{Key};
 ghost use Rattle.values.specs.Announced.{vOf};
 ghost use Rattle.values.specs.Asked.{EachAsked};
-ghost use Rattle.values.specs.Leaf.{LeafAsked, RoomAsked, leafValues};
+ghost use Rattle.values.specs.Leaf.{LeafAsked, leafValues};
 ghost use Rattle.values.specs.Position.{RowsOf};
 ghost use Rattle.values.specs.Products.{productsOf};
 ghost use Rattle.values.specs.Shares.{Announcements};
@@ -38,46 +39,23 @@ pub fn announce_each(
     n: usize,
     shares: &[u8],
     rows: &[u8],
-    m2: &[u8],
+    message2: &[u8],
     first: bool,
     out: &mut [u8],
-    log: &[u8; 256],
-    pow: &[u8; 256],
+    tables: &[u8; 512],
 ) -> usize
-    requires { ⌜ EachAsked p n (now shares) (now rows) (now m2) (now out) × (now log ≡ logs) × (now pow ≡ powers) ⌝ }
+    requires { ⌜ EachAsked p n (now shares) (now rows) (now message2) (now out) × (now tables ≡ fieldTables) ⌝ }
     ensures { λ c. ⌜ ((key : Key) → RowsOf p key first (now (shares .entry)) (now (rows .entry)) n
-        → Announcements p key (now (m2 .entry)) first (now (shares .entry)) n (now (out .exit))) × (c ≡ productsOf p n) ⌝ }
+        → Announcements p key (now (message2 .entry)) first (now (shares .entry)) n (now (out .exit))) × (c ≡ productsOf p n) ⌝ }
 {
     let mut made: usize = 0;
     let mut l = 0;
     while l < p.t {
-        let next = announce_at(p, n, shares, rows, m2, l, first, out, made, log, pow);
-        made = next;
+        let group = Group { n, first };
+        let products = announce_at(p, group, shares, rows, message2, l, out, tables);
+        made += products;
         l += 1;
     }
-    made
-}
-
-// out becomes α and β of the single share s at all positions, without the constants; rows and block hold what is made on the way.
-fn announce_single(
-    p: Parameters,
-    s: &[u8],
-    m2: &[u8],
-    matrix: &[u8],
-    y: &[u8],
-    rows: &mut [u8],
-    block: &mut [u8],
-    out: &mut [u8],
-    log: &[u8; 256],
-    pow: &[u8; 256],
-) -> usize
-    requires { ⌜ LeafAsked p (now s) (now m2) (now matrix) (now out) × RoomAsked p (now y) (now rows) (now block) × (now log ≡ logs) × (now pow ≡ powers) ⌝ }
-    ensures { λ c. ⌜ (now (out .exit) ≡ leafValues p (now (matrix .entry)) (now (m2 .entry)) (now (s .entry))) × (c ≡ productsOf p 1) ⌝ }
-{
-    let a = values_length(p);
-    coefficients::interpolate_each(p, 1, s, matrix, y, false, rows, log, pow);
-    let made = announce_each(p, 1, s, rows, m2, false, block, log, pow);
-    lists::copy(out, &block[..a]);
     made
 }
 
@@ -86,33 +64,34 @@ fn announce_single(
 pub fn announce_leaf(
     p: Parameters,
     s: &[u8],
-    m2: &[u8],
+    message2: &[u8],
     matrix: &[u8],
     out: &mut [u8],
-    log: &[u8; 256],
-    pow: &[u8; 256],
+    tables: &[u8; 512],
 ) -> usize
-    requires { ⌜ LeafAsked p (now s) (now m2) (now matrix) (now out) × (now log ≡ logs) × (now pow ≡ powers) ⌝ }
-    ensures { λ c. ⌜ (now (out .exit) ≡ leafValues p (now (matrix .entry)) (now (m2 .entry)) (now (s .entry))) × (c ≡ productsOf p 1) ⌝ }
+    requires { ⌜ LeafAsked p (now s) (now message2) (now matrix) (now out) × (now tables ≡ fieldTables) ⌝ }
+    ensures { λ c. ⌜ (now (out .exit) ≡ leafValues p (now (matrix .entry)) (now (message2 .entry)) (now (s .entry))) × (c ≡ productsOf p 1) ⌝ }
 {
     let y = [0u8; LONGEST_Y];
     let mut rows = [0u8; MOST_COEFFICIENTS];
     let mut block = [0u8; LONGEST_ROW];
     let n = p.m - p.k;
     let e = 2 * p.m;
+    let a = values_length(p);
     let b = row_length(p);
-    announce_single(
+    coefficients::interpolate_each(p, 1, s, matrix, &y[..n], false, &mut rows[..e], tables);
+    let made = announce_each(
         p,
+        1,
         s,
-        m2,
-        matrix,
-        &y[..n],
-        &mut rows[..e],
+        &rows[..e],
+        message2,
+        false,
         &mut block[..b],
-        out,
-        log,
-        pow,
-    )
+        tables,
+    );
+    lists::copy(out, &block[..a]);
+    made
 }
 
 // x where `first`, else zero.
@@ -135,16 +114,15 @@ pub fn v_at(
     gamma: [u8; 4],
     alpha: [u8; 4],
     beta: [u8; 4],
-    log: &[u8; 256],
-    pow: &[u8; 256],
+    tables: &[u8; 512],
 ) -> [u8; 4]
-    requires { ⌜ Within p × (l < p .t) × (atX p ≤ length (now s)) × (now log ≡ logs) × (now pow ≡ powers) ⌝ }
+    requires { ⌜ Within p × (l < p .t) × (atX p ≤ length (now s)) × (now tables ≡ fieldTables) ⌝ }
     ensures { λ r. ⌜ r ≡ bytesOf (vOf p (now (s .entry)) first (point gamma) (point alpha) (point beta) l) ⌝ }
 {
     let constant = where_first(first, beta);
     let a = point_at(s, 4 * l);
     let b = point_at(s, factor_length(p) + 4 * l);
-    let x = points::product(points::sum(b, constant), alpha, log, pow);
-    let y = points::product(a, beta, log, pow);
+    let x = points::product(points::sum(b, constant), alpha, tables);
+    let y = points::product(a, beta, tables);
     points::sum(points::sum(gamma, x), y)
 }

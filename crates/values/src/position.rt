@@ -1,6 +1,7 @@
 // What several shares announce at one position.
 use crate::term::announce_share;
 use crate::valued::evaluate;
+use coefficients::Group;
 use layout::points_length;
 use layout::row_length;
 use layout::share_length;
@@ -11,60 +12,67 @@ use points::product_by;
 ghost use mathlib.Core.Path.{_≡_};
 ghost use mathlib.Core.Bool.{Bool};
 ghost use mathlib.Core.List.{List};
-ghost use Prim.Native.Nat.{ℕ, _+_, _*_, _<_};
+ghost use Prim.Native.Nat.{ℕ, _+_, _*_, _<_, _≤_};
 ghost use lib.ListN.{length};
-ghost use Rattle.bytefield.specs.Tables.{logs, powers};
-ghost use Rattle.layout.specs.Layout.{rowLength};
-ghost use Rattle.exchange.specs.Values.{Key, pointOf};
-ghost use Rattle.values.specs.Asked.{SharesAsked, PositionAsked, EachAsked};
+ghost use Rattle.bytefield.specs.Tables.{fieldTables};
+ghost use Rattle.tower.specs.Field.{bytesOf};
+ghost use Rattle.exchange.specs.Reading.{value};
+ghost use Rattle.exchange.specs.Values.{Key, F, pointOf, multiplierOf};
+ghost use Rattle.values.specs.Asked.{SharesAsked, EachAsked};
 ghost use Rattle.values.specs.Position.{Valued, Factors, RowsOf, EachAnnounced};
 ghost use Rattle.values.specs.Products.{productsAt};
 
-// The values of as many polynomials at a point as there can be: of up to fifteen shares, and of F.
-const MOST_AT_POINT: usize = 16;
+// The words of the values at a point: of Q, S and P of up to fifteen shares, and of F.
+const MOST_WORDS: usize = 46;
 
-// α, β and γ at position l of each of n shares, which stand one after another, are written to its part of out.
+// A position l: ε and F(r) there, the word of the leading term of Q, and how many products were made up to it.
+struct Position {
+    l: usize,
+    multiplier: [u8; 4],
+    vanishing: [u8; 4],
+    leading: u64,
+    made: usize,
+}
+
+// α, β and γ at position l of each of n shares, which stand one after another, are written to its part of out. words is as `evaluate` leaves it,
+// and factors has the multiples of ε, and behind them those of ε·F(r). Answers how many products were made.
 fn announce_shares(
     p: Parameters,
     n: usize,
     shares: &[u8],
     l: usize,
-    qs: &[u64],
-    ss: &[u64],
-    ps: &[u64],
+    words: &[u64],
     leading: u64,
-    multiplier: &[u64],
-    factor: &[u64],
+    factors: &[u64],
     out: &mut [u8],
-    start: usize,
 ) -> usize
-    requires { ⌜ SharesAsked p n (now shares) l (now qs) (now ss) (now ps) (now multiplier) (now factor) (now out) × (start < 4294967296) ⌝ }
-    ensures { λ c. ⌜ ((key : Key) (m2 : List ℕ) (first : Bool) → Valued p key first (now (shares .entry)) n (pointOf p m2 l) (now (qs .entry)) (now (ss .entry)) (now (ps .entry)) leading
-        → Factors p m2 l (now (multiplier .entry)) (now (factor .entry))
-        → EachAnnounced p key m2 first (now (shares .entry)) l (now (out .entry)) (now (out .exit)) n) × (c ≡ start + 2 * n) ⌝ }
+    requires { ⌜ SharesAsked p n (now shares) l (now words) (now out) × (length (now factors) ≡ 256) ⌝ }
+    ensures { λ c. ⌜ ((key : Key) (message2 : List ℕ) (first : Bool)
+        → Valued p key first (now (shares .entry)) n (pointOf p message2 l) (now (words .entry)) leading
+        → Factors p message2 l (now (factors .entry))
+        → EachAnnounced p key message2 first (now (shares .entry)) l (now (out .entry)) (now (out .exit)) n) × (c ≡ 2 * n) ⌝ }
 {
     let size = share_length(p);
     let room = row_length(p);
-    let mut made = start;
+    let behind = 2 * n + 1;
+    let mut made: usize = 0;
     let mut a = 0;
     let mut b = 0;
     let mut i = 0;
     while i < n {
         let e = a + size;
         let f = b + room;
-        let next = announce_share(
+        let terms = announce_share(
             p,
             &shares[a..e],
             l,
-            qs[i] ^ leading,
-            ss[i],
-            ps[i],
-            multiplier,
-            factor,
+            words[i] ^ leading,
+            words[n + i],
+            words[behind + i],
+            factors,
             &mut out[b..f],
-            made,
         );
-        made = next;
+        made += terms;
         a = e;
         b = f;
         i += 1;
@@ -72,89 +80,63 @@ fn announce_shares(
     made
 }
 
-// α, β and γ at position l of each of n shares are written to its part of out. qs, ss and ps hold the values of Q, S and P;
-// rows is as `evaluate` has it.
-fn announce_with(
+// α, β and γ at a position of each of n shares are written to its part of out; words is as `evaluate` leaves it. The tables of multiples stand in
+// this frame, which is not there while the values are made.
+fn announce_valued(
     p: Parameters,
     n: usize,
     shares: &[u8],
-    rows: &[u8],
-    m2: &[u8],
-    l: usize,
-    first: bool,
-    qs: &mut [u64],
-    ss: &mut [u64],
-    ps: &mut [u64],
+    at: Position,
+    words: &[u64],
     out: &mut [u8],
-    made: usize,
-    log: &[u8; 256],
-    pow: &[u8; 256],
+    tables: &[u8; 512],
 ) -> usize
-    requires { ⌜ PositionAsked p n (now shares) (now rows) (now m2) l (now qs) (now ss) (now ps) × (length (now out) ≡ n * rowLength p) × (made < 2147483648) × (now log ≡ logs) × (now pow ≡ powers) ⌝ }
-    ensures { λ c. ⌜ ((key : Key) → RowsOf p key first (now (shares .entry)) (now (rows .entry)) n
-        → EachAnnounced p key (now (m2 .entry)) first (now (shares .entry)) l (now (out .entry)) (now (out .exit)) n) × (c ≡ made + productsAt p n) ⌝ }
+    requires { ⌜ SharesAsked p n (now shares) (at .l) (now words) (now out) × (at .made ≤ 13005) × (now tables ≡ fieldTables) ⌝ }
+    ensures { λ c. ⌜ ((key : Key) (message2 : List ℕ) (first : Bool)
+        → Valued p key first (now (shares .entry)) n (pointOf p message2 (at .l)) (now (words .entry)) (at .leading)
+        → at .multiplier ≡ bytesOf (multiplierOf p message2 (at .l)) → at .vanishing ≡ bytesOf (value (F p) (pointOf p message2 (at .l)))
+        → EachAnnounced p key message2 first (now (shares .entry)) (at .l) (now (out .entry)) (now (out .exit)) n) × (c ≡ at .made + 1 + 2 * n) ⌝ }
 {
-    let e = point_at(m2, points_length(p) + 4 * l);
-    let mut multiplier = [0u64; 128];
-    multiples_of(&mut multiplier, e, log, pow);
-    let f = evaluate(p, n, shares, rows, m2, l, first, qs, ss, ps, made, log, pow);
-    let x = f.vanishing;
-    let product = product_by(x, &multiplier, f.made);
+    let mut factors = [0u64; 256];
+    let e = at.multiplier;
+    multiples_of(&mut factors[..128], e, tables);
+    let x = at.vanishing;
+    let product = product_by(x, &factors[..128], at.made);
     let y = product.point;
-    let mut factor = [0u64; 128];
-    multiples_of(&mut factor, y, log, pow);
-    announce_shares(
-        p,
-        n,
-        shares,
-        l,
-        qs,
-        ss,
-        ps,
-        f.leading,
-        &multiplier,
-        &factor,
-        out,
-        product.made,
-    )
+    multiples_of(&mut factors[128..], y, tables);
+    let terms = announce_shares(p, n, shares, at.l, words, at.leading, &factors, out);
+    product.made + terms
 }
 
-// α, β and γ at position l of each of n shares, with the constants where `first`, are written to its part of out; rows is as `evaluate` has it.
+// α, β and γ at position l of each share of a group are written to its part of out; rows is as `evaluate` has it. Answers how many products were made.
 pub fn announce_at(
     p: Parameters,
-    n: usize,
+    group: Group,
     shares: &[u8],
     rows: &[u8],
-    m2: &[u8],
+    message2: &[u8],
     l: usize,
-    first: bool,
     out: &mut [u8],
-    made: usize,
-    log: &[u8; 256],
-    pow: &[u8; 256],
+    tables: &[u8; 512],
 ) -> usize
-    requires { ⌜ EachAsked p n (now shares) (now rows) (now m2) (now out) × (l < p .t) × (made < 2147483648) × (now log ≡ logs) × (now pow ≡ powers) ⌝ }
-    ensures { λ c. ⌜ ((key : Key) → RowsOf p key first (now (shares .entry)) (now (rows .entry)) n
-        → EachAnnounced p key (now (m2 .entry)) first (now (shares .entry)) l (now (out .entry)) (now (out .exit)) n) × (c ≡ made + productsAt p n) ⌝ }
+    requires { ⌜ EachAsked p (group .n) (now shares) (now rows) (now message2) (now out) × (l < p .t) × (now tables ≡ fieldTables) ⌝ }
+    ensures { λ c. ⌜ ((key : Key) → RowsOf p key (group .first) (now (shares .entry)) (now (rows .entry)) (group .n)
+        → EachAnnounced p key (now (message2 .entry)) (group .first) (now (shares .entry)) l (now (out .entry)) (now (out .exit)) (group .n))
+        × (c ≡ productsAt p (group .n)) ⌝ }
 {
-    let mut qs = [0u64; MOST_AT_POINT];
-    let mut ss = [0u64; MOST_AT_POINT];
-    let mut ps = [0u64; MOST_AT_POINT];
-    let e = n + 1;
-    announce_with(
-        p,
-        n,
-        shares,
-        rows,
-        m2,
+    let mut words = [0u64; MOST_WORDS];
+    let n = group.n;
+    let e = 3 * n + 1;
+    let multiplier = point_at(message2, points_length(p) + 4 * l);
+    let r = point_at(message2, 4 * l);
+    let values = evaluate(p, group, shares, rows, r, &mut words[..e], tables);
+    let vanishing = values.vanishing;
+    let at = Position {
         l,
-        first,
-        &mut qs[..n],
-        &mut ss[..e],
-        &mut ps[..n],
-        out,
-        made,
-        log,
-        pow,
-    )
+        multiplier,
+        vanishing,
+        leading: values.leading,
+        made: values.made,
+    };
+    announce_valued(p, n, shares, at, &words[..e], out, tables)
 }

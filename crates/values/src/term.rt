@@ -17,12 +17,13 @@ ghost use Rattle.exchange.specs.Reading.{_⊞_, _⊠_};
 ghost use Rattle.exchange.specs.Values.{aOf, bOf, cOf};
 ghost use Rattle.points.specs.Multiples.{wordOf, multiplesOf};
 ghost use Rattle.values.specs.Asked.{ShareAsked};
-ghost use Rattle.values.specs.Position.{writtenAt};
+ghost use Rattle.values.specs.Position.{firstHalf, secondHalf, writtenAt};
 
 // The product of a value with the factor of which the table has the multiples, and x added, is written to out from place at on.
 fn put_term(out: &mut [u8], at: usize, value: u64, table: &[u64], x: [u8; 4], made: usize) -> usize
     requires { ⌜ (at + 4 ≤ length (now out)) × (128 ≤ length (now table)) × (made < 1099511627776) ⌝ }
-    ensures { λ c. ⌜ ((b v y : Point) → now (table .entry) ≡ multiplesOf b → value ≡ wordOf v → x ≡ bytesOf y → now (out .exit) ≡ putAt (now (out .entry)) at (bytesOf (b ⊠ v ⊞ y)))
+    ensures { λ c. ⌜ ((b v y : Point) → now (table .entry) ≡ multiplesOf b → value ≡ wordOf v → x ≡ bytesOf y
+        → now (out .exit) ≡ putAt (now (out .entry)) at (bytesOf (b ⊠ v ⊞ y)))
         × (c ≡ made + 1) ⌝ }
 {
     let product = product_by(point_of(value), table, made);
@@ -40,7 +41,7 @@ fn put_sum(out: &mut [u8], at: usize, value: u64, x: [u8; 4])
 }
 
 // α, β and γ of the share s at position l are written to their places in out: q, r and v are the words of Q, S and P there,
-// and the tables have the multiples of ε and of ε·F(r).
+// and factors has the multiples of ε, and behind them those of ε·F(r). Answers how many products were made.
 pub fn announce_share(
     p: Parameters,
     s: &[u8],
@@ -48,23 +49,23 @@ pub fn announce_share(
     q: u64,
     r: u64,
     v: u64,
-    multiplier: &[u64],
-    factor: &[u64],
+    factors: &[u64],
     out: &mut [u8],
-    made: usize,
 ) -> usize
-    requires { ⌜ ShareAsked p (now s) l (now multiplier) (now factor) (now out) × (made < 549755813888) ⌝ }
-    ensures { λ c. ⌜ ((ε φ Q S P : Point) → now (multiplier .entry) ≡ multiplesOf ε → now (factor .entry) ≡ multiplesOf φ → q ≡ wordOf Q → r ≡ wordOf S → v ≡ wordOf P
-        → now (out .exit) ≡ writtenAt p l (ε ⊠ Q ⊞ aOf p (now (s .entry)) l) (S ⊞ bOf p (now (s .entry)) l) (φ ⊠ P ⊞ cOf p (now (s .entry)) l) (now (out .entry)))
-        × (c ≡ made + 2) ⌝ }
+    requires { ⌜ ShareAsked p (now s) l (now factors) (now out) ⌝ }
+    ensures { λ c. ⌜ ((ε φ Q S P : Point) → firstHalf (now (factors .entry)) ≡ multiplesOf ε → secondHalf (now (factors .entry)) ≡ multiplesOf φ
+        → q ≡ wordOf Q → r ≡ wordOf S → v ≡ wordOf P
+        → now (out .exit)
+        ≡ writtenAt p l (ε ⊠ Q ⊞ aOf p (now (s .entry)) l) (S ⊞ bOf p (now (s .entry)) l) (φ ⊠ P ⊞ cOf p (now (s .entry)) l) (now (out .entry)))
+        × (c ≡ 2) ⌝ }
 {
     let x = 4 * l;
     let y = factor_length(p) + x;
     let z = values_length(p) + x;
     let a = point_at(s, x);
-    let first = put_term(out, x, q, multiplier, a, made);
+    let first = put_term(out, x, q, &factors[..128], a, 0);
     let b = point_at(s, y);
     put_sum(out, y, r, b);
     let c = point_at(s, at_c(p) + x);
-    put_term(out, z, v, factor, c, first)
+    put_term(out, z, v, &factors[128..256], c, first)
 }

@@ -1,5 +1,6 @@
-// The values of Q, S and P of several shares at one position, and F(r) there.
+// The values of Q, S and P of several shares at one point, and F(r).
 use crate::evaluation::values_at;
+use coefficients::Group;
 use layout::at_p;
 use layout::at_q;
 use layout::share_length;
@@ -10,17 +11,16 @@ use points::sum;
 use points::word_of;
 ghost use mathlib.Core.Path.{_≡_};
 ghost use mathlib.Core.Bool.{cond};
-ghost use Prim.Native.Nat.{_+_, _<_};
-ghost use Rattle.bytefield.specs.Tables.{logs, powers};
+ghost use Rattle.bytefield.specs.Tables.{fieldTables};
 ghost use Rattle.tower.specs.Field.{point, bytesOf};
 ghost use Rattle.exchange.specs.Reading.{value, 𝟎};
-ghost use Rattle.exchange.specs.Values.{Key, F, pointOf};
+ghost use Rattle.exchange.specs.Values.{Key, F};
 ghost use Rattle.points.specs.Multiples.{wordOf};
-ghost use Rattle.values.specs.Asked.{PositionAsked};
+ghost use Rattle.values.specs.Asked.{PointAsked};
 ghost use Rattle.values.specs.Position.{Valued, RowsOf};
 ghost use Rattle.values.specs.Products.{evaluationsAt};
 
-// What an evaluation gives beside the values: F(r), the word of the leading term of Q, and how many products were made up to it.
+// What an evaluation gives beside the values: F(r), the word of the leading term of Q, and how many products were made.
 pub struct Evaluation {
     pub vanishing: [u8; 4],
     pub leading: u64,
@@ -37,40 +37,35 @@ fn leading_word(first: bool, power: [u8; 4]) -> u64
     0
 }
 
-// qs, ss and ps become the words of Q without its leading term, S and P of each of n shares at position l. rows has the coefficients of each S,
-// and behind them those of F but its leading one: ss ends with the word of their value.
+// words becomes the words of Q without its leading term, S, F and P at the point r: those of Q and of S of each share, that of F without its
+// leading term, and those of P. rows has the coefficients of each S, and behind them those of F but its leading one.
 pub fn evaluate(
     p: Parameters,
-    n: usize,
+    group: Group,
     shares: &[u8],
     rows: &[u8],
-    m2: &[u8],
-    l: usize,
-    first: bool,
-    qs: &mut [u64],
-    ss: &mut [u64],
-    ps: &mut [u64],
-    made: usize,
-    log: &[u8; 256],
-    pow: &[u8; 256],
+    r: [u8; 4],
+    words: &mut [u64],
+    tables: &[u8; 512],
 ) -> Evaluation
-    requires { ⌜ PositionAsked p n (now shares) (now rows) (now m2) l (now qs) (now ss) (now ps) × (made < 4294967296) × (now log ≡ logs) × (now pow ≡ powers) ⌝ }
-    ensures { λ c. ⌜ ((key : Key) → RowsOf p key first (now (shares .entry)) (now (rows .entry)) n
-        → Valued p key first (now (shares .entry)) n (pointOf p (now (m2 .entry)) l) (now (qs .exit)) (now (ss .exit)) (now (ps .exit)) (c .leading)
-        × (c .vanishing ≡ bytesOf (value (F p) (pointOf p (now (m2 .entry)) l)))) × (c .made ≡ made + evaluationsAt p n) ⌝ }
+    requires { ⌜ PointAsked p (group .n) (now shares) (now rows) (now words) × (now tables ≡ fieldTables) ⌝ }
+    ensures { λ c. ⌜ ((key : Key) → RowsOf p key (group .first) (now (shares .entry)) (now (rows .entry)) (group .n)
+        → Valued p key (group .first) (now (shares .entry)) (group .n) (point r) (now (words .exit)) (c .leading)
+        × (c .vanishing ≡ bytesOf (value (F p) (point r)))) × (c .made ≡ evaluationsAt p (group .n)) ⌝ }
 {
+    let n = group.n;
+    let b = 2 * n + 1;
     let size = share_length(p);
     let at = at_q(p);
     let behind = at_p(p);
-    let r = point_at(m2, 4 * l);
-    let s = values_at(rows, n + 1, p.m, 0, p.m, r, ss, made, log, pow);
-    let q = values_at(shares, n, size, at, p.w, r, qs, s.made, log, pow);
-    let v = values_at(shares, n, size, behind, p.w, r, ps, q.made, log, pow);
+    let q = values_at(shares, n, size, at, p.w, r, &mut words[..n], tables);
+    let s = values_at(rows, n + 1, p.m, 0, p.m, r, &mut words[n..b], tables);
+    let v = values_at(shares, n, size, behind, p.w, r, &mut words[b..], tables);
     let power = s.point;
     let last = q.point;
     Evaluation {
-        vanishing: sum(point_of(ss[n]), power),
-        leading: leading_word(first, last),
-        made: v.made,
+        vanishing: sum(point_of(words[n + n]), power),
+        leading: leading_word(group.first, last),
+        made: q.made + s.made + v.made,
     }
 }

@@ -10,16 +10,15 @@
 -- Pointing, points-passed           what is known where the checks of points pass
 -- Opened, opening-passed            what is known where the checks of the opening pass
 -- refused-opening, judged-opening   what the opening gives, from what its checks answered
--- rows-most                         what the parties of all axes announce takes at most 1536 bytes
 use mathlib.Core.Path.{_≡_, refl, sym, ap, _∙_}
 use mathlib.Core.Bool.{Bool, true, false, _&&_, _||_, not, cond, false≢true}
 use mathlib.Core.List.{List}
-use Prim.Native.Nat.{ℕ, _*_, _≤_, _<_}
+use Prim.Native.Nat.{ℕ, _<_}
 use lib.Dec.{eqb, ltb}
 use lib.ListN.{length}
 use borrow.Author.Tests.{eqb-true, ltb-true}
 use Rattle.lists.specs.Zeroed.{zeroed}
-use Rattle.lists.specs.Checks.{and-left, and-right}
+use Rattle.lists.specs.Checks.Laws.{and-left, and-right}
 use Rattle.answers.specs.declared.Answer.{Answer}
 use Rattle.answers.specs.declared.Answer.the-variants.{Done, Refused}
 use Rattle.answers.specs.declared.Refusal.{Refusal}
@@ -30,8 +29,7 @@ use Rattle.answers.specs.Checks.Laws.{Done≢Refused, check-true, check-rest, c
 use Rattle.parameters.specs.declared.Parameters.{Parameters}
 use Rattle.parameters.specs.Limits.{withinLimits, Within}
 use Rattle.parameters.specs.Limits.Laws.{test-within}
-use Rattle.layout.specs.Layout.Bounds as bounds
-use Rattle.layout.specs.Layout.{leaves, axisLength, message2Length, message5Length, workLength}
+use Rattle.layout.specs.Layout.{leaves, message2Length, message5Length, workLength}
 use Rattle.exchange.specs.Opening.{verdict}
 use Rattle.exchange.specs.Values.{Key}
 use Rattle.layout.specs.Lent.{lent, Lent}
@@ -150,9 +148,6 @@ module _ (hash : List ℕ → ℕ → List ℕ) (s : Verifier) (m5 : List ℕ) (
         size = eqb-true (length m5) (message5Length (s .parameters) (s .leaf)) (and-left five others both);
         lent = test-lent (s .parameters) (length (key .matrix)) (length (key .y)) (length work) (and-right five others both);
       }
-
-pub rows-most : (p : Parameters) → Within p → p .axes * axisLength p ≤ 1536
-rows-most p h = bounds.rows-most p h
 
 module _ (hash : List ℕ → ℕ → List ℕ) (s : Verifier) (m5 : List ℕ) (key : Key) (work : List ℕ) (b : Answer) (e : b ≡ openingChecks hash s m5 key work) where
   pub refused-opening : (r : Refusal) → b ≡ Refused r → record { answer = answerNumber b; verifier = s; work = work } ≡ opening hash s m5 key work

@@ -1,13 +1,14 @@
 // The verdict on an opening, and the session after it.
 use crate::Verifier;
 use answers::Answer;
-use layout::MOST_ROWS;
-use layout::MOST_STATES;
-use layout::axis_length;
-use layout::leaf_count;
+use layout::MOST_OPENED;
+use layout::MOST_STATEMENT;
 use layout::message2_length;
+use layout::opened_length;
+use layout::statement_length;
 use layout::work_length;
 use openings::check_opening;
+use openings::statement::put_statement;
 use verifier_phase::Phase;
 ghost use mathlib.Core.Path.{_≡_};
 ghost use lib.ListN.{length};
@@ -23,32 +24,36 @@ ghost use Rattle.verifier.specs.Laws.{Opened};
 // Checks the opening of the exchange held; the named length of the work area ends as zeros.
 pub fn judge(s: Verifier, message5: &[u8], matrix: &[u8], y: &[u8], work: &mut [u8]) -> Answer
     requires { ⌜ Opened (held s) (length (now message5)) (length (now matrix)) (length (now y)) (length (now work)) ⌝ }
-    ensures { λ r. ⌜ r ≡ verdict SHAKE256 (s .parameters) (spec.heldExchange (held s) (now (message5 .entry))) (keyOf (now (matrix .entry)) (now (y .entry))) ⌝ }
+    ensures { λ r. ⌜ r ≡ verdict SHAKE256 (s .parameters) (spec.heldExchange (held s) (now (message5 .entry)))
+        (keyOf (now (matrix .entry)) (now (y .entry))) ⌝ }
     ensures { λ r. ⌜ now (work .exit) ≡ zeroed (workLength (s .parameters)) (now (work .entry)) ⌝ }
 {
     let p = s.parameters;
-    let m1 = s.message1;
-    let m2 = s.message2;
-    let m3 = s.message3;
-    let leaf = s.leaf as usize;
-    let mut states = [0u8; MOST_STATES];
-    let mut rows = [0u8; MOST_ROWS];
+    let message1 = s.message1;
+    let message2 = s.message2;
+    let message3 = s.message3;
+    let mut statement = [0u8; MOST_STATEMENT];
+    let mut opened = [0u8; MOST_OPENED];
     let points = message2_length(p);
+    let stated = statement_length(p);
     let area = work_length(p);
-    let all_states = 32 * leaf_count(p);
-    let all_rows = p.axes * axis_length(p);
+    let given = opened_length(p);
+    put_statement(
+        p,
+        &message1,
+        &message2[..points],
+        &message3,
+        &mut statement[..stated],
+    );
     check_opening(
         p,
-        &m1,
-        &m2[..points],
-        &m3,
-        leaf,
+        &statement[..stated],
+        s.leaf as usize,
         message5,
         matrix,
         y,
         &mut work[..area],
-        &mut states[..all_states],
-        &mut rows[..all_rows],
+        &mut opened[..given],
     )
 }
 

@@ -177,7 +177,8 @@ impl Verifier {
 
     // Judges message 5, which opens all leaves but the hidden one, and closes the exchange with the answer.
     pub fn opening(self, message5: &[u8], matrix: &[u8], y: &[u8], work: &mut [u8]) -> Called
-        ensures { λ r. ⌜ judged r (now (work .exit)) ≡ spec.opening SHAKE256 (held self) (now (message5 .entry)) (keyOf (now (matrix .entry)) (now (y .entry))) (now (work .entry)) ⌝ }
+        ensures { λ r. ⌜ judged r (now (work .exit)) ≡ spec.opening SHAKE256 (held self) (now (message5 .entry))
+            (keyOf (now (matrix .entry)) (now (y .entry))) (now (work .entry)) ⌝ }
     {
         let phase = self.phase;
         let parameters = self.parameters;

@@ -8,8 +8,10 @@
 --   ext-homomorphism      a homomorphism of the parts is one of the pairs
 use mathlib.Core.Path.{_≡_, refl, sym, ap, ap₂, _∙_}
 use Rattle.algebra.specs.Operations.{Operations, Homomorphism}
-use Rattle.algebra.specs.Ring.{Ring2, ops, ring, combine}
-use Rattle.algebra.specs.Field.{Field2, no-zero-divisor}
+use Rattle.algebra.specs.Ring.{Ring2, ops}
+use Rattle.algebra.specs.Ring.Laws.{ring, combine}
+use Rattle.algebra.specs.Field.{Field2}
+use Rattle.algebra.specs.Field.Laws.{no-zero-divisor}
 use Rattle.algebra.specs.Extension.{extOps, extMap, Irreducible, norm, extInverse}
 
 pub pair : {K : Type 0} {u u′ v v′ : K} → u ≡ u′ → v ≡ v′ → _≡_ {A = K × K} (u, v) (u′, v′)

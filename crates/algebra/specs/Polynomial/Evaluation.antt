@@ -12,7 +12,8 @@ use mathlib.Core.List.{List, [], _∷_, _++_}
 use native.Mathlib.Omega.{arith}
 use lib.ListN.{length}
 use Rattle.algebra.specs.Operations.{Operations}
-use Rattle.algebra.specs.Ring.{Ring2, ops, ring, combine, equal-of-sum}
+use Rattle.algebra.specs.Ring.{Ring2, ops}
+use Rattle.algebra.specs.Ring.Laws.{ring, combine, equal-of-sum}
 use Rattle.algebra.specs.Polynomial.{eval, plus, scale, times, pow, first, expand, divide, Zeros}
 
 module _ {K : Type 0} (R : Ring2 K) where

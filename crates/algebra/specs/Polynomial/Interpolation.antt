@@ -8,7 +8,8 @@ use native.Mathlib.Nat.{le-of-eq}
 use native.Mathlib.Omega.{arith}
 use lib.ListN.{length}
 use Rattle.algebra.specs.Operations.{Operations}
-use Rattle.algebra.specs.Ring.{Ring2, ops, ring, combine, equal-of-sum}
+use Rattle.algebra.specs.Ring.{Ring2, ops}
+use Rattle.algebra.specs.Ring.Laws.{ring, combine, equal-of-sum}
 use Rattle.algebra.specs.Field.{Field2}
 use Rattle.algebra.specs.Each.{Each, Distinct}
 use Rattle.algebra.specs.Polynomial.{eval, first, behind, expand, slopes, interpolate, values}

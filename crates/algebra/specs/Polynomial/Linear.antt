@@ -10,7 +10,8 @@ use Prim.Native.Nat.{suc}
 use native.Mathlib.Omega.{arith}
 use lib.ListN.{length}
 use Rattle.algebra.specs.Operations.{Operations}
-use Rattle.algebra.specs.Ring.{Ring2, ops, ring}
+use Rattle.algebra.specs.Ring.{Ring2, ops}
+use Rattle.algebra.specs.Ring.Laws.{ring}
 use Rattle.algebra.specs.Polynomial.{eval, plus, expand, slopes, interpolate}
 use Rattle.algebra.specs.Polynomial.Lengths.{length-slopes, length-interpolate}
 

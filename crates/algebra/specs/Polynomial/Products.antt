@@ -18,8 +18,10 @@ use native.Mathlib.Nat.{not-suc-le-zero}
 use native.Mathlib.Omega.{arith}
 use lib.ListN.{length}
 use Rattle.algebra.specs.Operations.{Operations}
-use Rattle.algebra.specs.Ring.{Ring2, ops, ring, combine}
-use Rattle.algebra.specs.Each.{Each, each-map}
+use Rattle.algebra.specs.Ring.{Ring2, ops}
+use Rattle.algebra.specs.Ring.Laws.{ring, combine}
+use Rattle.algebra.specs.Each.{Each}
+use Rattle.algebra.specs.Each.Laws.{each-map}
 use Rattle.algebra.specs.Marks.{pick, leave}
 use Rattle.algebra.specs.Polynomial.{eval, plus, scale, times, first, behind, expand, divide, product, quotient, vanishing}
 use Rattle.algebra.specs.Polynomial.Lengths.{length-expand, length-scale}

@@ -13,9 +13,12 @@ use Prim.Native.Nat.{suc, _≤_, _<_}
 use native.Mathlib.Omega.{arith}
 use lib.ListN.{length}
 use Rattle.algebra.specs.Operations.{Operations}
-use Rattle.algebra.specs.Ring.{Ring2, ops, ring, equal-of-sum}
-use Rattle.algebra.specs.Field.{Field2, no-zero-divisor}
-use Rattle.algebra.specs.Each.{Each, each-map₂, Distinct}
+use Rattle.algebra.specs.Ring.{Ring2, ops}
+use Rattle.algebra.specs.Ring.Laws.{ring, equal-of-sum}
+use Rattle.algebra.specs.Field.{Field2}
+use Rattle.algebra.specs.Field.Laws.{no-zero-divisor}
+use Rattle.algebra.specs.Each.{Each, Distinct}
+use Rattle.algebra.specs.Each.Laws.{each-map₂}
 use Rattle.algebra.specs.Marks.{pick, leave}
 use Rattle.algebra.specs.Polynomial.{eval, times, behind, expand, divide, product, quotient, vanishing}
 use Rattle.algebra.specs.Polynomial.Lengths.{length-expand, length-quotient}

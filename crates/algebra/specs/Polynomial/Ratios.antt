@@ -12,10 +12,14 @@ use mathlib.Core.List.{List, [], _∷_, map}
 use native.Mathlib.Omega.{arith}
 use lib.ListN.{length, length-map}
 use Rattle.algebra.specs.Operations.{Operations, Homomorphism}
-use Rattle.algebra.specs.Ring.{Ring2, ops, ring, combine, equal-of-sum}
-use Rattle.algebra.specs.Field.{Field2, no-zero-divisor}
+use Rattle.algebra.specs.Ring.{Ring2, ops}
+use Rattle.algebra.specs.Ring.Laws.{ring, combine, equal-of-sum}
+use Rattle.algebra.specs.Field.{Field2}
+use Rattle.algebra.specs.Field.Laws.{no-zero-divisor}
 use Rattle.algebra.specs.Each.{Each, NotIn, Disjoint, Distinct}
-use Rattle.algebra.specs.Marks.{pick, leave, length-pick, length-leave, distinct-pick, distinct-leave, pick-apart, map-pick}
+use Rattle.algebra.specs.Marks.{pick, leave}
+use Rattle.algebra.specs.Marks.Laws.{length-pick, map-pick}
+use Rattle.algebra.specs.Marks.Laws.{length-leave, distinct-pick, distinct-leave, pick-apart}
 use Rattle.algebra.specs.Polynomial.{eval, product, quotient, interpolate, values}
 use Rattle.algebra.specs.Polynomial.Lengths.{length-quotient}
 use Rattle.algebra.specs.Polynomial.Products.{eval-product-step}

@@ -15,9 +15,12 @@ use native.Mathlib.Decide.{decLe}
 use native.Mathlib.Omega.{arith}
 use lib.ListN.{length, length-append}
 use Rattle.algebra.specs.Operations.{Operations}
-use Rattle.algebra.specs.Ring.{Ring2, ops, ring, combine, equal-of-sum}
-use Rattle.algebra.specs.Field.{Field2, no-zero-divisor}
-use Rattle.algebra.specs.Each.{Each, each-map, each-map₂, Distinct}
+use Rattle.algebra.specs.Ring.{Ring2, ops}
+use Rattle.algebra.specs.Ring.Laws.{ring, combine, equal-of-sum}
+use Rattle.algebra.specs.Field.{Field2}
+use Rattle.algebra.specs.Field.Laws.{no-zero-divisor}
+use Rattle.algebra.specs.Each.{Each, Distinct}
+use Rattle.algebra.specs.Each.Laws.{each-map, each-map₂}
 use Rattle.algebra.specs.Polynomial.{eval, plus, behind, expand, divide, Zeros}
 use Rattle.algebra.specs.Polynomial.Lengths.{length-divide, length-plus, length-plus-le}
 use Rattle.algebra.specs.Polynomial.Evaluation.{eval-plus, eval-zeros, eval-expand, first-divide, expand-divide, plus-zeros}

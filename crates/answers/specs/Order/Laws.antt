@@ -21,7 +21,7 @@ use Prim.Native.Nat.{ℕ}
 use native.Mathlib.Omega.{arith}
 use lib.Dec.{eqb}
 use borrow.Author.Tests.{eqb-true, eq-eqb}
-use Rattle.lists.specs.Checks.{and-left, and-right}
+use Rattle.lists.specs.Checks.Laws.{and-left, and-right}
 use Rattle.answers.specs.declared.Refusal.{Refusal}
 use Rattle.answers.specs.Number.{refusalNumber, answerNumber}
 use Rattle.answers.specs.Checks.{checks}

@@ -18,9 +18,9 @@ use Rattle.axes.specs.Asked.{SumsAsked}
 pub blocks-fit : (p : Parameters) → Within p → sumCount p * rowLength p ≤ 9 * 96
 blocks-fit p w = let h : rowLength p ≤ 96 = omega (arith, w .t-most) in mul-le-mul (sums-most p w) h
 
-pub sum-fits : (p : Parameters) (parts blocks sums : List ℕ) → SumsAsked p parts blocks sums → (i : ℕ) → i < sumCount p
-    → (i * shareLength p + shareLength p ≤ length parts) × (i * rowLength p + rowLength p ≤ length blocks)
-sum-fits p parts blocks sums asked i below = (
+pub sum-fits : (p : Parameters) (sums blocks hats : List ℕ) → SumsAsked p sums blocks hats → (i : ℕ) → i < sumCount p
+    → (i * shareLength p + shareLength p ≤ length sums) × (i * rowLength p + rowLength p ≤ length blocks)
+sum-fits p sums blocks hats asked i below = (
   within-blocks i (sumCount p) (shareLength p) _ _ below refl (asked .sized-parts),
   within-blocks i (sumCount p) (rowLength p) _ _ below refl (asked .sized-blocks),
 )

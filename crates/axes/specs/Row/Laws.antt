@@ -14,13 +14,13 @@ use borrow.Author.Tests.{lt-ltb, le-ltb}
 use lib.ListN.{length, take, drop}
 use lib.Seq.{drop-at}
 use Rattle.lists.specs.Sum.{xorList}
-use Rattle.tower.specs.Field.{Point, point, bytesOf, point-bytesOf}
+use Rattle.tower.specs.Field.{Point, point, bytesOf}
+use Rattle.tower.specs.Field.Laws.{point-bytesOf}
 use Rattle.parameters.specs.declared.Parameters.{Parameters}
 use Rattle.layout.specs.Layout.{side, leaves, digit, factorLength, valuesLength, atV}
 use Rattle.exchange.specs.Reading.{points, pointAt, encode, _⊞_}
 use Rattle.exchange.specs.Reading.Laws.{length-encode, encode-ext, pointAt-encode}
 use Rattle.exchange.specs.Values.{Key, alpha, beta, partV}
-use Rattle.exchange.specs.Parties.{sums}
 use Rattle.values.specs.Announced.{gamma, announcedOf, vOf}
 use Rattle.values.specs.Announced.Laws.{two-lengths, announced-front, partV-gamma}
 use Rattle.axes.specs.Difference.{encode-xor, front-xor, shareRow}
@@ -38,11 +38,11 @@ at-end before f t i l e h =
 
 -- ---- a share's row
 
-pub v-read : (p : Parameters) (first : Bool) (s block sums : List ℕ) (l : ℕ) (γ α̂ β̂ r : List ℕ) → γ ≡ bytesOf (pointAt block (atV p + 4 * l))
-    → α̂ ≡ bytesOf (pointAt sums (4 * l)) → β̂ ≡ bytesOf (pointAt sums (factorLength p + 4 * l))
-    → r ≡ bytesOf (vOf p s first (point γ) (point α̂) (point β̂) l) → r ≡ bytesOf (vAt p first s block sums l)
+pub v-read : (p : Parameters) (first : Bool) (s block hats : List ℕ) (l : ℕ) (γ α̂ β̂ r : List ℕ) → γ ≡ bytesOf (pointAt block (atV p + 4 * l))
+    → α̂ ≡ bytesOf (pointAt hats (4 * l)) → β̂ ≡ bytesOf (pointAt hats (factorLength p + 4 * l))
+    → r ≡ bytesOf (vOf p s first (point γ) (point α̂) (point β̂) l) → r ≡ bytesOf (vAt p first s block hats l)
 unfolding vAt
-v-read p first s block sums l γ α̂ β̂ r eγ eα eβ er =
+v-read p first s block hats l γ α̂ β̂ r eγ eα eβ er =
     er ∙ ap (λ (x : Point). bytesOf (vOf p s first x (point α̂) (point β̂) l)) (ap point eγ ∙ point-bytesOf _)
     ∙ ap₂ (λ (x y : Point). bytesOf (vOf p s first (pointAt block (atV p + 4 * l)) x y l)) (ap point eα ∙ point-bytesOf _) (ap point eβ ∙ point-bytesOf _)
 
@@ -52,11 +52,11 @@ module _ (p : Parameters) (key : Key) (m2 : List ℕ) (first : Bool) (s : List �
   unfolding frontBy
   frontBy-is block eb = ap (take (valuesLength p)) eb ∙ announced-front p key m2 first s
 
-  vBy-is : (block sums : List ℕ) (α̂ β̂ : ℕ → Point) → block ≡ announcedOf p key m2 first s → sums ≡ encode α̂ (p .t) ++ encode β̂ (p .t)
-      → vBy p first s block sums ≡ encode (λ l. partV p key m2 first s (α̂ l) (β̂ l) l) (p .t)
+  vBy-is : (block hats : List ℕ) (α̂ β̂ : ℕ → Point) → block ≡ announcedOf p key m2 first s → hats ≡ encode α̂ (p .t) ++ encode β̂ (p .t)
+      → vBy p first s block hats ≡ encode (λ l. partV p key m2 first s (α̂ l) (β̂ l) l) (p .t)
   unfolding vBy vAt announcedOf
-  vBy-is block sums α̂ β̂ eb es =
-      encode-ext _ _ (p .t) (λ l h. ap (λ (x : Point). vOf p s first x (pointAt sums (4 * l)) (pointAt sums (factorLength p + 4 * l)) l) (third l h)
+  vBy-is block hats α̂ β̂ eb es =
+      encode-ext _ _ (p .t) (λ l h. ap (λ (x : Point). vOf p s first x (pointAt hats (4 * l)) (pointAt hats (factorLength p + 4 * l)) l) (third l h)
       ∙ ap₂ (λ (x y : Point). vOf p s first (gamma p m2 s l) x y l)
       (ap (λ (z : List ℕ). pointAt z (4 * l)) es ∙ at-start α̂ (p .t) l (encode β̂ (p .t)) h)
       (ap (λ (z : List ℕ). pointAt z (factorLength p + 4 * l)) es ∙ at-end (encode α̂ (p .t)) β̂ (p .t) (factorLength p) l (length-encode α̂ (p .t)) h)
@@ -67,11 +67,11 @@ module _ (p : Parameters) (key : Key) (m2 : List ℕ) (first : Bool) (s : List �
           ap (λ (z : List ℕ). pointAt z (atV p + 4 * l)) (eb ∙ sym (append-assoc (encode (alpha p key m2 first s) (p .t)) (encode (beta p key m2 first s) (p .t)) _))
           ∙ at-end (encode (alpha p key m2 first s) (p .t) ++ encode (beta p key m2 first s) (p .t)) (gamma p m2 s) (p .t) (atV p) l (two-lengths _ _ (p .t)) h
 
-  pub rowBy-is : (block sums : List ℕ) (α̂ β̂ : ℕ → Point) → block ≡ announcedOf p key m2 first s
-      → sums ≡ encode α̂ (p .t) ++ encode β̂ (p .t) → rowBy p first s block sums ≡ shareRow p key m2 first s α̂ β̂
+  pub rowBy-is : (block hats : List ℕ) (α̂ β̂ : ℕ → Point) → block ≡ announcedOf p key m2 first s
+      → hats ≡ encode α̂ (p .t) ++ encode β̂ (p .t) → rowBy p first s block hats ≡ shareRow p key m2 first s α̂ β̂
   unfolding rowBy shareRow
-  rowBy-is block sums α̂ β̂ eb es =
-      ap₂ _++_ (frontBy-is block eb) (vBy-is block sums α̂ β̂ eb es)
+  rowBy-is block hats α̂ β̂ eb es =
+      ap₂ _++_ (frontBy-is block eb) (vBy-is block hats α̂ β̂ eb es)
       ∙ append-assoc (encode (alpha p key m2 first s) (p .t)) (encode (beta p key m2 first s) (p .t)) _
 
 -- ---- the party that holds the hidden leaf

@@ -16,7 +16,8 @@ use native.Mathlib.Omega.{arith}
 use lib.Dec.{T, eqb, eqb→eq}
 use Rattle.algebra.specs.Polynomial.{plus}
 use Rattle.algebra.specs.Polynomial.Linear.{Linear}
-use Rattle.lists.specs.Xor.{_⊕_, xors, zero-⊕, ⊕-div, ⊕-mod, ⊕-shl}
+use Rattle.lists.specs.Xor.{_⊕_}
+use Rattle.lists.specs.Xor.Laws.{xors, zero-⊕, ⊕-div, ⊕-mod, ⊕-shl}
 use Rattle.lists.specs.Sum.{xorList}
 use Rattle.lists.specs.Computed.{all, below}
 use Rattle.lists.specs.Additive.{Additive, digit-additive-l, digit-additive-r, additive-zero, additive-ext, biadditive-ext}

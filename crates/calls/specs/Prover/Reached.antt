@@ -19,7 +19,7 @@ use lib.ListN.{length, replicate, take, drop}
 use lib.Seq.{take-at}
 use borrow.Author.Tests.{le-leb, eqb-true, eq-eqb, ne-eqb}
 use Rattle.lists.specs.Part.{putAt}
-use Rattle.lists.specs.Checks.{all-at}
+use Rattle.lists.specs.Checks.Laws.{all-at}
 use Rattle.answers.specs.declared.Answer.the-variants.{Done}
 use Rattle.parameters.specs.Limits.Laws.{within-test}
 use Rattle.relation.specs.Key.{weightOf}

@@ -17,7 +17,8 @@ use native.Mathlib.Omega.{arith}
 use native.Mathlib.Decide.{ℕ-discrete}
 use lib.Dec.{eqb, leb, ltb}
 use borrow.Author.Tests.{not-false, le-leb, ltb-true, lt-ltb, eq-eqb, ne-eqb}
-use Rattle.lists.specs.Checks.{allTrue, and-left, and-right}
+use Rattle.lists.specs.Checks.{allTrue}
+use Rattle.lists.specs.Checks.Laws.{and-left, and-right}
 use Rattle.lists.specs.Equal.{eqList}
 use Rattle.lists.specs.Equal.Laws.{eqList-true, eqList-of}
 use Rattle.answers.specs.Order.{holds, firstOf, answerOf}

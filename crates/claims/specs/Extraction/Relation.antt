@@ -9,7 +9,8 @@ use mathlib.Core.Bool.{true, false}
 use mathlib.Core.List.{List}
 use Prim.Native.Nat.{ℕ, _-_, _<_}
 use lib.ListN.{length}
-use Rattle.algebra.specs.Ring.{Ring2, ring, combine}
+use Rattle.algebra.specs.Ring.{Ring2}
+use Rattle.algebra.specs.Ring.Laws.{ring, combine}
 use Rattle.cube.specs.Group.{pair-path}
 use Rattle.cube.specs.Sum.{sum}
 use Rattle.cube.specs.Sum.Laws.{sum-pairs, cond-ne}

@@ -18,7 +18,8 @@ use lib.Seq.{take-at, drop-at}
 use Rattle.cube.specs.Sum.Laws.{sum-ext}
 use Rattle.lists.specs.Sum.{xorList}
 use Rattle.lists.specs.Sum.Laws.{length-xorList, xorList-comm, xorList-assoc, xorList-self, xorList-zeros}
-use Rattle.polynomial.specs.Bytes.{Bytes, byte-at, bytes-append, bytes-xorList}
+use Rattle.polynomial.specs.Bytes.{Bytes}
+use Rattle.polynomial.specs.Bytes.Laws.{byte-at, bytes-append, bytes-xorList}
 use Rattle.relation.specs.Key.Vector.{bytes-rows}
 use Rattle.parameters.specs.declared.Parameters.{Parameters}
 use Rattle.layout.specs.Layout.{leaves, shareLength, atX, atQ}

@@ -13,16 +13,19 @@ use Prim.Native.Nat.{ℕ, zero, suc, _+_, _-_, _%_, _≤_, _<_}
 use native.Mathlib.Nat.{mod-eq-of-lt}
 use native.Mathlib.Omega.{arith}
 use lib.ListN.{length, length-map}
-use Rattle.algebra.specs.Each.{Each, each-map, Distinct}
-use Rattle.algebra.specs.Ring.{Ring2, ops, ring, equal-of-sum, combine}
-use Rattle.algebra.specs.Field.{no-zero-divisor}
+use Rattle.algebra.specs.Each.{Each, Distinct}
+use Rattle.algebra.specs.Each.Laws.{each-map}
+use Rattle.algebra.specs.Ring.{Ring2, ops}
+use Rattle.algebra.specs.Ring.Laws.{ring, equal-of-sum, combine}
+use Rattle.algebra.specs.Field.Laws.{no-zero-divisor}
 use Rattle.algebra.specs.Polynomial.{eval, vanishing, product, values}
 use Rattle.algebra.specs.Polynomial.Maps.{map-eval, map-product}
 use Rattle.algebra.specs.Weight.{support, keepNonzero, weight-bound}
 use Rattle.bytefield.specs.Product.{byteOps}
 use Rattle.bytefield.specs.Byte.{Byte, byte, byteRing, byte-path}
 use Rattle.tower.specs.Point.{lone}
-use Rattle.tower.specs.Field.{Point, point, point-lone, loneOf, loneField}
+use Rattle.tower.specs.Field.{Point, point, loneOf}
+use Rattle.tower.specs.Field.Laws.{point-lone, loneField}
 use Rattle.polynomial.specs.Bytes.{Bytes, inField}
 use Rattle.polynomial.specs.Interpolant.{interpolationPoints, interpolantOf, vanishingOf}
 use Rattle.polynomial.specs.Interpolant.Laws.{length-ascending, points-distinct, length-interpolant, interpolant-values}

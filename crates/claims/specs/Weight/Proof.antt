@@ -10,7 +10,8 @@ use native.Mathlib.Nat.{le-of-eq}
 use native.Mathlib.Decide.{ℕ-discrete}
 use native.Mathlib.Omega.{arith}
 use lib.ListN.{length, replicate, length-replicate}
-use Rattle.algebra.specs.Each.{Each, each-map, Distinct}
+use Rattle.algebra.specs.Each.{Each, Distinct}
+use Rattle.algebra.specs.Each.Laws.{each-map}
 use Rattle.tower.specs.Field.{Point}
 use Rattle.parameters.specs.declared.Parameters.{Parameters}
 use Rattle.parameters.specs.Limits.{Within}

@@ -23,12 +23,6 @@ zeros = replicate 255 0
 front : (s : tie.Start) → s .args .p .m ≡ length (take (s .args .p .m) zeros)
 front s = front-length (s .args .p .m) zeros (s .pre .0 .within .m-most)
 
-vectors-requires : tie.Need-vectors-requires
-vectors-requires c κs =
-    let s : tie.Start = search in
-    let sized-words = sym (front s) in
-    search
-
 made : (v : tie.After-vectors) → length (v .vectors .last .1 .1 .1 .1 .1 .1 .0) ≡ back-to-start v .args .p .m
 made v = v .vectors .kept .1 .1 .1 .1 .1 .1 .0 ∙ sym (front (back-to-start v))
 
@@ -37,12 +31,8 @@ words : (v : tie.After-vectors) → length (v .vectors .last .1 .1 .1 .1 .1 .1 .
 words v = let s = back-to-start v in front-kept (s .args .p .m) (v .vectors .last .1 .1 .1 .1 .1 .1 .0) zeros (made v) (s .pre .0 .within .m-most)
 
 interpolate-requires : tie.Need-interpolate-requires
-interpolate-requires c κs =
-    let v : tie.After-vectors = search in
-    let s = back-to-start v in
-    let (r, few, l, el, ep) = s .pre in
-    let w = r .within in
-    (words v, omega arith, omega arith, l .made-weights, l .made-complement, el, ep)
+interpolate-requires c κs = let v : tie.After-vectors = search in let s = back-to-start v in let (r, few, l, et) = s .pre in let w = r .within in
+    (words v, omega arith, omega arith, l, et)
 
 abbrev back-to-vectors : tie.After-interpolate → tie.After-vectors
 back-to-vectors c = search
@@ -51,27 +41,20 @@ full : (d : tie.After-interpolate) → length (d .interpolate .last .0) ≡ 255
 full d = d .interpolate .kept .0 ∙ words (back-to-vectors d)
 
 unpack-requires : tie.Need-unpack-requires
-unpack-requires c κs =
-    let d : tie.After-interpolate = search in
-    let s = back-to-start (back-to-vectors d) in
-    let m = s .args .p .m in
+unpack-requires c κs = let d : tie.After-interpolate = search in let s = back-to-start (back-to-vectors d) in let m = s .args .p .m in
     let e : length (take (255 - (255 - m)) (drop (255 - m) (d .interpolate .last .0))) ≡ m
     = simp (length-take, length-drop) (omega (arith, full d, s .pre .0 .within)) in
-    (s .pre .1, s .pre .0 .sized-rows ∙ ap (λ (n : ℕ). s .args .n * n) (sym e))
+    (s .pre .1, s .pre .0 .sized-rows ∙ ap (λ (n : ℕ). s .args .group .n * n) (sym e))
 
 returns : tie.Need-returns
-returns c =
-    let u : tie.After-unpack = search in
-    let d : tie.After-interpolate = search in
-    let v = back-to-vectors d in
-    let s = back-to-start v in
-    let a = s .args in
-    let words = d .interpolate .last .0 in
-    rows-made (a .p) (keyOf (a .matrix .now) (a .y .now)) (a .first) (a .shares .now) (a .n) (a .p .m) (v .vectors .last .1 .1 .1 .1 .1 .1 .0)
+returns c = let u : tie.After-unpack = search in let d : tie.After-interpolate = search in let v = back-to-vectors d in let s = back-to-start v in
+    let a = s .args in let words = d .interpolate .last .0 in
+    rows-made (a .p) (keyOf (a .matrix .now) (a .y .now)) (a .group .first) (a .shares .now) (a .group .n) (a .p .m) (v .vectors .last .1 .1 .1 .1 .1 .1 .0)
     (drop (a .p .m) zeros) words _ (s .pre .1) (made v) (λ i h. v .vectors .ensures i (omega (arith, s .pre .1))) (d .interpolate .ensures)
-    (u .unpack .ensures ∙ ap (λ (l : ℕ). joined (λ i. share i (take (l - (255 - a .p .m)) (drop (255 - a .p .m) words))) (a .n)) (sym (full d)))
+    (u .unpack .ensures ∙ ap (λ (l : ℕ). joined (λ i. share i (take (l - (255 - a .p .m)) (drop (255 - a .p .m) words))) (a .group .n)) (sym (full d)))
 
 pub interpolate-group-spec : {M : Type 1} → statement M
-interpolate-group-spec = tie.close (tie.spec (λ c. search needs) (λ c. let s : tie.Start = search in front s) vectors-requires
-    (λ c. let v : tie.After-vectors = search in sym (words v)) interpolate-requires (λ c. search needs) (λ c. search needs)
-    (λ c. search needs) (λ c. search needs) (λ c. search needs) unpack-requires (λ c. search needs) returns)
+interpolate-group-spec = tie.close (tie.spec (λ c. search needs) (λ c. let s : tie.Start = search in front s)
+    (λ c κs. let s : tie.Start = search in let sized-words = sym (front s) in search) (λ c. let v : tie.After-vectors = search in sym (words v))
+    interpolate-requires (λ c. search needs) (λ c. search needs) (λ c. search needs) (λ c. search needs) (λ c. search needs) unpack-requires
+    (λ c. search needs) returns)

@@ -20,23 +20,13 @@ abbrev μ-loop : tie.MeasureT-loop
 
 -- share i has its place
 inside : (q : tie.In-loop Inv-loop μ-loop) → q .before .loop .at + length (q .before .before .before .before .args .words .now) ≤ length (q .before .loop .rows)
-inside q =
-    let s : tie.Start Inv-loop μ-loop = search in
-    let p = q .before .loop in
+inside q = let s : tie.Start Inv-loop μ-loop = search in let p = q .before .loop in
     within-blocks (p .i) (s .args .n) _ (p .at) _ (q .loop-test .taken) (p .inv .1) (p .inv .3 ∙ s .pre .1)
-
-loop-holds : tie.Need-loop-holds Inv-loop μ-loop
-loop-holds c = let e = zero-mul (length (c .before .before .args .words .now)) in (omega arith, omega arith, blocks-none _ _ _, refl)
 
 loop-again : tie.Need-loop-again Inv-loop μ-loop
 loop-again c =
-    let d : tie.After-share Inv-loop μ-loop = search in
-    let q : tie.In-loop Inv-loop μ-loop = search in
-    let s : tie.Start Inv-loop μ-loop = search in
-    let p = q .before .loop in
-    let w = s .args .words .now in
-    let u = d .share .last .1 .1 .0 in
-    let fits = inside q in
+    let d : tie.After-share Inv-loop μ-loop = search in let q : tie.In-loop Inv-loop μ-loop = search in let s : tie.Start Inv-loop μ-loop = search in
+    let p = q .before .loop in let w = s .args .words .now in let u = d .share .last .1 .1 .0 in let fits = inside q in
     let eu : length u ≡ length w = d .share .kept .1 .1 .0 ∙ length-block (p .at) (length w) (p .rows) fits in (
       omega arith,
       next-block (p .i) _ (p .at) (p .inv .1),
@@ -46,13 +36,11 @@ loop-again c =
     )
 
 returns : tie.Need-returns Inv-loop μ-loop
-returns c =
-    let s : tie.Start Inv-loop μ-loop = search in
-    let p : tie.At-loop Inv-loop μ-loop = search in
-    let w = s .args .words .now in
+returns c = let s : tie.Start Inv-loop μ-loop = search in let p : tie.At-loop Inv-loop μ-loop = search in let w = s .args .words .now in
     blocks-end (λ j. share j w) (length w) (s .args .n) (s .args .rows .now) (s .pre .1) (p .loop .rows) (p .loop .i) (omega arith) (p .loop .inv .2)
 
 pub unpack-spec : {M : Type 1} → statement M
-unpack-spec = tie.close (tie.spec Inv-loop μ-loop loop-holds (λ c. omega (arith, inside c)) (λ c. search needs)
-    (λ c. search needs) (λ c. omega (arith, inside c)) (λ c κs. search needs) (λ c. search needs) (λ c. search needs)
-    loop-again (λ c. search needs) returns)
+unpack-spec = tie.close (tie.spec Inv-loop μ-loop
+    (λ c. let e = zero-mul (length (c .before .before .args .words .now)) in (omega arith, omega arith, blocks-none _ _ _, refl))
+    (λ c. omega (arith, inside c)) (λ c. search needs) (λ c. search needs) (λ c. omega (arith, inside c)) (λ c κs. search needs) (λ c. search needs)
+    (λ c. search needs) loop-again (λ c. search needs) returns)

@@ -14,7 +14,7 @@ use Rattle.lists.specs.Part.{part}
 use Rattle.lists.specs.Part.Laws.{length-part, part-part, part-fits}
 use Rattle.lists.specs.Sum.{xorList}
 use Rattle.lists.specs.Sum.Laws.{xorList-comm, xorList-zeros, length-xorList}
-use Rattle.polynomial.specs.Bytes.{bytes-from, byte-at, bytes-take}
+use Rattle.polynomial.specs.Bytes.Laws.{bytes-from, byte-at, bytes-take}
 use Rattle.exchange.specs.Sequences.Laws.{bytes-drop}
 use Rattle.exchange.specs.Reading.{bytesAt}
 use Rattle.exchange.specs.Reading.Laws.{length-bytesAt, bytesAt-part}

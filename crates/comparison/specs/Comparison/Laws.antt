@@ -32,9 +32,10 @@ use Rattle.exchange.specs.Opening.{Exchange, commitmentOf, auxOf, openedState, 
 use Rattle.exchange.specs.Opening.Laws.{length-commitments}
 use Rattle.exchange.specs.Extractor.{openedInBoth, axis, auxFrom, stateFrom, output, extract}
 use Rattle.exchange.specs.Extractor.Laws.{string-7, string-6, string-5, string-4, axis-is}
+use Rattle.leaves.specs.Commitments.{commitmentsOf}
 use Rattle.comparison.specs.Head.{least-ext}
 use Rattle.comparison.specs.Chain.{differsAt, extract-chain}
-use Rattle.comparison.specs.Comparison.{View, stateAt, rowAt, digestAt, commitmentAt, leafAt, apart, openedBoth, commitments, firstApart, firstOpened, stateOf, outputOf, axisOf, comparison}
+use Rattle.comparison.specs.Comparison.{View, stateAt, rowAt, digestAt, leafAt, apart, openedBoth, commitments, firstApart, firstOpened, stateOf, outputOf, axisOf, leafComparison, comparison}
 
 -- ---- comparisons
 
@@ -99,7 +100,7 @@ module _ (p : Parameters) (key : Key) (prefix : List ℕ) (e : Exchange) (v : Vi
       (λ j l. ap (λ (x : List ℕ). SHAKE256 x 32) (row-string j l)))
 
   commitment-at : (i : ℕ) → i < leaves p → leafCommitment SHAKE256 p e i ≡ commitments p prefix v i
-  unfolding leafCommitment leafString commitment commitmentAt
+  unfolding leafCommitment leafString commitment commitmentsOf
   commitment-at i l = go (ℕ-discrete i (e .leaf))
     where
       go : Dec (i ≡ e .leaf)
@@ -114,8 +115,8 @@ module _ (p : Parameters) (key : Key) (prefix : List ℕ) (e : Exchange) (v : Vi
       ap₂ (string 5) (s .salt)
       (joined-ext (leafCommitment SHAKE256 p e) (commitments p prefix v) (leaves p) commitment-at)
 
-  length-commitmentAt : (i : ℕ) → i < leaves p → length (commitments p prefix v i) ≡ 32
-  length-commitmentAt i l = ap length (sym (commitment-at i l)) ∙ length-commitments SHAKE256 p e length-SHAKE256 (s .sent) i
+  length-commitment : (i : ℕ) → i < leaves p → length (commitments p prefix v i) ≡ 32
+  length-commitment i l = ap length (sym (commitment-at i l)) ∙ length-commitments SHAKE256 p e length-SHAKE256 (s .sent) i
 
   leaf-string : (i : ℕ) → i < leaves p → (i ≡ e .leaf → ⊥) → leafString SHAKE256 p e i ≡ string 4 prefix (i ∷ leafAt p (v .states) (v .aux) i)
   unfolding leafString string4 leafAt
@@ -148,7 +149,7 @@ module _ (p : Parameters) (within : Within p) (key : Key) (prefix : List ℕ) (e
   at-5 =
       ap₂ (λ (a b : List ℕ). not (eqList a b)) (string-5 SHAKE256 p key e ∙ commitment-string p key prefix e v s)
       (string-5 SHAKE256 p key e′ ∙ commitment-string p key prefix e′ v′ s′)
-      ∙ sym (joined-apart _ _ (leaves p) 32 5 prefix (length-commitmentAt p key prefix e v s) (length-commitmentAt p key prefix e′ v′ s′))
+      ∙ sym (joined-apart _ _ (leaves p) 32 5 prefix (length-commitment p key prefix e v s) (length-commitment p key prefix e′ v′ s′))
 
   at-4 : least (λ i. openedInBoth p e e′ i && differsAt SHAKE256 p key e e′ 4 i) (leaves p) ≡ firstOpened (v .leaf) (v′ .leaf) (leafAt p (v .states) (v .aux)) (leafAt p (v′ .states) (v′ .aux)) (leaves p)
   unfolding firstOpened
@@ -203,5 +204,5 @@ module _ (p : Parameters) (within : Within p) (key : Key) (prefix : List ℕ) (e
       ap₂ _++_ (joined-ext (stateFrom SHAKE256 p e e′) (stateOf (v .leaf) (v .states) (v′ .states)) (leaves p) state-same) (rw (s .aux, s′ .aux, s .leaf))
 
   pub comparison-is : comparison p prefix v v′ ≡ extract SHAKE256 p key e e′
-  unfolding comparison
+  unfolding comparison leafComparison
   comparison-is = sym (extract-chain SHAKE256 p key e e′ ∙ rw (at-7, at-6, at-5, at-4, axis-same, output-same))

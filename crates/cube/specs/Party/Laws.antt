@@ -15,7 +15,8 @@ use mathlib.Core.Bool.{Bool, true, false, _&&_, not, cond}
 use Prim.Native.Nat.{ℕ, _<_}
 use native.Mathlib.Decide.{ℕ-discrete}
 use lib.Dec.{eqb}
-use Rattle.cube.specs.Group.{Group2, zero-add, equal-of-sum, pairs}
+use Rattle.cube.specs.Group.{Group2, pairs}
+use Rattle.cube.specs.Group.Laws.{zero-add, equal-of-sum}
 use Rattle.cube.specs.Sum.{sum}
 use Rattle.cube.specs.Sum.Laws.{eqb-comm, cond-eq, cond-ne, sum-ext, sum-add, sum-single, sum-partition, cond-pairs, sum-pairs}
 use Rattle.cube.specs.Party.{Partition, replaced, balanced, memberSum, disclosedSum, party}

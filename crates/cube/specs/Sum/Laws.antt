@@ -17,7 +17,8 @@ use native.Mathlib.Decide.{ℕ-discrete}
 use native.Mathlib.Omega.{arith}
 use borrow.Author.Tests.{eq-eqb, ne-eqb}
 use lib.Dec.{eqb}
-use Rattle.cube.specs.Group.{Group2, zero-add, add4, pairs}
+use Rattle.cube.specs.Group.{Group2, pairs}
+use Rattle.cube.specs.Group.Laws.{zero-add, add4}
 use Rattle.cube.specs.Sum.{sum}
 
 -- ---- choices

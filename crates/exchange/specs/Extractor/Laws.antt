@@ -17,7 +17,7 @@ use Prim.Native.Nat.{ℕ, _+_, _-_, _<_}
 use native.Mathlib.Omega.{arith}
 use borrow.Author.Tests.{ne-eqb, eqb-false, not-true, not-false}
 use lib.Dec.{eqb}
-use Rattle.lists.specs.Checks.{and-left, and-right}
+use Rattle.lists.specs.Checks.Laws.{and-left, and-right}
 use Rattle.lists.specs.Equal.{eqList}
 use Rattle.lists.specs.Equal.Laws.{eqList-true, eqList-false, eqList-of}
 use Rattle.parameters.specs.declared.Parameters.{Parameters}

@@ -12,7 +12,8 @@ use Prim.Native.Nat.{ℕ, _+_, _-_, _≤_}
 use native.Mathlib.Nat.{le-of-eq}
 use native.Mathlib.Omega.{arith}
 use lib.ListN.{length, take, length-append}
-use Rattle.polynomial.specs.Bytes.{Bytes, bytes-append}
+use Rattle.polynomial.specs.Bytes.{Bytes}
+use Rattle.polynomial.specs.Bytes.Laws.{bytes-append}
 use Rattle.parameters.specs.declared.Parameters.{Parameters}
 use Rattle.layout.specs.Layout.{leaves, isLast, auxLength, shareLength, atX}
 use Rattle.layout.specs.Layout.Laws.{isLast-true, isLast-false}

@@ -16,7 +16,8 @@ use lib.ListN.{length, take, drop, length-append, length-take, length-drop}
 use Rattle.lists.specs.Sum.Laws.{length-xorList}
 use Rattle.parameters.specs.declared.Parameters.{Parameters}
 use Rattle.parameters.specs.Limits.{Within}
-use Rattle.polynomial.specs.Bytes.{Bytes, bytes-take, bytes-append, bytes-xorList}
+use Rattle.polynomial.specs.Bytes.{Bytes}
+use Rattle.polynomial.specs.Bytes.Laws.{bytes-take, bytes-append, bytes-xorList}
 use Rattle.relation.specs.Key.{weightOf, locatorOf, quotientOf}
 use Rattle.relation.specs.Key.Polynomials.{length-locator, length-quotient, bytes-locator, bytes-quotient}
 use Rattle.layout.specs.Layout.{levels, leaves, isLast, pointsLength, factorLength, valuesLength, auxLength, shareLength, atX, siblingsLength, message5Length}

@@ -15,7 +15,8 @@ use lib.ListN.{length, getD, take, drop, length-append, length-drop, drop-of-len
 use lib.Seq.{getD-take, take-at, drop-at, take-all}
 use Rattle.lists.specs.Sum.{xorList}
 use Rattle.lists.specs.Sum.Laws.{take-xorList, drop-xorList, xorList-nil, xorList-comm, xorList-assoc, xorList-self, xorList-zeros}
-use Rattle.algebra.specs.Ring.{Ring2, ring, combine}
+use Rattle.algebra.specs.Ring.{Ring2}
+use Rattle.algebra.specs.Ring.Laws.{ring, combine}
 use Rattle.tower.specs.Field.{Point}
 use Rattle.parameters.specs.declared.Parameters.{Parameters}
 use Rattle.polynomial.specs.Interpolant.{interpolantOf, vanishingOf}

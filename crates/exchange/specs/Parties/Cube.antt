@@ -15,7 +15,8 @@ use lib.Dec.{eqb}
 use lib.ListN.{replicate, length-replicate}
 use Rattle.lists.specs.Sum.{xorList}
 use Rattle.lists.specs.Sum.Laws.{xorList-self}
-use Rattle.cube.specs.Group.{Group2, additive, pairs, pair-path, zero-add}
+use Rattle.cube.specs.Group.{Group2, additive, pairs, pair-path}
+use Rattle.cube.specs.Group.Laws.{zero-add}
 use Rattle.cube.specs.Sum.{sum}
 use Rattle.cube.specs.Party.{Partition, party, memberSum}
 use Rattle.cube.specs.Party.Laws.{party-pairs}

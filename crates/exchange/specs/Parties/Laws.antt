@@ -18,7 +18,8 @@ use lib.ListN.{length, drop, replicate, length-append, length-replicate}
 use lib.Dec.{lit<}
 use Rattle.lists.specs.Sum.{xorList}
 use Rattle.lists.specs.Sum.Laws.{length-xorList, xorList-comm, xorList-assoc, xorList-self, xorList-zeros}
-use Rattle.polynomial.specs.Bytes.{Bytes, bytes-xorList}
+use Rattle.polynomial.specs.Bytes.{Bytes}
+use Rattle.polynomial.specs.Bytes.Laws.{bytes-xorList}
 use Rattle.parameters.specs.declared.Parameters.{Parameters}
 use Rattle.layout.specs.Layout.{side, rowLength, shareLength}
 use Rattle.exchange.specs.Sequences.Laws.{append-inj, joined-inj}

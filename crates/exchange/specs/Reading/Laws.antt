@@ -30,9 +30,12 @@ use Rattle.algebra.specs.Polynomial.Evaluation.{eval-plus, eval-times}
 use Rattle.algebra.specs.Polynomial.Maps.{map-plus, map-times, map-eval}
 use Rattle.bytefield.specs.Product.{_⊗_, byteOps}
 use Rattle.bytefield.specs.Product.Laws.{xorList-plus}
-use Rattle.bytefield.specs.Byte.{byte, byteRing, byte-add, byte-homomorphism}
+use Rattle.bytefield.specs.Byte.{byte, byteRing}
+use Rattle.bytefield.specs.Byte.Laws.{byte-add, byte-homomorphism}
 use Rattle.tower.specs.Point.{lone}
-use Rattle.tower.specs.Field.{Point, pointField, point, bytesOf, point-bytesOf, point-lone, loneOf, loneField}
+use Rattle.tower.specs.Field.{Point, pointField, point, bytesOf, loneOf}
+use Rattle.tower.specs.Field.Laws.{point-bytesOf}
+use Rattle.tower.specs.Field.Laws.{point-lone, loneField}
 use Rattle.polynomial.specs.Bytes.{Bytes}
 use Rattle.exchange.specs.Sequences.{joined}
 use Rattle.exchange.specs.Sequences.Laws.{length-joined, joined-ext, joined-inj, joined-at, bytes-joined}

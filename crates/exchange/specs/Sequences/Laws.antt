@@ -4,7 +4,10 @@
 -- bytes-drop               what is left of a list of bytes
 -- length-joined            the length of n joined lists of one length
 -- joined-ext, joined-inj   equal lists give equal joins; lists of one length with equal joins are equal
--- joined-at, joined-rest   list i is found at its place, and what follows the joined lists behind them
+-- joined-at, part-joined   list i is found at its place
+-- joined-rest              what follows the joined lists stands behind them
+-- joined-parts             a list of n blocks of one size is the join of its blocks
+-- joined-zeros             blocks of zeros
 -- bytes-joined             joined lists of bytes are bytes
 -- length-listed, getD-listed   the length of a listed family, and its member i
 -- listed-ext               equal members give equal lists
@@ -18,17 +21,19 @@
 use mathlib.Core.Path.{_≡_, refl, sym, ap, ap₂, _∙_, subst}
 use mathlib.Core.Bool.{Bool, true, false, cond}
 use mathlib.Core.Logic.{_⊎_, inl, inr, ⊎-elim}
-use mathlib.Core.List.{List, [], _∷_, _++_, append-assoc, List·Memᴰ, List·Memᴰ·head, List·Memᴰ·tail, List·Memᴰ·not-nil, List·Memᴰ·cases-cons, List·Memᴰ·append-cases, List·Memᴰ·eq-of-singleton, Memᴰ·append-left, Memᴰ·append-right}
+use mathlib.Core.List.{List, [], _∷_, _++_, append-assoc, append-nil, List·Memᴰ, List·Memᴰ·head, List·Memᴰ·tail, List·Memᴰ·not-nil, List·Memᴰ·cases-cons, List·Memᴰ·append-cases, List·Memᴰ·eq-of-singleton, Memᴰ·append-left, Memᴰ·append-right}
 use Prim.Native.Nat.{ℕ, zero, suc, _+_, _*_, _≤_, _<_}
-use native.Mathlib.Nat.{not-suc-le-zero, le-refl, suc-mul, zero-mul}
+use native.Mathlib.Nat.{not-suc-le-zero, le-refl, le-of-eq, suc-mul, zero-mul}
 use native.Mathlib.Numerals.{add-one}
 use native.Mathlib.Decide.{decLt, ℕ-discrete}
 use native.Mathlib.Omega.{arith}
 use borrow.Author.Tests.{lt-ltb, le-ltb}
 use lib.Dec.{ltb}
-use lib.ListN.{length, getD, take, drop, length-append, List·getD-append}
-use lib.Seq.{take-at, drop-at, getD-at}
-use Rattle.polynomial.specs.Bytes.{Bytes, bytes-append}
+use lib.ListN.{length, getD, take, drop, replicate, length-append, replicate-append-replicate, List·getD-append}
+use lib.Seq.{take-add, take-all, take-at, drop-at, getD-at}
+use Rattle.lists.specs.Part.{part}
+use Rattle.polynomial.specs.Bytes.{Bytes}
+use Rattle.polynomial.specs.Bytes.Laws.{bytes-append}
 use Rattle.exchange.specs.Sequences.{joined, listed, those, least}
 
 pub append-inj : {A : Type 0} (a b c d : List A) → length a ≡ length c → a ++ b ≡ c ++ d → (a ≡ c) × (b ≡ d)
@@ -96,8 +101,29 @@ module _ (f : ℕ → List ℕ) (size : ℕ) where
           ∙ take-at (f n) rest size (h n (le-refl (suc n))) ∙ ap f (sym e)
       go (no e) ih = ih (omega arith)
 
+  pub part-joined : (n : ℕ) → ((i : ℕ) → i < n → length (f i) ≡ size) → (i : ℕ) → i < n → part (joined f n) (i * size) size ≡ f i
+  unfolding part
+  part-joined n h i l = ap (λ (s : List ℕ). take size (drop (i * size) s)) (sym (append-nil (joined f n))) ∙ joined-at n h [] i l
+
   pub joined-rest : (n : ℕ) → ((i : ℕ) → i < n → length (f i) ≡ size) → (rest : List ℕ) → drop (n * size) (joined f n ++ rest) ≡ rest
   joined-rest n h rest = drop-at (joined f n) rest (n * size) (length-joined f n size h)
+
+front : (d : List ℕ) (size n : ℕ) → take (n * size) d ≡ joined (λ q. part d (q * size) size) n
+unfolding joined part
+front d size zero = ap (λ (k : ℕ). take k d) (zero-mul size)
+front d size (suc n) =
+    ap (λ (k : ℕ). take k d) (suc-mul n size) ∙ take-add (n * size) size d
+    ∙ ap (λ (s : List ℕ). s ++ take size (drop (n * size) d)) (front d size n)
+
+pub joined-parts : (d : List ℕ) (size n : ℕ) → length d ≡ n * size → d ≡ joined (λ q. part d (q * size) size) n
+joined-parts d size n e = sym (take-all (n * size) d (le-of-eq e)) ∙ front d size n
+
+pub joined-zeros : (size n : ℕ) → joined (λ q. replicate size 0) n ≡ replicate (n * size) 0
+unfolding joined
+joined-zeros size zero = ap (λ (k : ℕ). replicate k 0) (sym (zero-mul size))
+joined-zeros size (suc n) =
+    ap (λ (s : List ℕ). s ++ replicate size 0) (joined-zeros size n) ∙ replicate-append-replicate (n * size) size 0
+    ∙ ap (λ (k : ℕ). replicate k 0) (sym (suc-mul n size))
 
 -- ---- listed
 

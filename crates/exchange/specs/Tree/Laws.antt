@@ -16,7 +16,8 @@ use borrow.Author.Tests.{lt-ltb, le-ltb}
 use lib.Dec.{ltb}
 use lib.ListN.{length, getD, take, drop, length-append, length-take, length-drop, List·getD-append}
 use lib.Seq.{getD-append-add, take-at, drop-at}
-use Rattle.polynomial.specs.Bytes.{Bytes, bytes-append, bytes-take}
+use Rattle.polynomial.specs.Bytes.{Bytes}
+use Rattle.polynomial.specs.Bytes.Laws.{bytes-append, bytes-take}
 use Rattle.exchange.specs.Sequences.Laws.{bytes-drop}
 use Rattle.exchange.specs.Tree.{seedsOf, children, leftSeed, rightSeed, leafSeeds, siblings, siblingSeeds, openedSeeds}
 

@@ -17,10 +17,12 @@ use native.Mathlib.Nat.{le-of-eq}
 use native.Mathlib.Omega.{arith}
 use lib.ListN.{length, drop, replicate, length-append, length-replicate}
 use lib.Seq.{drop-at}
-use Rattle.lists.specs.Xor.{zero-⊕, _⊕_}
+use Rattle.lists.specs.Xor.{_⊕_}
+use Rattle.lists.specs.Xor.Laws.{zero-⊕}
 use Rattle.lists.specs.Sum.{xorList}
 use Rattle.lists.specs.Sum.Laws.{xorList-nil, xorList-comm, xorList-assoc, xorList-self, xorList-append, xorList-zeros, length-xorList}
-use Rattle.algebra.specs.Ring.{Ring2, ring}
+use Rattle.algebra.specs.Ring.{Ring2}
+use Rattle.algebra.specs.Ring.Laws.{ring}
 use Rattle.tower.specs.Field.{Point}
 use Rattle.parameters.specs.declared.Parameters.{Parameters}
 use Rattle.polynomial.specs.Interpolant.{interpolantOf}

@@ -1,66 +1,91 @@
--- Two openings that passed the checks before 5 and were judged.
+-- Two openings that passed the checks before 5 and were judged against the statement of the first.
 --
--- states-most, rows-most   states of all leaves, and rows of all axes, take at most so many bytes
--- openings                 they can be compared
--- compared-is              their comparison is the extractor's answer
-use mathlib.Core.Path.{_≡_, sym, ap, subst}
+-- first-judged, second-judged   the exchanges that were judged
+-- asked           what they gave may be compared
+-- found           the comparison gives the extractor's answer
+use mathlib.Core.Path.{_≡_, sym, ap, ap₂, _∙_, subst}
 use mathlib.Core.List.{List}
-use Prim.Native.Nat.{ℕ, _*_, _≤_}
+use Prim.Native.Nat.{ℕ}
 use native.Mathlib.Omega.{arith}
-use lib.ListN.{length, take}
+use lib.ListN.{length, take, drop}
 use Rattle.shake256.specs.Fips.{SHAKE256}
 use Rattle.answers.specs.declared.Answer.{Answer}
 use Rattle.parameters.specs.declared.Parameters.{Parameters}
-use Rattle.parameters.specs.Limits.{Within}
-use Rattle.layout.specs.Layout.Bounds as bounds
-use Rattle.layout.specs.Layout.{leaves, axisLength}
 use Rattle.exchange.specs.Values.{Key}
-use Rattle.exchange.specs.Opening.{exchange}
-use Rattle.exchange.specs.Extractor.{extract}
-use Rattle.layout.specs.Layout.Bounds.{leaves-most}
+use Rattle.exchange.specs.Opening.{Exchange, exchange}
+use Rattle.exchange.specs.Extractor.{Finding, extract}
+use Rattle.reader.specs.Message5.{auxIn}
+use Rattle.reader.specs.Message5.Laws.{aux-inside, all-aux}
+use Rattle.layout.specs.Layout.{openedLength}
+use Rattle.layout.specs.Layout.Bounds.{opened-most}
+use Rattle.openings.specs.Statement.{statementOf, exchangeIn}
+use Rattle.openings.specs.Statement.Laws.{exchange-in}
 use Rattle.calls.specs.Extractor.{Transcript, exchangeOf}
-use Rattle.extractor.specs.Early.{Early}
+use Rattle.comparison.specs.declared.findings.Extraction.{Extraction}
 use Rattle.comparison.specs.Comparison.{comparison}
 use Rattle.comparison.specs.Comparison.Laws.{Shows, comparison-is}
-use Rattle.extractor.specs.Judged.{viewOf, Judged, shows, viewed, Openings}
-
-pub states-most : (p : Parameters) → Within p → 32 * leaves p ≤ 8192
-states-most p h = omega (arith, leaves-most p h)
-
-pub rows-most : (p : Parameters) → Within p → p .axes * axisLength p ≤ 1536
-rows-most p h = bounds.rows-most p h
+use Rattle.comparison.specs.Opened.{viewOf}
+use Rattle.comparison.specs.Found.{Found}
+use Rattle.extractor.specs.Early.{Early}
+use Rattle.extractor.specs.Compared.{Comparing}
+use Rattle.extractor.specs.Judged.{Judged, shows}
 
 module _ (p : Parameters) (t t′ : Transcript) (key : Key) (work out : List ℕ) (early : Early SHAKE256 p t t′ key work out) where
-  module _ (states rows others other-rows : List ℕ) (size : length states ≡ 8192) (rows-size : length rows ≡ 1536) (size′ : length others ≡ 8192)
-      (rows-size′ : length other-rows ≡ 1536) where
-    pub openings : Openings p (t .message1) (t .leaf) (t .message5) states rows (t′ .leaf) (t′ .message5) others other-rows out
-    openings =
-        let a = states-most p (early .within) in
-        let b = rows-most p (early .within) in
-        record {
-          salt = omega (arith, early .first .size1);
-          size5 = early .first .size5;
-          size5′ = early .second .size5;
-          views = record {
-            within = early .within;
-            first = viewed p t (early .first) states rows (early .below) (omega arith) (omega arith);
-            second = viewed p t′ (early .second) others other-rows (early .below′) (omega arith) (omega arith);
-            other = early .other;
-            room = early .room;
-          };
-        }
+  module _ (s : List ℕ) (made : s ≡ statementOf (drop 32 (t .message1)) (t .message3) (t .message2) (take 32 (t .message1))) (w : List ℕ) (r : Answer)
+      (w′ o : List ℕ) where
+    exchange-made : (leaf : ℕ) (m5 : List ℕ) → exchangeIn p s leaf m5 ≡ exchange (t .message1) (t .message2) (t .message3) leaf m5
+    exchange-made leaf m5 =
+        ap (λ (x : List ℕ). exchangeIn p x leaf m5) made
+        ∙ exchange-in p (t .message1) (t .message2) (t .message3) (early .first .size1) (early .first .size2) (early .first .size3) leaf m5
 
-  module _ (r r′ : Answer) (w v v′ states rows others other-rows : List ℕ) (j : Judged p t key work r w states rows)
-      (j′ : Judged p t′ key v r′ v′ others other-rows) where
-    shows′ : Shows p key (take 32 (t .message1)) (exchangeOf t′) (viewOf p (t′ .leaf) (t′ .message5) others other-rows)
+    pub first-judged : Judged p (exchangeIn p s (t .leaf) (t .message5)) key w r w′ o → Judged p (exchangeOf t) key w r w′ o
+    unfolding exchangeOf
+    first-judged = subst (λ (e : Exchange). Judged p e key w r w′ o) (exchange-made (t .leaf) (t .message5))
+
+    pub second-judged : Judged p (exchangeIn p s (t′ .leaf) (t′ .message5)) key w r w′ o → Judged p (exchangeOf t′) key w r w′ o
+    unfolding exchangeOf
+    second-judged =
+        subst (λ (e : Exchange). Judged p e key w r w′ o)
+        (exchange-made (t′ .leaf) (t′ .message5)
+        ∙ ap₂ (λ (m1 m2 : List ℕ). exchange m1 m2 (t .message3) (t′ .leaf) (t′ .message5)) (early .message1) (early .message2)
+        ∙ ap (λ (m3 : List ℕ). exchange (t′ .message1) (t′ .message2) m3 (t′ .leaf) (t′ .message5)) (early .message3))
+
+  module _ (r r′ : Answer) (w w′ v v′ o o′ : List ℕ) (j : Judged p (exchangeOf t) key w r w′ (take (openedLength p) o))
+      (j′ : Judged p (exchangeOf t′) key v r′ v′ (take (openedLength p) o′)) where
+    shows′ : Shows p key (take 32 (t .message1)) (exchangeOf t′) (viewOf p (t′ .leaf) (auxIn p (t′ .message5)) (take (openedLength p) o′))
+    unfolding exchangeOf exchange
     shows′ =
-        subst (λ (q : List ℕ). Shows p key q (exchangeOf t′) (viewOf p (t′ .leaf) (t′ .message5) others other-rows)) (ap (take 32) (sym (early .message1)))
-        (shows p t′ key v r′ v′ others other-rows (early .second) j′)
+        subst (λ (q : List ℕ). Shows p key q (exchangeOf t′) (viewOf p (t′ .leaf) (auxIn p (t′ .message5)) (take (openedLength p) o′)))
+        (ap (take 32) (sym (early .message1)))
+        (shows p (exchangeOf t′) key v r′ v′ (take (openedLength p) o′) j′ (early .below′) (early .second .size5))
 
-    pub compared-is : comparison p (take 32 (t .message1)) (viewOf p (t .leaf) (t .message5) states rows) (viewOf p (t′ .leaf) (t′ .message5) others other-rows)
-        ≡ extract SHAKE256 p key (exchangeOf t) (exchangeOf t′)
+    compared-is : comparison p (take 32 (t .message1)) (viewOf p (t .leaf) (auxIn p (t .message5)) (take (openedLength p) o))
+        (viewOf p (t′ .leaf) (auxIn p (t′ .message5)) (take (openedLength p) o′)) ≡ extract SHAKE256 p key (exchangeOf t) (exchangeOf t′)
     unfolding exchangeOf exchange
     compared-is =
-        comparison-is p (early .within) key (take 32 (t .message1)) (exchangeOf t) (exchangeOf t′) (viewOf p (t .leaf) (t .message5) states rows)
-        (viewOf p (t′ .leaf) (t′ .message5) others other-rows) (shows p t key work r w states rows (early .first) j) shows′ (early .below) (early .below′)
-        (early .other)
+        comparison-is p (early .within) key (take 32 (t .message1)) (exchangeOf t) (exchangeOf t′)
+        (viewOf p (t .leaf) (auxIn p (t .message5)) (take (openedLength p) o)) (viewOf p (t′ .leaf) (auxIn p (t′ .message5)) (take (openedLength p) o′))
+        (shows p (exchangeOf t) key w r w′ (take (openedLength p) o) j (early .below) (early .first .size5)) shows′ (early .below) (early .below′) (early .other)
+
+    pub asked : length o ≡ 9760 → length o′ ≡ 9760
+        → Comparing p (t .message1) (record { first = t .leaf; second = t′ .leaf }) (t .message5) o (t′ .message5) o′ out
+    asked l l′ = record {
+      salt = omega (arith, early .first .size1);
+      first-aux = aux-inside p (t .leaf) (t .message5) (early .first .size5);
+      second-aux = aux-inside p (t′ .leaf) (t′ .message5) (early .second .size5);
+      first-fits = omega (arith, opened-most p (early .within));
+      second-fits = omega (arith, opened-most p (early .within));
+      views = record {
+        within = early .within;
+        first = record { below = early .below; aux-size = all-aux p (t .leaf) (t .message5) (early .first .size5); size = j .size };
+        second = record { below = early .below′; aux-size = all-aux p (t′ .leaf) (t′ .message5) (early .second .size5); size = j′ .size };
+        other = early .other;
+        room = early .room;
+      };
+    }
+
+    pub found : (x : Extraction) (out′ : List ℕ)
+        → Found (comparison p (take 32 (t .message1)) (viewOf p (t .leaf) (auxIn p (t .message5)) (take (openedLength p) o))
+        (viewOf p (t′ .leaf) (auxIn p (t′ .message5)) (take (openedLength p) o′))) out x out′
+        → Found (extract SHAKE256 p key (exchangeOf t) (exchangeOf t′)) out x out′
+    found x out′ = subst (λ (y : Finding). Found y out x out′) compared-is

@@ -13,10 +13,7 @@ use Rattle.interpolants.proofs.complement.Tie as tie
 
 returns : tie.Need-returns
 unfolding complementOf
-returns c =
-    let v : tie.After-vanishing-above = search in
-    let s : tie.Start = search in
-    let a : s .args .m + 1 ≡ 1 + s .args .m = omega arith in
+returns c = let v : tie.After-vanishing-above = search in let s : tie.Start = search in let a : s .args .m + 1 ≡ 1 + s .args .m = omega arith in
     let n : length (s .args .out .now) - 1 ≡ 255 - s .args .m = omega arith in
     v .vanishing-above .ensures ∙ ap₂ (λ (f l : ℕ). vanishing byteOps (ascending f l)) a n
 

@@ -17,15 +17,11 @@ abbrev μ-loop : tie.MeasureT-loop
 
 loop-holds : tie.Need-loop-holds Inv-loop μ-loop
 loop-holds c =
-    let s : tie.Start Inv-loop μ-loop = search in
-    (omega arith, omega arith, divided-start (s .args .g .now) (s .args .t .now) _ refl, refl)
+    let s : tie.Start Inv-loop μ-loop = search in (omega arith, omega arith, divided-start (s .args .g .now) (s .args .t .now) _ refl, refl)
 
 loop-again : tie.Need-loop-again Inv-loop μ-loop
-loop-again c =
-    let a : tie.After-add-multiples Inv-loop μ-loop = search in
-    let m : tie.After-multiples Inv-loop μ-loop = search in
-    let l : tie.At-loop Inv-loop μ-loop = search in
-    let s : tie.Start Inv-loop μ-loop = search in (
+loop-again c = let a : tie.After-add-multiples Inv-loop μ-loop = search in let m : tie.After-multiples Inv-loop μ-loop = search in
+    let l : tie.At-loop Inv-loop μ-loop = search in let s : tie.Start Inv-loop μ-loop = search in (
       omega arith,
       omega arith,
       divided-turn (s .args .g .now) (l .loop .t) (s .args .t .now) (a .add-multiples .last .0) _ (l .loop .i)
@@ -34,13 +30,10 @@ loop-again c =
     )
 
 returns : tie.Need-returns Inv-loop μ-loop
-returns c =
-    let l : tie.At-loop Inv-loop μ-loop = search in
-    let s : tie.Start Inv-loop μ-loop = search in
+returns c = let l : tie.At-loop Inv-loop μ-loop = search in let s : tie.Start Inv-loop μ-loop = search in
     divided-end (s .args .g .now) (l .loop .t) (s .args .t .now) (l .loop .i) (omega arith) (l .loop .inv .2)
 
 pub divide-spec : {M : Type 1} → statement M
-divide-spec = tie.close (tie.spec Inv-loop μ-loop loop-holds (λ c. search needs) (λ c. search needs)
-    (λ c. search needs) (λ c. search needs) (λ c κs. search needs) (λ c. search needs) (λ c. search needs)
-    (λ c. search needs) (λ c. search needs) (λ c κs. search needs) (λ c. search needs) loop-again (λ c. search needs)
-    returns)
+divide-spec = tie.close (tie.spec Inv-loop μ-loop loop-holds (λ c. search needs) (λ c. search needs) (λ c. search needs) (λ c. search needs)
+    (λ c κs. search needs) (λ c. search needs) (λ c. search needs) (λ c. search needs) (λ c. search needs) (λ c κs. search needs) (λ c. search needs)
+    loop-again (λ c. search needs) returns)

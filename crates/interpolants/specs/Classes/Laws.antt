@@ -2,8 +2,8 @@
 --
 --   power-pos            no power of 03 is 0
 --   power-next           the next exponent of a progression
---   weighed-at           an entry and the logarithm of its weight
---   getD-timesEach       an entry of a weighed vector
+--   scaledBy-at           an entry and the logarithm of its scale
+--   getD-timesEach       an entry of a scaledBy vector
 --   class-of             both stages of a class
 --   power-sums-at        byte i of entry `place o` of what all classes add is the power sum of exponent o of share i
 --   power-sums-of        so the entries in the order of the exponents are the power sums
@@ -17,7 +17,7 @@ use lib.ListN.{length, take, getD, List·getD-eq-default}
 use lib.Seq.{length-take-le}
 use Rattle.cube.specs.Sum.{sum}
 use Rattle.cube.specs.Sum.Laws.{sum-ext, sum-swap}
-use Rattle.lists.specs.Xor.{positive}
+use Rattle.lists.specs.Xor.Laws.{positive}
 use Rattle.lists.specs.Additive.{additive-zero}
 use Rattle.bytefield.specs.Product.{_⊗_}
 use Rattle.bytefield.specs.Product.Laws.{⊗-assoc, ⊗-zero, zero-⊗, ⊗-additive-l, one-⊗, ⊗-lt}
@@ -30,7 +30,7 @@ use Rattle.interpolants.specs.PowerSum.{timesEach, entryOf, powerSum, Po
 use Rattle.interpolants.specs.Sums.{xorGroup, total, total-of, total-blocks, powerSum-total}
 use Rattle.interpolants.specs.Filled.{Filled}
 use Rattle.interpolants.specs.Added.{Added, added-ext, added-zeros}
-use Rattle.interpolants.specs.Classes.{weighed, progression, classSum, classTerm, classSums, place}
+use Rattle.interpolants.specs.Classes.{scaledBy, progression, classSum, classTerm, classSums, place}
 
 -- ---- powers
 
@@ -57,17 +57,17 @@ getD-timesEach (a ∷ x) (b ∷ w) (suc k) = getD-timesEach x w k
 scaled-zero : (c : ℕ) → scaled 0 c ≡ 0
 scaled-zero c = additive-zero (λ v. scaled v c) (scaled-sum c)
 
--- f is the byte, x the entry of the vectors there, s the logarithm of its weight
-pub weighed-at : (a w : List ℕ) (m e f x s : ℕ) → m ≤ length a → length w ≡ m → f ≡ power e → x ≡ entryOf (take m a) f
-    → (f - 1 < length w → power s ≡ entryOf w f) → (o : ℕ) → progression x s e o ≡ progression (weighed (take m a) w e) 0 e o
-unfolding weighed
-weighed-at a w m e f x s l n ef ex es o =
+-- f is the byte, x the entry of the vectors there, s the logarithm of its scale
+pub scaledBy-at : (a w : List ℕ) (m e f x s : ℕ) → m ≤ length a → length w ≡ m → f ≡ power e → x ≡ entryOf (take m a) f
+    → (f - 1 < length w → power s ≡ entryOf w f) → (o : ℕ) → progression x s e o ≡ progression (scaledBy (take m a) w e) 0 e o
+unfolding scaledBy
+scaledBy-at a w m e f x s l n ef ex es o =
     rw (power-add s (e * o), ← scaled-scaled x (power s) (power (e * o)), ex, zero-add (e * o), ← ef)
-    (ap (λ (y : ℕ). scaled y (power (e * o))) (weight (decLt (f - 1) m)))
+    (ap (λ (y : ℕ). scaled y (power (e * o))) (scale (decLt (f - 1) m)))
   where
-    weight : Dec (f - 1 < m) → scaled (entryOf (take m a) f) (power s) ≡ scaled (entryOf (take m a) f) (entryOf w f)
-    weight (yes h) = ap (scaled (entryOf (take m a) f)) (es (omega arith))
-    weight (no h) =
+    scale : Dec (f - 1 < m) → scaled (entryOf (take m a) f) (power s) ≡ scaled (entryOf (take m a) f) (entryOf w f)
+    scale (yes h) = ap (scaled (entryOf (take m a) f)) (es (omega arith))
+    scale (no h) =
         let t : length (take m a) ≡ m = length-take-le m a l in
         let z : entryOf (take m a) f ≡ 0 = List·getD-eq-default (take m a) 0 (omega arith) in
         rw z (scaled-zero (power s) ∙ sym (scaled-zero (entryOf w f)))
@@ -94,38 +94,38 @@ exponents κ q o =
 -- ---- the sums
 
 module _ (i : ℕ) (small : i < 8) (v w : List ℕ) where
-  lane-weighed : (e : ℕ) → byteAt i (weighed v w e) ≡ entryOf (timesEach (share i v) w) (power e)
-  unfolding weighed
-  lane-weighed e =
+  lane-scaledBy : (e : ℕ) → byteAt i (scaledBy v w e) ≡ entryOf (timesEach (share i v) w) (power e)
+  unfolding scaledBy
+  lane-scaledBy e =
       rw (byteAt-scaled i (entryOf v (power e)) (entryOf w (power e)) small, getD-timesEach (share i v) w (power e - 1), getD-share i v (power e - 1)) refl
 
   abbrev entry : ℕ → ℕ
   entry e = entryOf (timesEach (share i v) w) (power e)
 
-  lane-term : (κ q o : ℕ) → byteAt i (progression (weighed v w (κ + 15 * q)) 0 (κ + 15 * q) (o % 17)) ⊗ power (17 * κ * (o / 17))
+  lane-term : (κ q o : ℕ) → byteAt i (progression (scaledBy v w (κ + 15 * q)) 0 (κ + 15 * q) (o % 17)) ⊗ power (17 * κ * (o / 17))
       ≡ entry (κ + 15 * q) ⊗ power ((κ + 15 * q) * o)
   lane-term κ q o =
-      rw (zero-add ((κ + 15 * q) * (o % 17)), byteAt-scaled i (weighed v w (κ + 15 * q)) (power ((κ + 15 * q) * (o % 17))) small, lane-weighed (κ + 15 * q))
+      rw (zero-add ((κ + 15 * q) * (o % 17)), byteAt-scaled i (scaledBy v w (κ + 15 * q)) (power ((κ + 15 * q) * (o % 17))) small, lane-scaledBy (κ + 15 * q))
       (⊗-assoc (entry (κ + 15 * q)) _ _ ∙ ap (_⊗_ (entry (κ + 15 * q))) (exponents κ q o))
 
-  lane-class : (κ o : ℕ) → o < 255 → byteAt i (classTerm (weighed v w) κ (place o)) ≡ total (λ q. entry (κ + 15 * q) ⊗ power ((κ + 15 * q) * o)) 17
+  lane-class : (κ o : ℕ) → o < 255 → byteAt i (classTerm (scaledBy v w) κ (place o)) ≡ total (λ q. entry (κ + 15 * q) ⊗ power ((κ + 15 * q) * o)) 17
   unfolding classTerm classSum
   lane-class κ o h =
       let d : place o / 15 ≡ o % 17 = omega arith in
       let r : place o % 15 ≡ o / 17 = omega arith in
-      let term : ℕ → ℕ = λ q. progression (weighed v w (κ + 15 * q)) 0 (κ + 15 * q) (o % 17) in
+      let term : ℕ → ℕ = λ q. progression (scaledBy v w (κ + 15 * q)) 0 (κ + 15 * q) (o % 17) in
       rw (d, r, zero-add (17 * κ * (o / 17)), byteAt-scaled i (total term 17) (power (17 * κ * (o / 17))) small, total-of (byteAt i) (byteAt-sum i) term 17)
       (total-of (λ x. x ⊗ power (17 * κ * (o / 17))) (⊗-additive-l (power (17 * κ * (o / 17)))) (λ q. byteAt i (term q)) 17
       ∙ sum-ext xorGroup _ _ 17 (λ q l. lane-term κ q o))
 
-  pub power-sums-at : (o : ℕ) → o < 255 → byteAt i (classSums (weighed v w) 15 (place o)) ≡ powerSum (timesEach (share i v) w) o 255
+  pub power-sums-at : (o : ℕ) → o < 255 → byteAt i (classSums (scaledBy v w) 15 (place o)) ≡ powerSum (timesEach (share i v) w) o 255
   power-sums-at o h =
-      total-of (byteAt i) (byteAt-sum i) (λ κ. classTerm (weighed v w) κ (place o)) 15 ∙ sum-ext xorGroup _ _ 15 (λ κ l. lane-class κ o h)
+      total-of (byteAt i) (byteAt-sum i) (λ κ. classTerm (scaledBy v w) κ (place o)) 15 ∙ sum-ext xorGroup _ _ 15 (λ κ l. lane-class κ o h)
       ∙ sum-swap xorGroup (λ κ q. entry (κ + 15 * q) ⊗ power ((κ + 15 * q) * o)) 15 17
       ∙ total-blocks (λ e. entry e ⊗ power (e * o)) 15 17 ∙ sym (powerSum-total (timesEach (share i v) w) o 255)
 
 -- z is the code's array b as it begins, b as it ends, t what is in it in the order of the exponents
-pub power-sums-of : (v w z b t : List ℕ) → length t ≡ 255 → Filled 255 (λ k. 0) z → Added 255 (classSums (weighed v w) 15) z b
+pub power-sums-of : (v w z b t : List ℕ) → length t ≡ 255 → Filled 255 (λ k. 0) z → Added 255 (classSums (scaledBy v w) 15) z b
     → Filled 255 (λ j. getD b (place (254 - j)) 0) t → (i : ℕ) → i < 8 → PowerSums (timesEach (share i v) w) (share i t)
 power-sums-of v w z b t n fz ab ft i h = record {
   count = length-share i t ∙ n;

@@ -1,4 +1,4 @@
--- The laws of the complement G and of the weights.
+-- The laws of the complement G and of the scales.
 --
 --   missing m             the bytes above m, the roots of G
 --   length-complement     G has 256 − m coefficients
@@ -6,30 +6,36 @@
 --   complement-monic      the highest is 1
 --   complement-zero       G is zero at each byte above m
 --   complement-some       and at no other
---   length-weights        there are m weights
---   weight-at             the weight of the byte f is f times G(f)
---   weight-some           it is not zero
+--   length-scales        there are m scales
+--   scale-at             the scale of the byte f is f times G(f)
+--   scale-some           it is not zero
+--   length-factors, factors-front, -end   the 256 bytes that hold the scales and the complement, and both read from them
 use mathlib.Core.Path.{_≡_, refl, sym, ap, _∙_}
 use mathlib.Core.List.{List, [], _∷_, _++_}
 use Prim.Native.Nat.{ℕ, zero, suc, _+_, _-_, _≤_, _<_}
 use native.Mathlib.Nat.{not-suc-le-zero, le-of-suc-le-suc}
 use native.Mathlib.Omega.{arith}
 use lib.Dec.{lit<}
-use lib.ListN.{length, take, getD}
-use Rattle.lists.specs.Xor.{positive}
+use lib.ListN.{length, take, drop, getD, length-append}
+use lib.Seq.{take-at, drop-at}
+use Rattle.lists.specs.Xor.Laws.{positive}
 use Rattle.algebra.specs.Ring.{ops}
-use Rattle.algebra.specs.Each.{each-from, each-to-map}
+use Rattle.algebra.specs.Each.Laws.{each-from}
+use Rattle.algebra.specs.Each.Laws.{each-to-map}
 use Rattle.algebra.specs.Polynomial.{eval}
 use Rattle.algebra.specs.Polynomial.Lengths.{length-product}
 use Rattle.algebra.specs.Polynomial.Quotients.{vanishing-elsewhere}
 use Rattle.algebra.specs.Polynomial.Maps.{map-eval}
 use Rattle.bytefield.specs.Product.{_⊗_, byteOps}
-use Rattle.bytefield.specs.Byte.{byte, byteRing, byteField, byte-zero, byte-homomorphism}
-use Rattle.polynomial.specs.Bytes.{Bytes, inField, byte-equal, byte-eval, bytes-product}
+use Rattle.bytefield.specs.Byte.{byte, byteRing, byteField}
+use Rattle.bytefield.specs.Byte.Laws.{byte-zero}
+use Rattle.bytefield.specs.Byte.Laws.{byte-homomorphism}
+use Rattle.polynomial.specs.Bytes.{Bytes, inField}
+use Rattle.polynomial.specs.Bytes.Laws.{byte-equal, byte-eval, bytes-product}
 use Rattle.polynomial.specs.Interpolant.{ascending}
 use Rattle.polynomial.specs.Interpolant.Laws.{length-ascending, ascending-at, product-in-field, product-monic, product-zero}
 use Rattle.interpolants.specs.Cancel.{⊗-some}
-use Rattle.interpolants.specs.Complement.{complementOf, weightsFrom, weightsOf}
+use Rattle.interpolants.specs.Complement.{complementOf, scalesFrom, scalesOf, factorsOf}
 
 abbrev pub missing : ℕ → List ℕ
 missing m = ascending (1 + m) (255 - m)
@@ -69,29 +75,41 @@ complement-some m z h k =
         let b : z ≡ getD (missing m) i 0 = byte-equal z (getD (missing m) i 0) (omega arith) (omega arith) q in
         omega arith
 
--- ---- the weights
+-- ---- the scales
 
-length-from : (g : List ℕ) (a n : ℕ) → length (weightsFrom g a n) ≡ n
-unfolding weightsFrom
+length-from : (g : List ℕ) (a n : ℕ) → length (scalesFrom g a n) ≡ n
+unfolding scalesFrom
 length-from g a zero = refl
 length-from g a (suc n) = ap suc (length-from g (suc a) n)
 
-from-at : (g : List ℕ) (a n i : ℕ) → i < n → getD (weightsFrom g a n) i 0 ≡ (a + i) ⊗ eval byteOps g (a + i)
-unfolding weightsFrom
+from-at : (g : List ℕ) (a n i : ℕ) → i < n → getD (scalesFrom g a n) i 0 ≡ (a + i) ⊗ eval byteOps g (a + i)
+unfolding scalesFrom
 from-at g a zero i h = absurd (not-suc-le-zero h)
 from-at g a (suc n) zero h = ap (λ (f : ℕ). f ⊗ eval byteOps g f) (omega arith)
 from-at g a (suc n) (suc i) h = from-at g (suc a) n i (le-of-suc-le-suc h) ∙ ap (λ (f : ℕ). f ⊗ eval byteOps g f) (omega arith)
 
-pub length-weights : (m : ℕ) → length (weightsOf m) ≡ m
-unfolding weightsOf
-length-weights m = length-from (complementOf m) 1 m
+pub length-scales : (m : ℕ) → length (scalesOf m) ≡ m
+unfolding scalesOf
+length-scales m = length-from (complementOf m) 1 m
 
-pub weight-at : (m i : ℕ) → i < m → getD (weightsOf m) i 0 ≡ (1 + i) ⊗ eval byteOps (complementOf m) (1 + i)
-unfolding weightsOf
-weight-at m i h = from-at (complementOf m) 1 m i h
+pub scale-at : (m i : ℕ) → i < m → getD (scalesOf m) i 0 ≡ (1 + i) ⊗ eval byteOps (complementOf m) (1 + i)
+unfolding scalesOf
+scale-at m i h = from-at (complementOf m) 1 m i h
 
-pub weight-some : (m i : ℕ) → i < m → m < 256 → 0 < getD (weightsOf m) i 0
-weight-some m i h k =
-    rw (weight-at m i h)
+pub scale-some : (m i : ℕ) → i < m → m < 256 → 0 < getD (scalesOf m) i 0
+scale-some m i h k =
+    rw (scale-at m i h)
     (⊗-some (1 + i) (eval byteOps (complementOf m) (1 + i)) (omega arith) (omega arith) (complement-some m (1 + i) (omega arith) k)
     (byte-eval (complementOf m) (1 + i) (bytes-complement m k)))
+
+pub length-factors : (m : ℕ) → m < 256 → length (factorsOf m) ≡ 256
+unfolding factorsOf
+length-factors m h = omega (arith, length-append (scalesOf m) (complementOf m), length-scales m, length-complement m h)
+
+pub factors-front : (m : ℕ) (d : List ℕ) → d ≡ factorsOf m → take m d ≡ scalesOf m
+unfolding factorsOf
+factors-front m d e = ap (take m) e ∙ take-at (scalesOf m) (complementOf m) m (length-scales m)
+
+pub factors-end : (m : ℕ) (d : List ℕ) → d ≡ factorsOf m → drop m d ≡ complementOf m
+unfolding factorsOf
+factors-end m d e = ap (drop m) e ∙ drop-at (scalesOf m) (complementOf m) m (length-scales m)

@@ -12,7 +12,8 @@ use Prim.Native.Nat.{ℕ, suc, _+_, _-_, _^_, _≤_, _<_}
 use native.Mathlib.Omega.{arith}
 use lib.ListN.{length, take, drop, getD, length-append, length-take, length-drop, length-map, take-append-drop, drop-of-length-le}
 use lib.Seq.{take-all, take-at, drop-at, drop-cons, drop-drop, length-take-le}
-use Rattle.lists.specs.Xor.{_⊕_, zero-⊕}
+use Rattle.lists.specs.Xor.{_⊕_}
+use Rattle.lists.specs.Xor.Laws.{zero-⊕}
 use Rattle.lists.specs.Sum.{xorList}
 use Rattle.lists.specs.Sum.Laws.{length-xorList}
 use Rattle.algebra.specs.Polynomial.{eval, plus, scale, pow}
@@ -20,7 +21,8 @@ use Rattle.algebra.specs.Polynomial.Linear.{eval-sum}
 use Rattle.algebra.specs.Polynomial.Lengths.{length-scale}
 use Rattle.bytefield.specs.Product.{_⊗_, byteOps}
 use Rattle.bytefield.specs.Product.Laws.{bytefield, byte-linear, one-⊗, ⊗-lt, ⊗-assoc}
-use Rattle.polynomial.specs.Bytes.{Bytes, bytes-from, bytes-plus, bytes-scale, bytes-append, byte-eval}
+use Rattle.polynomial.specs.Bytes.{Bytes}
+use Rattle.polynomial.specs.Bytes.Laws.{bytes-from, bytes-plus, bytes-scale, bytes-append, byte-eval}
 use Rattle.packed.specs.Word.{scaled}
 use Rattle.packed.specs.Share.{byteAt, share}
 use Rattle.packed.specs.Share.Laws.{byteAt-lt, length-share, share-byte, share-append, share-added}

@@ -15,7 +15,8 @@ use native.Mathlib.Omega.{arith}
 use lib.Dec.{lit<}
 use lib.ListN.{length, getD}
 use lib.Seq.{ext-getD}
-use Rattle.lists.specs.Xor.{_⊕_, ⊕-self, zero-⊕, ⊕-apart, ⊕-lt}
+use Rattle.lists.specs.Xor.{_⊕_}
+use Rattle.lists.specs.Xor.Laws.{⊕-self, zero-⊕, ⊕-apart, ⊕-lt}
 use Rattle.algebra.specs.Polynomial.{eval}
 use Rattle.bytefield.specs.Product.{_⊗_, byteOps}
 use Rattle.bytefield.specs.Product.Laws.{⊗-zero, bytefield}
@@ -24,7 +25,8 @@ use Rattle.bytefield.specs.Tables.{logs}
 use Rattle.bytefield.specs.Inverse.{inverse}
 use Rattle.bytefield.specs.Inverse.Laws.{inverse-unique}
 use Rattle.interpolants.specs.PowerSum.{entryOf, powerSum, PowerSums}
-use Rattle.polynomial.specs.Bytes.{Bytes, byte-eval}
+use Rattle.polynomial.specs.Bytes.{Bytes}
+use Rattle.polynomial.specs.Bytes.Laws.{byte-eval}
 use Rattle.interpolants.specs.Cancel.{⊗-cancel, power-once}
 
 descending : ℕ → ℕ → List ℕ

@@ -15,33 +15,13 @@ Inv-loop rc b₀ k₀ b k = (k ≤ 24) × (b ≡ rounds k b₀)
 abbrev μ-loop : tie.MeasureT-loop
 μ-loop rc b₀ k₀ b k = 24 - k
 
-loop-holds : tie.Need-loop-holds Inv-loop μ-loop
-unfolding rounds
-loop-holds c = (omega arith, refl)
-
 loop-again : tie.Need-loop-again Inv-loop μ-loop
 unfolding rounds
-loop-again c =
-    let k = c .before .before .loop .k in
+loop-again c = let k = c .before .before .loop .k in
     (omega arith, rw add-one (c .round .ensures ∙ ap (round (getD roundConstants k 0)) (c .before .before .loop .inv .1)))
 
-returns : tie.Need-returns Inv-loop μ-loop
-unfolding keccakF
-returns c =
-    let k-is : c .before .loop .k ≡ 24 = omega arith in
-    c .before .loop .inv .1 ∙ ap (λ (n : ℕ). rounds n (c .before .before .args .a)) k-is
-
 pub permute-spec : {M : Type 1} → statement M
-permute-spec =
-    tie.close
-    (tie.spec
-    Inv-loop
-    μ-loop
-    loop-holds
-    (λ c. omega arith)
-    (λ c. omega arith)
-    (λ c κs. tt)
-    (λ c. omega arith)
-    (λ c. omega arith)
-    loop-again
-    returns)
+unfolding rounds keccakF
+permute-spec = tie.close (tie.spec Inv-loop μ-loop (λ c. (omega arith, refl)) (λ c. omega arith) (λ c. omega arith) (λ c κs. tt) (λ c. omega arith)
+    (λ c. omega arith) loop-again
+    (λ c. let k-is : c .before .loop .k ≡ 24 = omega arith in c .before .loop .inv .1 ∙ ap (λ (n : ℕ). rounds n (c .before .before .args .a)) k-is))

@@ -16,27 +16,19 @@ use Rattle.key.proofs.image.Statement.{statement}
 use Rattle.key.proofs.image.Tie as tie
 
 abbrev Inv-loop : tie.InvT-loop
-Inv-loop x matrix out₀ log pow k n a₀ i₀ out a i =
+Inv-loop x matrix out₀ tables k n a₀ i₀ out a i =
     (i ≤ n) × (a ≡ i * length x) × (out ≡ blend i (rows (length out₀) matrix x) out₀) × (length out ≡ length out₀)
 
 abbrev μ-loop : tie.MeasureT-loop
-μ-loop x matrix out₀ log pow k n a₀ i₀ out a i = n - i
+μ-loop x matrix out₀ tables k n a₀ i₀ out a i = n - i
 
 -- the row ends within the matrix
 inside : (p : tie.At-loop Inv-loop μ-loop) → p .loop .i < length (p .before .before .before .before .args .out .now)
     → p .loop .a + length (p .before .before .before .before .args .x .now) ≤ length (p .before .before .before .before .args .matrix .now)
-inside p h =
-    let a = p .before .before .before .before .args in
-    omega (arith, part-fits (p .loop .i) (length (a .out .now)) (length (a .x .now)) h)
-
-loop-holds : tie.Need-loop-holds Inv-loop μ-loop
-loop-holds c = (omega arith, omega arith, blend-none _ _, refl)
+inside p h = let a = p .before .before .before .before .args in omega (arith, part-fits (p .loop .i) (length (a .out .now)) (length (a .x .now)) h)
 
 loop-again : tie.Need-loop-again Inv-loop μ-loop
-loop-again c =
-    let start : tie.Start Inv-loop μ-loop = search in
-    let p = c .before .before .before in
-    let a = start .args in
+loop-again c = let start : tie.Start Inv-loop μ-loop = search in let p = c .before .before .before in let a = start .args in
     let k : (p .loop .a + length (a .x .now)) - p .loop .a ≡ length (a .x .now) = omega arith in (
       omega arith,
       ap (λ (j : ℕ). j + length (a .x .now)) (p .loop .inv .1)
@@ -47,14 +39,11 @@ loop-again c =
     )
 
 returns : tie.Need-returns Inv-loop μ-loop
-returns c =
-    let start : tie.Start Inv-loop μ-loop = search in
-    let a = start .args in
-    c .before .loop .inv .2
+returns c = let start : tie.Start Inv-loop μ-loop = search in let a = start .args in c .before .loop .inv .2
     ∙ blend-all (c .before .loop .i) _ _ (length-rows (length (a .out .now)) (a .matrix .now) (a .x .now)) (omega arith)
 
 pub image-spec : {M : Type 1} → statement M
-image-spec = tie.close (tie.spec Inv-loop μ-loop loop-holds
+image-spec = tie.close (tie.spec Inv-loop μ-loop (λ c. (omega arith, omega arith, blend-none _ _, refl))
     (λ c. omega (arith, inside (c .before) (c .loop-test .taken))) (λ c. search needs) (λ c. search needs)
-    (λ c. omega (arith, inside (c .before) (c .loop-test .taken))) (λ c κs. search needs) (λ c. search needs)
-    (λ c. search needs) (λ c. search needs) loop-again (λ c. search needs) returns)
+    (λ c. omega (arith, inside (c .before) (c .loop-test .taken))) (λ c κs. search needs) (λ c. search needs) (λ c. search needs) (λ c. search needs)
+    loop-again (λ c. search needs) returns)

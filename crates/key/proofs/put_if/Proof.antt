@@ -5,12 +5,7 @@ use Rattle.key.specs.Loops.Gather.{put-hit, put-miss}
 use Rattle.key.proofs.put_if.Statement.{statement}
 use Rattle.key.proofs.put_if.Tie as tie
 
-returns : tie.Need-returns
-returns c = let a = c .before .args in put-hit (a .hit) (a .out .now) (a .at) (a .b) _ (c .if1 .taken) refl
-
-returns-2 : tie.Need-returns-2
-returns-2 c = let a = c .before .args in put-miss (a .hit) (a .out .now) (a .at) (a .b) (c .if1 .left)
-
 pub put-if-spec : {M : Type 1} → statement M
 put-if-spec = tie.close (tie.spec (λ c. c .before .pre .0 (c .if1 .taken)) (λ c. search needs) (λ c. search needs)
-    returns returns-2)
+    (λ c. let a = c .before .args in put-hit (a .hit) (a .out .now) (a .at) (a .b) _ (c .if1 .taken) refl)
+    (λ c. let a = c .before .args in put-miss (a .hit) (a .out .now) (a .at) (a .b) (c .if1 .left)))

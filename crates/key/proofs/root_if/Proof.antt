@@ -7,15 +7,9 @@ use Rattle.key.proofs.root_if.Statement.{statement}
 use Rattle.key.proofs.root_if.Tie as tie
 
 returns : tie.Need-returns
-returns c =
-    let then1 : tie.Then1 = search in
-    let start : tie.Start = search in
-    let a = start .args in
+returns c = let then1 : tie.Then1 = search in let start : tie.Start = search in let a = start .args in
     root-hit (a .hit) (a .p .now) _ (a .at) (a .f) _ (then1 .if1 .taken) (c .before .before .add-root .ensures) refl
 
-returns-2 : tie.Need-returns-2
-returns-2 c = let a = c .before .before .args in root-miss (a .hit) (a .p .now) (a .at) (a .f) (c .if1 .left)
-
 pub root-if-spec : {M : Type 1} → statement M
-root-if-spec = tie.close (tie.spec (λ c. omega (arith, c .before .before .pre .0 (c .if1 .taken)))
-    (λ c κs. search needs) (λ c. search needs) returns returns-2)
+root-if-spec = tie.close (tie.spec (λ c. omega (arith, c .before .before .pre .0 (c .if1 .taken))) (λ c κs. search needs) (λ c. search needs) returns
+    (λ c. let a = c .before .before .args in root-miss (a .hit) (a .p .now) (a .at) (a .f) (c .if1 .left)))

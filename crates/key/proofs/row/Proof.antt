@@ -11,24 +11,16 @@ use Rattle.key.proofs.row.Statement.{statement}
 use Rattle.key.proofs.row.Tie as tie
 
 abbrev Inv-loop : tie.InvT-loop
-Inv-loop h x log pow acc₀ i₀ acc i = (i ≤ length x) × (acc ⊕ dot (drop i h) (drop i x) ≡ dot h x)
+Inv-loop h x tables acc₀ i₀ acc i = (i ≤ length x) × (acc ⊕ dot (drop i h) (drop i x) ≡ dot h x)
 
 abbrev μ-loop : tie.MeasureT-loop
-μ-loop h x log pow acc₀ i₀ acc i = length x - i
-
-loop-holds : tie.Need-loop-holds Inv-loop μ-loop
-loop-holds c = (omega arith, dot-start _ _)
+μ-loop h x tables acc₀ i₀ acc i = length x - i
 
 loop-again : tie.Need-loop-again Inv-loop μ-loop
-loop-again c =
-    let p : tie.At-loop Inv-loop μ-loop = search in
-    let start : tie.Start Inv-loop μ-loop = search in
-    let a = start .args in
+loop-again c = let p : tie.At-loop Inv-loop μ-loop = search in let start : tie.Start Inv-loop μ-loop = search in let a = start .args in
     (omega arith, dot-turn (a .h .now) (a .x .now) (p .loop .i) (p .loop .acc) _ _ _ (omega arith) (omega arith) (c .before .product .ensures) (c .sum .ensures) (p .loop .inv .1))
 
-returns : tie.Need-returns Inv-loop μ-loop
-returns c = dot-end _ _ (c .before .loop .i) _ _ (omega arith) (c .before .loop .inv .1)
-
 pub row-spec : {M : Type 1} → statement M
-row-spec = tie.close (tie.spec Inv-loop μ-loop loop-holds (λ c. search needs) (λ c. search needs)
-    (λ c κs. search needs) (λ c κs. search needs) (λ c. search needs) (λ c. search needs) loop-again returns)
+row-spec = tie.close (tie.spec Inv-loop μ-loop (λ c. (omega arith, dot-start _ _)) (λ c. search needs) (λ c. search needs) (λ c κs. search needs)
+    (λ c κs. search needs) (λ c. search needs) (λ c. search needs) loop-again
+    (λ c. dot-end _ _ (c .before .loop .i) _ _ (omega arith) (c .before .loop .inv .1)))

@@ -16,25 +16,16 @@ Inv-loop x n₀ i₀ n i = (i ≤ length x) × (n + weightOf (drop i x) ≡ weig
 abbrev μ-loop : tie.MeasureT-loop
 μ-loop x n₀ i₀ n i = length x - i
 
-loop-holds : tie.Need-loop-holds Inv-loop μ-loop
-loop-holds c = (omega arith, omega arith)
-
 loop-again : tie.Need-loop-again Inv-loop μ-loop
-loop-again c =
-    let start : tie.Start Inv-loop μ-loop = search in
-    let p = c .before .before .before in
-    let x = start .args .x .now in (
-      omega arith,
-      ⊎-elim
-          (λ w. omega (arith, w .1, weight-other x (p .loop .i) (omega arith) (w .0 .taken)))
-          (λ w. omega (arith, w .1, weight-zero x (p .loop .i) (omega arith) (w .0 .left)))
-          (c .if1 .came),
-    )
-
-returns : tie.Need-returns Inv-loop μ-loop
-returns c = omega (arith, weight-end (c .before .before .args .x .now) (c .before .loop .i) (omega arith))
+loop-again c = let start : tie.Start Inv-loop μ-loop = search in let p = c .before .before .before in let x = start .args .x .now in (
+  omega arith,
+  ⊎-elim
+      (λ w. omega (arith, w .1, weight-other x (p .loop .i) (omega arith) (w .0 .taken)))
+      (λ w. omega (arith, w .1, weight-zero x (p .loop .i) (omega arith) (w .0 .left)))
+      (c .if1 .came),
+)
 
 pub weight-spec : {M : Type 1} → statement M
-weight-spec = tie.close (tie.spec Inv-loop μ-loop loop-holds (λ c. omega arith)
-    (λ c. let start : tie.Start Inv-loop μ-loop = search in omega (arith, weight-le (start .args .x .now)))
-    (λ c. omega arith) (λ c. omega arith) loop-again returns)
+weight-spec = tie.close (tie.spec Inv-loop μ-loop (λ c. (omega arith, omega arith)) (λ c. omega arith)
+    (λ c. let start : tie.Start Inv-loop μ-loop = search in omega (arith, weight-le (start .args .x .now))) (λ c. omega arith) (λ c. omega arith)
+    loop-again (λ c. omega (arith, weight-end (c .before .before .args .x .now) (c .before .loop .i) (omega arith))))

@@ -6,8 +6,5 @@ use lib.Dec.{leb}
 use Rattle.key.proofs.within_weight.Statement.{statement}
 use Rattle.key.proofs.within_weight.Tie as tie
 
-returns : tie.Need-returns
-returns c = ap (λ (n : ℕ). leb n (c .before .before .args .w)) (c .weight .ensures)
-
 pub within-weight-spec : {M : Type 1} → statement M
-within-weight-spec = tie.close (tie.spec (λ c κs. search needs) returns)
+within-weight-spec = tie.close (tie.spec (λ c κs. search needs) (λ c. ap (λ (n : ℕ). leb n (c .before .before .args .w)) (c .weight .ensures)))

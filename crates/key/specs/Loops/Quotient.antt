@@ -21,7 +21,7 @@ use Rattle.lists.specs.Blend.{blend}
 use Rattle.lists.specs.Blend.Laws.{blend-late, blend-up}
 use Rattle.lists.specs.Part.Laws.{tail-part}
 use Rattle.algebra.specs.Each.{Disjoint}
-use Rattle.algebra.specs.Marks.{length-pick}
+use Rattle.algebra.specs.Marks.Laws.{length-pick}
 use Rattle.algebra.specs.Polynomial.{interpolate}
 use Rattle.algebra.specs.Polynomial.Ratios.{distances, ratios}
 use Rattle.bytefield.specs.Product.{_⊗_, byteOps}

@@ -22,7 +22,7 @@ use lib.Dec.{eqb, leb, leb→le}
 use Rattle.lists.specs.Part.{putAt}
 use lib.ListN.{length, take, drop, getD, replicate, length-replicate, length-append}
 use borrow.Author.Tests.{le-leb, ne-eqb, eqb-true, leb-true}
-use Rattle.lists.specs.Checks.{and-left, and-right}
+use Rattle.lists.specs.Checks.Laws.{and-left, and-right}
 use Rattle.lists.specs.Computed.{all, below}
 use Rattle.answers.specs.declared.Refusal.{Refusal}
 use Rattle.answers.specs.declared.Answer.{Answer}

@@ -16,7 +16,7 @@ use lib.Dec.{eqb}
 use lib.ListN.{length, take, drop, getD, set}
 use lib.Seq.{sets-eq, take-at}
 use borrow.Author.Tests.{lt-ltb, le-leb, ne-eqb}
-use Rattle.lists.specs.Checks.{and-left, and-right}
+use Rattle.lists.specs.Checks.Laws.{and-left, and-right}
 use Rattle.lists.specs.Equal.{eqList}
 use Rattle.text.specs.Fold.{fold}
 use Rattle.text.specs.Split.{tab, lineFeed, first, rest, split}

@@ -2,7 +2,7 @@
 use mathlib.Core.Bool.{and-true}
 use borrow.Author.Tests.{eq-eqb}
 use native.Mathlib.Omega.{arith}
-use Rattle.lists.specs.Checks.{not-so}
+use Rattle.lists.specs.Checks.Laws.{not-so}
 use Rattle.layout.specs.Lent.{lent}
 use Rattle.layout.specs.Lent.Laws.{test-lent}
 use Rattle.layout.specs.Layout.Bounds.{matrix-most}

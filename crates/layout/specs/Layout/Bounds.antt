@@ -7,6 +7,7 @@
 -- sums-fit       which take no more room than it has
 -- side-most      an axis has at most 2 parties
 -- axis-most, rows-most   their rows, and those of all axes
+-- opened-most    what an opening gives has at most 9760 bytes
 -- share-most     a share has at most 860 bytes
 -- matrix-most    the matrix has at most 255² bytes
 -- work-most      the work area that a call zeroes has at most 16 · 860 bytes
@@ -18,7 +19,7 @@ use lib.Pow.{pow-mono}
 use Rattle.parameters.specs.declared.Parameters.{Parameters}
 use Rattle.parameters.specs.Limits.{Within}
 use Rattle.layout.specs.Layout.Laws.{side-others}
-use Rattle.layout.specs.Layout.{bits, side, others, sumCount, levels, rowLength, axisLength, leaves, shareLength, sumsLength, workLength}
+use Rattle.layout.specs.Layout.{bits, side, others, sumCount, levels, rowLength, axisLength, leaves, shareLength, sumsLength, rowsLength, openedLength, workLength}
 
 module _ (p : Parameters) (h : Within p) where
   pub levels-most : levels p ≤ 8
@@ -49,8 +50,11 @@ module _ (p : Parameters) (h : Within p) where
   pub axis-most : axisLength p ≤ 2 * 96
   axis-most = let r : rowLength p ≤ 96 = omega (arith, h .t-most) in mul-le-mul side-most r
 
-  pub rows-most : p .axes * axisLength p ≤ 8 * (2 * 96)
+  pub rows-most : rowsLength p ≤ 8 * (2 * 96)
   rows-most = mul-le-mul (h .axes-most) axis-most
+
+  pub opened-most : openedLength p ≤ 9760
+  opened-most = omega (arith, leaves-most, rows-most)
 
   pub share-most : shareLength p ≤ 860
   share-most = omega arith

@@ -5,7 +5,7 @@ use mathlib.Core.Path.{_≡_}
 use mathlib.Core.Bool.{true}
 use Prim.Native.Nat.{ℕ, _*_, _-_}
 use borrow.Author.Tests.{eqb-true, leb-true}
-use Rattle.lists.specs.Checks.{all-at}
+use Rattle.lists.specs.Checks.Laws.{all-at}
 use Rattle.parameters.specs.declared.Parameters.{Parameters}
 use Rattle.layout.specs.Layout.{workLength}
 use Rattle.layout.specs.Lent.{lentTests, lent, Lent}

@@ -17,36 +17,17 @@ use Rattle.leaves.proofs.leaf_share.Tie as tie
 front : (s : tie.Start) (n : ℕ) → n ≡ valuesLength (s .args .p) → length (take n (s .args .out .now)) ≡ n
 front s n e = length-take-le n (s .args .out .now) (omega (arith, s .pre .room))
 
-slice-aggregate-share-bytes : tie.Need-slice-aggregate-share-bytes
-slice-aggregate-share-bytes c =
-    let own : tie.After-values-length = search in
-    let s : tie.Start = search in
-    sym (front s _ (own .values-length .ensures))
-
 put-at-requires : tie.Need-put-at-requires
-put-at-requires c κs =
-    let filled : tie.After-share-bytes = search in
-    let own : tie.After-values-length = search in
-    let last : tie.Then1 = search in
-    let test : tie.After-is-last = search in
-    let s : tie.Start = search in
-    let n = own .values-length .ensures in
-    let size = filled .share-bytes .kept .1 .1 .1 .0 ∙ front s _ n in
-    let aux = s .pre .last (sym (test .is-last .ensures) ∙ last .if1 .taken) in
+put-at-requires c κs = let filled : tie.After-share-bytes = search in let own : tie.After-values-length = search in let last : tie.Then1 = search in
+    let test : tie.After-is-last = search in let s : tie.Start = search in let n = own .values-length .ensures in
+    let size = filled .share-bytes .kept .1 .1 .1 .0 ∙ front s _ n in let aux = s .pre .last (sym (test .is-last .ensures) ∙ last .if1 .taken) in
     simp (length-append, length-drop) (omega (arith, s .pre .room))
 
 returns : tie.Need-returns
 unfolding shareAfter
-returns c =
-    let put : tie.After-put-at = search in
-    let filled : tie.After-share-bytes = search in
-    let own : tie.After-values-length = search in
-    let last : tie.Then1 = search in
-    let test : tie.After-is-last = search in
-    let s : tie.Start = search in
-    let args = s .args in
-    let n = own .values-length .result in
-    let n-is = own .values-length .ensures in
+returns c = let put : tie.After-put-at = search in let filled : tie.After-share-bytes = search in let own : tie.After-values-length = search in
+    let last : tie.Then1 = search in let test : tie.After-is-last = search in let s : tie.Start = search in let args = s .args in
+    let n = own .values-length .result in let n-is = own .values-length .ensures in
     let drawn = bytesAfter (args .shares) (args .leaf) (take 16 (args .state .now)) in
     let is-true = sym (test .is-last .ensures) ∙ last .if1 .taken in
     let whole : length (args .out .now) ≡ n + length (args .aux .now) = omega (arith, s .pre .room, s .pre .last is-true) in
@@ -57,19 +38,12 @@ returns c =
 
 returns-2 : tie.Need-returns-2
 unfolding shareAfter
-returns-2 c =
-    let made : tie.After-share-bytes2 = search in
-    let other : tie.Else1 = search in
-    let test : tie.After-is-last = search in
-    let s : tie.Start = search in
-    let args = s .args in
-    let drawn = bytesAfter (args .shares) (args .leaf) (take 16 (args .state .now)) in
-    made .share-bytes2 .ensures
-    ∙ ap drawn (s .pre .room)
+returns-2 c = let made : tie.After-share-bytes2 = search in let other : tie.Else1 = search in let test : tie.After-is-last = search in
+    let s : tie.Start = search in let args = s .args in let drawn = bytesAfter (args .shares) (args .leaf) (take 16 (args .state .now)) in
+    made .share-bytes2 .ensures ∙ ap drawn (s .pre .room)
     ∙ ap (λ (t : Bool). cond t (drawn (valuesLength (args .p)) ++ args .aux .now) (drawn (shareLength (args .p)))) (sym (sym (test .is-last .ensures) ∙ other .if1 .left))
 
 pub leaf-share-spec : {M : Type 1} → statement M
-leaf-share-spec =
-    tie.close
-    (tie.spec (λ c κs. search needs) (λ c κs. search needs) (λ c. search needs) slice-aggregate-share-bytes (λ c κs. search needs) put-at-requires
-    (λ c. search needs) returns (λ c κs. search needs) (λ c. search needs) returns-2)
+leaf-share-spec = tie.close (tie.spec (λ c κs. search needs) (λ c κs. search needs) (λ c. search needs)
+    (λ c. let own : tie.After-values-length = search in let s : tie.Start = search in sym (front s _ (own .values-length .ensures)))
+    (λ c κs. search needs) put-at-requires (λ c. search needs) returns (λ c κs. search needs) (λ c. search needs) returns-2)

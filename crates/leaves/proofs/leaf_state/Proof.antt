@@ -7,9 +7,7 @@ use Rattle.leaves.proofs.leaf_state.Statement.{statement}
 use Rattle.leaves.proofs.leaf_state.Tie as tie
 
 returns : tie.Need-returns
-returns c =
-    let made : tie.After-leaf-hash = search in
-    let s : tie.Start = search in
+returns c = let made : tie.After-leaf-hash = search in let s : tie.Start = search in
     made .leaf-hash .ensures ∙ ap₂ (bytesAfter (s .args .states) (s .args .leaf)) (append-nil (s .args .seed .now)) (s .pre .room)
 
 pub leaf-state-spec : {M : Type 1} → statement M

@@ -9,15 +9,11 @@ use Rattle.leaves.specs.After.{bytesAfter}
 use Rattle.leaves.proofs.share_bytes.Statement.{statement}
 use Rattle.leaves.proofs.share_bytes.Tie as tie
 
-slice-aggregate-leaf-hash : tie.Need-slice-aggregate-leaf-hash
-slice-aggregate-leaf-hash c = let s : tie.Start = search in sym (length-take-le 16 (s .args .state .now) (s .pre .seed))
-
 returns : tie.Need-returns
-returns c =
-    let made : tie.After-leaf-hash = search in
-    let s : tie.Start = search in
+returns c = let made : tie.After-leaf-hash = search in let s : tie.Start = search in
     made .leaf-hash .ensures
     ∙ ap (λ (m : List ℕ). bytesAfter (s .args .shares) (s .args .leaf) m (length (s .args .out .now))) (append-nil (take 16 (s .args .state .now)))
 
 pub share-bytes-spec : {M : Type 1} → statement M
-share-bytes-spec = tie.close (tie.spec slice-aggregate-leaf-hash (λ c. search needs) (λ c κs. search needs) (λ c. search needs) returns)
+share-bytes-spec = tie.close (tie.spec (λ c. let s : tie.Start = search in sym (length-take-le 16 (s .args .state .now) (s .pre .seed)))
+    (λ c. search needs) (λ c κs. search needs) (λ c. search needs) returns)

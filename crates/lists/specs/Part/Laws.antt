@@ -7,6 +7,7 @@
 -- putAt-none, putAt-more, putAt-all   a loop that copies has come to `paste d at s i` (lib.Seq)
 -- putAt-whole                         a write of all of d leaves nothing of d
 -- putAt-putAt                         two writes one after the other are one
+-- lent-part                           what is lent as `&w[a..a + n]`
 -- lent-back                           what a lent middle part `&mut w[a..e]` leaves in w when it comes back
 -- tail-part, tail-back                what is lent as `&mut w[a..]`, and what it leaves in w when it comes back
 -- part-putAt-same, -before, -behind   what is read after a write: what was written, or what stood there
@@ -90,7 +91,11 @@ unfolding putAt
 putAt-putAt d a b h =
     rw (zero-add (length a), zero-add (length (a ++ b)), length-append, take-append-seam, drop-append-add, drop-drop) (sym (append-assoc a b (drop (length a + length b) d)))
 
--- the left side is what the borrow checker has
+-- the left sides are what the borrow checker has
+pub lent-part : (w : List ℕ) (a n : ℕ) → take (a + n - a) (drop a w) ≡ part w a n
+unfolding part
+lent-part w a n = let e : a + n - a ≡ n = omega arith in ap (λ (m : ℕ). take m (drop a w)) e
+
 pub lent-back : (w ys : List ℕ) (a e : ℕ) → a ≤ e → length ys ≡ e - a → take a w ++ (ys ++ drop (e - a) (drop a w)) ≡ putAt w a ys
 unfolding putAt
 lent-back w ys a e h k = rw (drop-drop, ← k)

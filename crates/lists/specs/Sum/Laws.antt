@@ -15,7 +15,8 @@ use native.Mathlib.Numerals.{add-one}
 use native.Mathlib.Omega.{arith}
 use mathlib.Core.List.{List, [], _∷_, _++_}
 use lib.ListN.{length, take, drop, getD, set, replicate}
-use Rattle.lists.specs.Xor.{_⊕_, ⊕-assoc, ⊕-comm, ⊕-zero, zero-⊕, ⊕-self}
+use Rattle.lists.specs.Xor.{_⊕_}
+use Rattle.lists.specs.Xor.Laws.{⊕-assoc, ⊕-comm, ⊕-zero, zero-⊕, ⊕-self}
 use Rattle.lists.specs.Part.{part, putAt}
 use Rattle.lists.specs.Part.Laws.{length-part, length-putAt, part-putAt-same}
 use Rattle.lists.specs.Sum.{xorList, xorAt}

@@ -12,7 +12,8 @@ use native.Mathlib.Omega.{arith}
 use lib.ListN.{length, take, drop, length-append, length-take, length-drop}
 use lib.Seq.{take-at, take-all, take-append-add, take-append-le, length-take-le}
 use Rattle.lists.specs.Part.{putAt}
-use Rattle.tower.specs.Field.{Point, point, bytesOf, point-bytesOf}
+use Rattle.tower.specs.Field.{Point, point, bytesOf}
+use Rattle.tower.specs.Field.Laws.{point-bytesOf}
 use Rattle.parameters.specs.declared.Parameters.{Parameters}
 use Rattle.layout.specs.Layout.{atB}
 use Rattle.exchange.specs.Run.{Run}

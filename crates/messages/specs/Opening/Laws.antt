@@ -1,13 +1,12 @@
 -- The laws of message 5 from the leaf's state and aux.
 --
--- opening-any        for the prover's state of the leaf and its aux it is message 5
--- message5-any       y does not enter message 5
+-- opening-any        for the prover's state of the leaf and its aux it is message 5, whatever y the key has
 -- opening-length     its length by its three pieces
 -- length-first, left-first, room-second, left-second   two pieces written one after another: lengths
 -- pieces-made        these, and a third one behind them
 -- two-made           two pieces that fill the slice
 -- aux-none, aux-fits, aux-put   aux behind them, or nothing
-use mathlib.Core.Path.{_≡_, refl, sym, ap, ap₂, _∙_}
+use mathlib.Core.Path.{_≡_, sym, ap, ap₂, _∙_}
 use mathlib.Core.Bool.{Bool, true, false, cond}
 use mathlib.Core.List.{List, [], _++_, append-assoc, append-nil}
 use Prim.Native.Nat.{ℕ, _+_, _-_, _≤_}
@@ -24,22 +23,22 @@ use Rattle.exchange.specs.Run.{Run}
 use Rattle.exchange.specs.Tree.{siblingSeeds}
 use Rattle.exchange.specs.Leaf.{share, commitment}
 use Rattle.exchange.specs.Reading.{encode}
-use Rattle.exchange.specs.Values.{Key, imageOf, xOf, SOf, alpha, beta, keyOf}
+use Rattle.exchange.specs.Values.{Key, alpha}
 use Rattle.exchange.specs.Messages.{ownState, ownAux, ownShare, ownCommitment, message5}
 use Rattle.points.specs.Written.{front-kept, middle-kept}
 use Rattle.values.specs.Leaf.{leafValues, leafValues-any}
 use Rattle.messages.specs.Opening.{leafBytes, openingOf}
 
-pub opening-any : (p : Parameters) (x : List ℕ) (run : Run) (key : Key) (m2 : List ℕ) (leaf : ℕ) (state aux : List ℕ)
+pub opening-any : (p : Parameters) (x : List ℕ) (run : Run) (key : Key) (message2 : List ℕ) (leaf : ℕ) (state aux : List ℕ)
     → state ≡ ownState SHAKE256 p x run leaf → aux ≡ ownAux SHAKE256 p x run
-    → openingOf p run m2 leaf (key .matrix) state aux ≡ message5 SHAKE256 p x run key m2 leaf
+    → openingOf p run message2 leaf (key .matrix) state aux ≡ message5 SHAKE256 p x run key message2 leaf
 unfolding openingOf leafBytes message5 ownCommitment ownShare
-opening-any p x run key m2 leaf state aux es ea =
+opening-any p x run key message2 leaf state aux es ea =
     ap₂ (λ (st u : List ℕ). siblingSeeds SHAKE256 (run .prefix) (levels p) 1 (run .root) leaf
-    ++ ((commitment SHAKE256 p (run .prefix) leaf st u ++ leafValues p (key .matrix) m2 (share SHAKE256 p (run .prefix) leaf st u)) ++ cond (isLast p leaf) [] u)) es ea
+    ++ ((commitment SHAKE256 p (run .prefix) leaf st u ++ leafValues p (key .matrix) message2 (share SHAKE256 p (run .prefix) leaf st u)) ++ cond (isLast p leaf) [] u)) es ea
     ∙ ap (_++_ (siblingSeeds SHAKE256 (run .prefix) (levels p) 1 (run .root) leaf))
     (append-assoc own _ rest
-    ∙ ap (_++_ own) (ap (λ (v : List ℕ). v ++ rest) (leafValues-any p key m2 shared) ∙ append-assoc (encode (alpha p key m2 false shared) (p .t)) _ rest))
+    ∙ ap (_++_ own) (ap (λ (v : List ℕ). v ++ rest) (leafValues-any p key message2 shared) ∙ append-assoc (encode (alpha p key message2 false shared) (p .t)) _ rest))
   where
     own : List ℕ
     own = commitment SHAKE256 p (run .prefix) leaf (ownState SHAKE256 p x run leaf) (ownAux SHAKE256 p x run)
@@ -49,11 +48,6 @@ opening-any p x run key m2 leaf state aux es ea =
 
     rest : List ℕ
     rest = cond (isLast p leaf) [] (ownAux SHAKE256 p x run)
-
-pub message5-any : (p : Parameters) (x : List ℕ) (run : Run) (matrix y m2 : List ℕ) (leaf : ℕ)
-    → message5 SHAKE256 p x run (keyOf matrix []) m2 leaf ≡ message5 SHAKE256 p x run (keyOf matrix y) m2 leaf
-unfolding message5 alpha beta SOf xOf imageOf
-message5-any p x run matrix y m2 leaf = refl
 
 pub opening-length : (p : Parameters) (leaf : ℕ) → message5Length p leaf ≡ siblingsLength p + (32 + valuesLength p) + cond (isLast p leaf) 0 (auxLength p)
 unfolding message5Length

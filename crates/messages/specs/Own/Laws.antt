@@ -5,19 +5,17 @@
 -- aux-made           and aux
 -- aux-most           the longest aux
 -- share-fits         there is room for a share in the work area
--- zeroed-whole       all of a list zeroed
 use mathlib.Core.Path.{_≡_, sym, ap, _∙_}
 use mathlib.Core.Bool.{true}
 use mathlib.Core.List.{List, []}
 use Prim.Native.Nat.{ℕ, _≤_, _<_}
 use native.Mathlib.Omega.{arith}
-use lib.ListN.{length, replicate}
-use Rattle.lists.specs.Zeroed.{zeroed}
-use Rattle.lists.specs.Zeroed.Laws.{zeroed-all}
+use lib.ListN.{length}
 use Rattle.shake256.specs.Fips.{SHAKE256}
 use Rattle.parameters.specs.declared.Parameters.{Parameters}
 use Rattle.parameters.specs.Limits.{Within}
 use Rattle.layout.specs.Layout.{leaves, auxLength, shareLength, workLength}
+use Rattle.layout.specs.Layout.Bounds.{sums-fit}
 use Rattle.exchange.specs.Run.{Run}
 use Rattle.exchange.specs.Leaf.{share}
 use Rattle.exchange.specs.Parties.Laws.{total-ext}
@@ -27,7 +25,7 @@ use Rattle.messages.specs.Auxiliary.Laws.{ownAux-is}
 use Rattle.leaves.specs.States.{stateAt}
 use Rattle.leaves.specs.States.Seeds.{own-states}
 use Rattle.parties.specs.Drawn.{drawnShare}
-use Rattle.parties.specs.Sums.Laws.{second-fits}
+use Rattle.parties.specs.Sums.Index.{total-lt, sum-fits}
 use Rattle.messages.specs.Own.{ownStates, sumOf}
 
 module _ (p : Parameters) (x : List ℕ) (run : Run) (sixteen : length (run .root) ≡ 16) where
@@ -50,7 +48,4 @@ pub aux-most : (p : Parameters) → Within p → auxLength p ≤ 796
 aux-most p h = omega (arith, h .m-most, h .k-most, h .w-most, h .t-most)
 
 pub share-fits : (p : Parameters) → Within p → shareLength p ≤ workLength p
-share-fits p h = omega (arith, second-fits p h)
-
-pub zeroed-whole : (z d : List ℕ) (n : ℕ) → z ≡ zeroed (length d) d → length d ≡ n → z ≡ replicate n 0
-zeroed-whole z d n e l = e ∙ ap (λ (k : ℕ). zeroed k d) l ∙ zeroed-all d n l
+share-fits p h = omega (arith, sums-fit p h, sum-fits p (p .axes) (total-lt p))

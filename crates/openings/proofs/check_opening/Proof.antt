@@ -1,17 +1,19 @@
--- The parts of message 5 are read into the fronts of local arrays, aux is lent on, and what is recomputed from them and compared is the check of the opening (`checked-made`).
+-- The parts of message 5 are read into the fronts of local arrays, aux is lent on, and what is recomputed from them and compared
+-- is the check of the opening (`checked-made`).
 use mathlib.Core.Path.{_≡_, refl, sym, ap, _∙_}
 use mathlib.Core.List.{List}
 use Prim.Native.Nat.{ℕ, _-_, _≤_}
 use native.Mathlib.Omega.{arith}
 use borrow.Author.Needs.{needs}
 use lib.ListN.{length, take, drop}
-use Rattle.lists.specs.Part.{putAt}
+use lib.Seq.{length-take-le}
 use Rattle.lists.specs.Part.Laws.{tail-part}
-use Rattle.layout.specs.Layout.{valuesLength, auxLength, siblingsLength}
+use Rattle.layout.specs.Layout.{valuesLength, siblingsLength}
 use Rattle.layout.specs.Layout.Bounds.{levels-most}
-use Rattle.reader.specs.Message5.{auxPlace, siblingsIn, valuesIn, auxIn}
-use Rattle.reader.specs.Message5.Laws.{aux-inside, length-siblingsIn, length-valuesIn, aux-short}
+use Rattle.reader.specs.Message5.{auxPlace, auxIn}
+use Rattle.reader.specs.Message5.Laws.{aux-inside, length-commitmentIn, aux-short}
 use Rattle.reader.specs.Opening.Laws.{room-asked, siblings-taken, values-taken, rest-inside, rest-is}
+use Rattle.openings.specs.Statement.Laws.{prefix-lent}
 use Rattle.openings.specs.Checked.Laws.{checked-made}
 use Rattle.openings.proofs.check_opening.Statement.{statement}
 use Rattle.openings.proofs.check_opening.Tie as tie
@@ -22,132 +24,94 @@ back-to-start c = search
 abbrev back-to-read : tie.After-values-length → tie.After-read-opening
 back-to-read c = search
 
+abbrev back-to-points : tie.After-open-leaves → tie.After-values-length
+back-to-points c = search
+
+abbrev back-to-leaves : tie.After-open-axes → tie.After-open-leaves
+back-to-leaves c = search
+
 module _ (start : tie.Start) where
-  seeds-length : (n : ℕ) → n ≡ siblingsLength (start .args .p) → (w : List ℕ) {w′ : List ℕ} → w′ ≡ putAt w 0 (siblingsIn (start .args .p) (start .args .m5 .now)) → length (take n w′) ≡ siblingsLength (start .args .p)
-  seeds-length n en w e =
-      ap length (siblings-taken (start .args .p) (start .args .leaf) (start .args .m5 .now) (start .pre .message5) n en w e)
-      ∙ length-siblingsIn (start .args .p) (start .args .leaf) (start .args .m5 .now) (start .pre .message5)
+  abbrev m5 : List ℕ
+  m5 = start .args .message5 .now
 
-  points-length : (n : ℕ) → n ≡ valuesLength (start .args .p) → (w : List ℕ) {w′ : List ℕ} → w′ ≡ putAt w 0 (valuesIn (start .args .p) (start .args .m5 .now)) → length (take n w′) ≡ valuesLength (start .args .p)
-  points-length n en w e =
-      ap length (values-taken (start .args .p) (start .args .leaf) (start .args .m5 .now) (start .pre .message5) n en w e)
-      ∙ length-valuesIn (start .args .p) (start .args .leaf) (start .args .m5 .now) (start .pre .message5)
-
-  short : length (auxIn (start .args .p) (start .args .m5 .now)) ≤ auxLength (start .args .p)
-  short = aux-short (start .args .p) (start .args .leaf) (start .args .m5 .now) (start .pre .message5)
-
-  inside : auxPlace (start .args .p) ≤ length (start .args .m5 .now)
-  inside = aux-inside (start .args .p) (start .args .leaf) (start .args .m5 .now) (start .pre .message5)
+  inside : auxPlace (start .args .p) ≤ length m5
+  inside = aux-inside (start .args .p) (start .args .leaf) m5 (start .pre .sized-message5)
 
   -- aux is lent on
-  aux-lent : {n : ℕ} → n ≡ length (auxIn (start .args .p) (start .args .m5 .now))
-      → take (length (start .args .m5 .now) - (length (start .args .m5 .now) - n)) (drop (length (start .args .m5 .now) - n) (start .args .m5 .now)) ≡ auxIn (start .args .p) (start .args .m5 .now)
-  aux-lent {n} e = tail-part (start .args .m5 .now) (length (start .args .m5 .now) - n) ∙ rest-is (start .args .p) (start .args .m5 .now) inside e
+  aux-lent : {n : ℕ} → n ≡ length (auxIn (start .args .p) m5) → take (length m5 - (length m5 - n)) (drop (length m5 - n) m5) ≡ auxIn (start .args .p) m5
+  aux-lent {n} e = tail-part m5 (length m5 - n) ∙ rest-is (start .args .p) m5 inside e
 
-read-opening-requires : tie.Need-read-opening-requires
-read-opening-requires c κs =
-    let start : tie.Start = search in
-    room-asked (start .args .p) (start .pre .within) (start .args .m5 .now) _ _ _ (inside start) refl refl refl
+-- the fronts of the arrays are lent
+siblings-lent : (c : tie.After-siblings-length) → let read : tie.After-read-opening = search in
+    length (take (c .siblings-length .result) (read .read-opening .last .1 .1 .0)) ≡ siblingsLength (back-to-start read .args .p)
+siblings-lent c = let read : tie.After-read-opening = search in let start = back-to-start read in
+    length-take-le _ _
+    (omega (arith, read .read-opening .kept .1 .1 .0, c .siblings-length .ensures, levels-most (start .args .p) (start .pre .within))) ∙
+    c .siblings-length .ensures
+
+values-lent : (c : tie.After-values-length) → let read = back-to-read c in
+    length (take (c .values-length .result) (read .read-opening .last .1 .1 .1 .1 .0)) ≡ valuesLength (back-to-start read .args .p)
+values-lent c = let read = back-to-read c in
+    length-take-le _ _ (omega (arith, read .read-opening .kept .1 .1 .1 .1 .0, c .values-length .ensures, back-to-start read .pre .within .t-most)) ∙
+    c .values-length .ensures
 
 sub-aux : tie.Need-sub-aux
-sub-aux c =
-    let read : tie.After-read-opening = search in
-    let start : tie.Start = search back-to-start in
-    rest-inside (start .args .p) (start .args .m5 .now) (inside start) (read .read-opening .ensures .0)
+sub-aux c = let read : tie.After-read-opening = search in let start : tie.Start = search back-to-start in
+    rest-inside (start .args .p) (m5 start) (inside start) (read .read-opening .ensures .0)
 
 array-share-prefix-siblings : tie.Need-array-share-prefix-siblings
 array-share-prefix-siblings c =
-    let seeds : tie.After-siblings-length = search in
-    let read : tie.After-read-opening = search in
-    let start : tie.Start = search back-to-start in
+    let seeds : tie.After-siblings-length = search in let read : tie.After-read-opening = search in let start : tie.Start = search back-to-start in
     omega (arith, seeds .siblings-length .ensures, levels-most (start .args .p) (start .pre .within))
 
-slice-aggregate-check-parts : tie.Need-slice-aggregate-check-parts
-slice-aggregate-check-parts c =
-    let seeds : tie.After-siblings-length = search in
-    let read : tie.After-read-opening = search in
-    let start : tie.Start = search back-to-start in
-    sym (seeds-length start _ (seeds .siblings-length .ensures) _ (read .read-opening .ensures .1 .0) ∙ sym (seeds .siblings-length .ensures))
-
-array-share-prefix-values : tie.Need-array-share-prefix-values
-array-share-prefix-values c =
-    let points : tie.After-values-length = search in
-    let read : tie.After-read-opening = search in
-    let start : tie.Start = search back-to-start in
-    omega (arith, points .values-length .ensures, start .pre .within .t-most)
-
-slice-aggregate-check-parts-3 : tie.Need-slice-aggregate-check-parts-3
-slice-aggregate-check-parts-3 c =
-    let points : tie.After-values-length = search in
-    let read : tie.After-read-opening = search in
-    let start : tie.Start = search back-to-start in
-    sym (points-length start _ (points .values-length .ensures) _ (read .read-opening .ensures .1 .1 .1) ∙ sym (points .values-length .ensures))
-
-check-parts-requires : tie.Need-check-parts-requires
-check-parts-requires c κs =
-    let points : tie.After-values-length = search in
-    let seeds : tie.After-siblings-length = search in
-    let read : tie.After-read-opening = search back-to-read in
-    let start : tie.Start = search back-to-start in
-    let pre = start .pre in
-    let said = read .read-opening .ensures in
+open-leaves-requires : tie.Need-open-leaves-requires
+open-leaves-requires c κs =
+    let points : tie.After-values-length = search in let seeds : tie.After-siblings-length = search in let read = back-to-read points in
+    let start = back-to-start read in let pre = start .pre in let said = read .read-opening .ensures in
     record {
-      sized-m1 = pre .message1;
+      within = pre .within;
       below = pre .below;
-      sized-siblings = seeds-length start _ (seeds .siblings-length .ensures) _ (said .1 .0);
-      axes = record {
-        announce = record {
-          within = pre .within;
-          sized-m2 = pre .message2;
-          sized-values = points-length start _ (points .values-length .ensures) _ (said .1 .1 .1);
-          sized-matrix = pre .matrix-is;
-          sized-y = pre .y-is;
-          sized-area = pre .area-is;
-          sized-rows = pre .rows-are;
-        };
-        sized-aux = omega (arith, ap length (aux-lent start (said .0)), short start);
-        sized-states = pre .states-are;
-      };
+      sized-siblings = siblings-lent seeds;
+      sized-commitment = ap length (said .1 .1 .0) ∙ length-commitmentIn (start .args .p) (start .args .leaf) (m5 start) (pre .sized-message5);
+      sized-aux = omega (arith, ap length (aux-lent start (said .0)), aux-short (start .args .p) (start .args .leaf) (m5 start) (pre .sized-message5));
+      sized-work = pre .sized-work;
+      sized-opened = pre .sized-opened;
     }
 
+slice-aggregate-open-axes : tie.Need-slice-aggregate-open-axes
+slice-aggregate-open-axes c = let leaves : tie.After-open-leaves = search in let points = back-to-points leaves in
+    sym (values-lent points ∙ sym (points .values-length .ensures))
+
+open-axes-requires : tie.Need-open-axes-requires
+open-axes-requires c κs =
+    let leaves : tie.After-open-leaves = search in let points = back-to-points leaves in let start = back-to-start (back-to-read points) in
+    let pre = start .pre in let d = pre .sized-statement in let e = values-lent points in let f = pre .sized-matrix in
+    let b = leaves .open-leaves .kept .1 .1 .1 .1 .1 .1 .0 ∙ pre .sized-work in
+    let a = leaves .open-leaves .kept .1 .1 .1 .1 .1 .1 .1 .0 ∙ pre .sized-opened in
+    record { within = pre .within; sized-statement = d; sized-values = e; sized-matrix = f; sized-y = pre .sized-y; sized-work = b; sized-opened = a }
+
+verdict-of-requires : tie.Need-verdict-of-requires
+verdict-of-requires c κs = let axes : tie.After-open-axes = search in let leaves = back-to-leaves axes in
+    let pre = back-to-start (back-to-read (back-to-points leaves)) .pre in
+    let a = axes .open-axes .kept .1 .1 .1 .1 .1 .1 .1 .0 ∙ leaves .open-leaves .kept .1 .1 .1 .1 .1 .1 .1 .0 ∙ pre .sized-opened in
+    record { within = pre .within; sized-statement = pre .sized-statement; sized-opened = a }
+
 returns : tie.Need-returns
-returns c =
-    let checked : tie.After-check-parts = search in
-    let points : tie.After-values-length = search in
-    let seeds : tie.After-siblings-length = search in
-    let read : tie.After-read-opening = search back-to-read in
-    let start : tie.Start = search back-to-start in
-    let args = start .args in
-    let pre = start .pre in
+returns c = let verdict : tie.After-verdict-of = search in let axes : tie.After-open-axes = search in let leaves = back-to-leaves axes in
+    let place : tie.After-prefix-place = search in let points = back-to-points leaves in let seeds : tie.After-siblings-length = search in
+    let read = back-to-read points in let start = back-to-start read in let args = start .args in let pre = start .pre in
     let said = read .read-opening .ensures in
-    checked-made (pre .within) (pre .below) (pre .message5)
-    (siblings-taken (args .p) (args .leaf) (args .m5 .now) (pre .message5) _ (seeds .siblings-length .ensures) _ (said .1 .0))
-    (said .1 .1 .0)
-    (values-taken (args .p) (args .leaf) (args .m5 .now) (pre .message5) _ (points .values-length .ensures) _ (said .1 .1 .1))
-    (aux-lent start (said .0))
-    (checked .check-parts .ensures)
+    checked-made (m5 start) (pre .within) (pre .below) (pre .sized-message5)
+    (prefix-lent (args .p) (args .statement .now) (place .prefix-place .ensures))
+    (siblings-taken (args .p) (args .leaf) (m5 start) (pre .sized-message5) _ (seeds .siblings-length .ensures) _ (said .1 .0)) (said .1 .1 .0)
+    (values-taken (args .p) (args .leaf) (m5 start) (pre .sized-message5) _ (points .values-length .ensures) _ (said .1 .1 .1))
+    (aux-lent start (said .0)) (leaves .open-leaves .ensures) (axes .open-axes .ensures) (verdict .verdict-of .ensures)
 
 pub check-opening-spec : {M : Type 1} → statement M
-check-opening-spec =
-    tie.close
-    (tie.spec
-    (λ c. search needs)
-    (λ c. search needs)
-    (λ c. search needs)
-    read-opening-requires
-    (λ c κs. search needs)
-    (λ c κs. search needs)
-    sub-aux
+check-opening-spec = tie.close (tie.spec (λ c. search needs) (λ c. search needs) (λ c. search needs)
+    (λ c κs. let start : tie.Start = search in room-asked (start .args .p) (start .pre .within) (m5 start) _ _ _ (inside start) refl refl refl)
+    (λ c κs. search needs) (λ c κs. search needs) (λ c κs. search needs) sub-aux (λ c. search needs) (λ c. search needs) (λ c. search needs)
     array-share-prefix-siblings
-    slice-aggregate-check-parts
-    (λ c. search needs)
-    array-share-prefix-values
-    slice-aggregate-check-parts-3
-    (λ c. search needs)
-    (λ c. search needs)
-    (λ c. search needs)
-    check-parts-requires
-    (λ c. search needs)
-    (λ c. search needs)
-    (λ c. search needs)
-    returns)
+    (λ c. let seeds : tie.After-siblings-length = search in sym (siblings-lent seeds ∙ sym (seeds .siblings-length .ensures))) (λ c. search needs)
+    (λ c. search needs) (λ c. search needs) (λ c. search needs) open-leaves-requires (λ c. search needs) slice-aggregate-open-axes open-axes-requires
+    (λ c. search needs) (λ c. search needs) (λ c. search needs) verdict-of-requires (λ c. search needs) (λ c. search needs) returns)

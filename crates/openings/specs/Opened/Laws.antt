@@ -13,15 +13,16 @@ use Rattle.shake256.specs.Fips.{SHAKE256}
 use Rattle.lists.specs.Part.{part}
 use Rattle.parameters.specs.declared.Parameters.{Parameters}
 use Rattle.layout.specs.Layout.{side, leaves, rowLength, axisLength, message5Length}
-use Rattle.exchange.specs.Sequences.Laws.{joined-ext, length-joined}
+use Rattle.exchange.specs.Sequences.Laws.{joined-ext, length-joined, part-joined}
 use Rattle.exchange.specs.Strings.{string, string6, string7}
+use Rattle.exchange.specs.Tree.{openedSeeds}
 use Rattle.exchange.specs.Values.{Key}
 use Rattle.exchange.specs.Parties.{announcedBytes, axisString}
 use Rattle.exchange.specs.Parties.Laws.{length-announcedBytes}
-use Rattle.exchange.specs.Opening.{Exchange, openedState, announced, responseString}
-use Rattle.leaves.specs.States.{stateAt}
-use Rattle.leaves.specs.States.Seeds.{opened-states}
-use Rattle.parties.specs.Blocks.{part-joined}
+use Rattle.exchange.specs.Opening.{Exchange, pathOf, openedState, announced, responseString}
+use Rattle.seedtree.specs.Laid.{laid}
+use Rattle.leaves.specs.States.{stateAt, statesOf}
+use Rattle.leaves.specs.States.Seeds.{levels-is, opened-states}
 use Rattle.axes.specs.RowStrings.{rowString, rowsString}
 use Rattle.reader.specs.Message5.Laws.{aux-inside}
 use Rattle.openings.specs.From.{statesFrom}
@@ -32,7 +33,8 @@ pub opened-state : (p : Parameters) (e : Exchange) → e .leaf < leaves p → le
 unfolding openedStates statesFrom
 opened-state p e below long i h other =
     let k = aux-inside p (e .leaf) (e .message5) long in
-    opened-states p e below (omega arith) i h other
+    ap (λ (l : ℕ). stateAt (statesOf (e .prefix) (laid (openedSeeds SHAKE256 (e .prefix) l 1 (e .leaf) (pathOf p e))) (leaves p)) i) (levels-is p)
+    ∙ opened-states p e below (omega arith) i h other
 
 module _ (p : Parameters) (e : Exchange) (key : Key) where
   pub length-openedRow : (j : ℕ) → length (openedRow p e key j) ≡ axisLength p

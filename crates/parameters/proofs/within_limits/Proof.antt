@@ -1,7 +1,7 @@
 -- Each early return has a limit that does not hold, so the test is false; past them all, the facts give the test.
 use mathlib.Core.Path.{sym}
 use native.Mathlib.Omega.{arith}
-use Rattle.lists.specs.Checks.{not-so}
+use Rattle.lists.specs.Checks.Laws.{not-so}
 use Rattle.parameters.specs.Limits.Laws.{within-test, test-within}
 use Rattle.parameters.proofs.within_limits.Statement.{statement}
 use Rattle.parameters.proofs.within_limits.Tie as tie

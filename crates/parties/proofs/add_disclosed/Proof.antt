@@ -13,44 +13,24 @@ use Rattle.parties.proofs.add_disclosed.Statement.{statement}
 use Rattle.parties.proofs.add_disclosed.Tie as tie
 
 returns : tie.Need-returns
-returns c prefix b =
-    let args = c .before .before .before .before .args in
-    let d = args .parts .now in
-    sym (ap (λ (t : Bool). cond t d (addedLeaf (args .p) (args .leaf) (drawnShare (args .p) prefix (args .states .now) (args .leaf)) d)) (eq-eqb (args .leaf) (args .hidden) (c .if1 .taken)))
+returns c prefix b = let start : tie.Start = search in let args = start .args in let d = args .sums .now in
+    sym (ap (λ (t : Bool). cond t d (addedLeaf (args .p) (args .leaf) (drawnShare (args .p) prefix (args .states .now) (args .leaf)) d)) (eq-eqb (args .leaf) (args .hidden-leaf) (c .if1 .taken)))
 
 front : (c : tie.After-draw-share) → Front (c .before .before .before .before .before .before .args .p) (c .draw-share .result) (c .draw-share .last .1 .1 .1 .1 .0)
-front c =
-    let start = c .before .before .before .before .before .before in
+front c = let start : tie.Start = search in
     drawn-front (start .args .p) (start .args .leaf) (c .draw-share .result) (c .draw-share .last .1 .1 .1 .1 .0) (c .draw-share .ensures .0) (omega (arith, start .pre .draw .room, c .draw-share .kept .1 .1 .1 .1 .0))
 
 add-leaf-requires : tie.Need-add-leaf-requires
-add-leaf-requires c κs =
-    let drawn = c .before .before .before .before in
-    let start = drawn .before .before .before .before .before .before in
-    record {
-      area = record { within = start .pre .draw .within; room = start .pre .room };
-      share = front drawn .short;
-    }
+add-leaf-requires c κs = let drawn : tie.After-draw-share = search in let start : tie.Start = search in
+    record { within = start .pre .draw .within; share = front drawn .short; room = start .pre .room }
 
 returns-2 : tie.Need-returns-2
 returns-2 c prefix b =
-    let drawn = c .before .before .before .before .before .before .before in
-    let args = drawn .before .before .before .before .before .before .args in
-    let d = args .parts .now in
-    let s = drawnShare (args .p) prefix (args .states .now) (args .leaf) in
-    c .before .before .add-leaf .ensures
+    let drawn : tie.After-draw-share = search in let else1 : tie.Else1 = search in let start : tie.Start = search in let args = start .args in
+    let d = args .sums .now in let s = drawnShare (args .p) prefix (args .states .now) (args .leaf) in c .before .before .add-leaf .ensures
     ∙ ap (λ (l : List ℕ). addedLeaf (args .p) (args .leaf) l d) (drawn .draw-share .ensures .1 prefix b)
-    ∙ sym (ap (λ (t : Bool). cond t d (addedLeaf (args .p) (args .leaf) s d)) (ne-eqb (args .leaf) (args .hidden) (drawn .before .before .if1 .left)))
+    ∙ sym (ap (λ (t : Bool). cond t d (addedLeaf (args .p) (args .leaf) s d)) (ne-eqb (args .leaf) (args .hidden-leaf) (else1 .if1 .left)))
 
 pub add-disclosed-spec : {M : Type 1} → statement M
-add-disclosed-spec =
-    tie.close
-    (tie.spec
-    returns
-    (λ c κs. search needs)
-    (λ c. front (c .before .before) .there)
-    (λ c. sym (front (c .before .before .before) .long))
-    add-leaf-requires
-    (λ c. search needs)
-    (λ c. search needs)
-    returns-2)
+add-disclosed-spec = tie.close (tie.spec returns (λ c κs. search needs) (λ c. front (c .before .before) .there)
+    (λ c. sym (front (c .before .before .before) .long)) add-leaf-requires (λ c. search needs) (λ c. search needs) returns-2)

@@ -8,29 +8,17 @@ use Rattle.parties.proofs.add_drawn.Statement.{statement}
 use Rattle.parties.proofs.add_drawn.Tie as tie
 
 front : (c : tie.After-draw-share) → Front (c .before .before .before .before .before .args .p) (c .draw-share .result) (c .draw-share .last .1 .1 .1 .1 .0)
-front c =
-    let start = c .before .before .before .before .before in
+front c = let start : tie.Start = search in
     drawn-front (start .args .p) (start .args .leaf) (c .draw-share .result) (c .draw-share .last .1 .1 .1 .1 .0) (c .draw-share .ensures .0) (omega (arith, start .pre .draw .room, c .draw-share .kept .1 .1 .1 .1 .0))
 
 xor-into-requires : tie.Need-xor-into-requires
 xor-into-requires c κs =
-    let drawn = c .before .before .before .before in
-    omega (arith, front drawn .short, drawn .before .before .before .before .before .pre .sum)
+    let drawn : tie.After-draw-share = search in let start : tie.Start = search in omega (arith, front drawn .short, start .pre .sum)
 
 returns : tie.Need-returns
-returns c prefix b =
-    let drawn = c .before .before .before .before .before .before .before in
-    let args = drawn .before .before .before .before .before .args in
+returns c prefix b = let drawn : tie.After-draw-share = search in let start : tie.Start = search in let args = start .args in
     c .before .before .xor-into .ensures ∙ ap (xorList (args .sum .now)) (drawn .draw-share .ensures .1 prefix b)
 
 pub add-drawn-spec : {M : Type 1} → statement M
-add-drawn-spec =
-    tie.close
-    (tie.spec
-    (λ c κs. search needs)
-    (λ c. front (c .before .before .before) .there)
-    (λ c. sym (front (c .before .before .before .before) .long))
-    xor-into-requires
-    (λ c. search needs)
-    (λ c. search needs)
-    returns)
+add-drawn-spec = tie.close (tie.spec (λ c κs. search needs) (λ c. front (c .before .before .before) .there)
+    (λ c. sym (front (c .before .before .before .before) .long)) xor-into-requires (λ c. search needs) (λ c. search needs) returns)

@@ -1,86 +1,55 @@
 -- The loop's invariant: the share is added on the axes passed (`addedTo`); a turn adds it on one axis more (`added-more`).
-use mathlib.Core.Path.{_≡_, refl, ap, _∙_}
+use mathlib.Core.Path.{_≡_, refl, ap, ap₂, _∙_}
 use mathlib.Core.List.{List}
-use Prim.Native.Nat.{ℕ, _-_, _≤_}
+use Prim.Native.Nat.{ℕ, _+_, _-_, _*_, _≤_}
 use native.Mathlib.Omega.{arith}
+use borrow.Author.Needs.{needs}
 use lib.ListN.{length}
 use Rattle.lists.specs.Sum.{xorAt}
-use Rattle.layout.specs.Layout.{digit}
-use Rattle.parties.specs.Sums.{place}
+use Rattle.layout.specs.Layout.{shareLength}
+use Rattle.parties.specs.Sums.{addedOn}
+use Rattle.parties.specs.Sums.Index.{total-lt, sum-fits, sums-small}
 use Rattle.parties.specs.Sums.Adding.{addedTo, added-none, added-more, added-all}
 use Rattle.parties.proofs.add_leaf.Statement.{statement}
 use Rattle.parties.proofs.add_leaf.Tie as tie
 
 abbrev Inv-loop : tie.InvT-loop
-Inv-loop p leaf share parts₀ axis₀ parts axis = (axis ≤ p .axes) × (parts ≡ addedTo p leaf share parts₀ axis) × (length parts ≡ length parts₀)
+Inv-loop p leaf share sums₀ axis₀ sums axis = (axis ≤ p .axes) × (sums ≡ addedTo p leaf share sums₀ axis) × (length sums ≡ length sums₀)
 
 abbrev μ-loop : tie.MeasureT-loop
-μ-loop p leaf share parts₀ axis₀ parts axis = p .axes - axis
-
-loop-holds : tie.Need-loop-holds Inv-loop μ-loop
-loop-holds c =
-    let start = c .before .before in
-    let args = start .args in
-    (omega arith, added-none (args .p) (args .leaf) (args .share .now) (args .parts .now) (start .pre .area .room), refl)
-
-add-to-party-requires : tie.Need-add-to-party-requires Inv-loop μ-loop
-add-to-party-requires c κs =
-    let start = c .before .before .before .before .before .before in
-    let head = c .before .before .before .loop in
-    record {
-      leaf = record {
-        area = record { within = start .pre .area .within; room = head .inv .2 ∙ start .pre .area .room };
-        share = start .pre .share;
-      };
-      axis = c .before .if1 .taken;
-    }
-
-add-axis : tie.Need-add-axis Inv-loop μ-loop
-add-axis c =
-    let start = c .before .before .before .before .before .before .before .before .before in
-    omega (arith, start .pre .area .within .axes-most, c .before .before .before .before .if1 .taken)
-
-loop-less : tie.Need-loop-less Inv-loop μ-loop
-loop-less c = omega (arith, c .before .before .before .before .if1 .taken)
+μ-loop p leaf share sums₀ axis₀ sums axis = p .axes - axis
 
 loop-again : tie.Need-loop-again Inv-loop μ-loop
-loop-again c =
-    let added = c .before .before .add-to-party in
-    let less = c .before .before .before .before .if1 .taken in
-    let head = c .before .before .before .before .before .before .loop in
-    let start = c .before .before .before .before .before .before .before .before .before in
-    let args = start .args in
-    let p = args .p in
-    let s = args .share .now in
-    let d = args .parts .now in (
-      omega (arith, less),
-      added .ensures
-          ∙ ap (λ (l : List ℕ). xorAt l (place p (head .axis) (digit p (head .axis) (args .leaf))) s) (head .inv .1)
-          ∙ added-more p (args .leaf) s d (start .pre .area .room) (head .axis) less (start .pre .share),
-      added .kept .1 .1 .1 .1 .0 ∙ head .inv .2,
+loop-again c = let e : tie.After-add-to-party Inv-loop μ-loop = search in let t : tie.Then1 Inv-loop μ-loop = search in
+    let l : tie.At-loop Inv-loop μ-loop = search in let s : tie.Start Inv-loop μ-loop = search in let a = s .args in (
+      omega (arith, t .if1 .taken),
+      e .add-to-party .ensures ∙ ap (addedOn (a .p) (l .loop .axis) (a .leaf) (a .share .now)) (l .loop .inv .1)
+          ∙ added-more (a .p) (a .leaf) (a .share .now) (a .sums .now) (s .pre .room) (s .pre .share) (l .loop .axis) (t .if1 .taken),
+      omega (arith, e .add-to-party, l .loop .inv .2),
     )
 
-same-length : tie.Need-same-length Inv-loop μ-loop
-same-length c = c .before .before .loop .inv .2
+-- the sum of all leaves lies within the sums
+at : (r : tie.After-share-length Inv-loop μ-loop) → let s : tie.Start Inv-loop μ-loop = search in s .args .p .axes * r .share-length .result ≡ s .args .p .axes * shareLength (s .args .p)
+at r = let s : tie.Start Inv-loop μ-loop = search in ap (_*_ (s .args .p .axes)) (r .share-length .ensures)
+
+fits : (r : tie.After-share-length Inv-loop μ-loop) → let s : tie.Start Inv-loop μ-loop = search in
+    s .args .p .axes * r .share-length .result + shareLength (s .args .p) ≤ length (s .args .sums .now)
+fits r =
+    let s : tie.Start Inv-loop μ-loop = search in omega (arith, at r, sum-fits (s .args .p) (s .args .p .axes) (total-lt (s .args .p)), s .pre .room)
 
 returns : tie.Need-returns Inv-loop μ-loop
-returns c =
-    let head = c .before .before .loop in
-    let args = c .before .before .before .before .before .args in
-    let last : head .axis ≡ args .p .axes = omega (arith, c .if1 .left, head .inv .0) in
-    head .inv .1 ∙ ap (addedTo (args .p) (args .leaf) (args .share .now) (args .parts .now)) last
-    ∙ added-all (args .p) (args .leaf) (args .share .now) (args .parts .now)
+returns c = let e : tie.After-xor-at Inv-loop μ-loop = search in let r : tie.After-share-length Inv-loop μ-loop = search in
+    let o : tie.Else1 Inv-loop μ-loop = search in let l : tie.At-loop Inv-loop μ-loop = search in let s : tie.Start Inv-loop μ-loop = search in
+    let a = s .args in let last : l .loop .axis ≡ a .p .axes = omega (arith, l .loop .inv .0, o .if1 .left) in e .xor-at .ensures
+    ∙ ap₂ (λ (d : List ℕ) (n : ℕ). xorAt d n (a .share .now)) (l .loop .inv .1 ∙ ap (addedTo (a .p) (a .leaf) (a .share .now) (a .sums .now)) last) (at r)
+    ∙ added-all (a .p) (a .leaf) (a .share .now) (a .sums .now) (s .pre .room) (s .pre .share)
 
 pub add-leaf-spec : {M : Type 1} → statement M
-add-leaf-spec =
-    tie.close
-    (tie.spec
-    Inv-loop
-    μ-loop
-    loop-holds
-    add-to-party-requires
-    add-axis
-    loop-less
-    loop-again
-    same-length
-    returns)
+add-leaf-spec = tie.close (tie.spec Inv-loop μ-loop (λ c. let s : tie.Start Inv-loop μ-loop = search in
+    (omega arith, added-none (s .args .p) (s .args .leaf) (s .args .share .now) (s .args .sums .now) (s .pre .room) (s .pre .share), refl))
+    (λ c κs. search needs) (λ c. let t : tie.Then1 Inv-loop μ-loop = search in let s : tie.Start Inv-loop μ-loop = search in
+    omega (arith, t .if1 .taken, s .pre .within .axes-most)) (λ c. let t : tie.Then1 Inv-loop μ-loop = search in omega (arith, t .if1 .taken))
+    loop-again (λ c κs. search needs) (λ c. let r : tie.After-share-length Inv-loop μ-loop = search in let s : tie.Start Inv-loop μ-loop = search in
+    omega (arith, fits r, s .pre .room, sums-small (s .args .p) (s .pre .within)))
+    (λ c κs. let r : tie.After-share-length Inv-loop μ-loop = search in let l : tie.At-loop Inv-loop μ-loop = search in
+    let s : tie.Start Inv-loop μ-loop = search in omega (arith, fits r, l .loop .inv .2, s .pre .share)) (λ c. search needs) returns)

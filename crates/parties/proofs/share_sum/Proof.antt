@@ -14,7 +14,6 @@ use Rattle.layout.specs.Layout.{leaves, shareLength}
 use Rattle.exchange.specs.Parties.{total}
 use Rattle.exchange.specs.Parties.Laws.{total-yes}
 use Rattle.parties.specs.Drawn.{drawnShare}
-use Rattle.parties.specs.Drawn.Laws.{leaves-small}
 use Rattle.parties.proofs.share_sum.Statement.{statement}
 use Rattle.parties.proofs.share_sum.Tie as tie
 
@@ -33,85 +32,31 @@ abbrev μ-loop : tie.MeasureT-loop
 loop-holds : tie.Need-loop-holds Inv-loop μ-loop
 unfolding total
 loop-holds c =
-    let zeros = c .before .before .zero-front in
-    let start = c .before .before .before .before .before .before .before .before .before in
-    let out = start .args .out .now in
-    record {
+    let start : tie.Start Inv-loop μ-loop = search in let zeros = c .before .before .zero-front in let out = start .args .out .now in record {
       within = omega arith;
       sum = zeros .ensures ∙ zeroed-all out (length out) refl ∙ ap (λ (n : ℕ). replicate n 0) (start .pre .room);
       long = zeros .kept .0 ∙ start .pre .room;
       room = length-replicate {A = ℕ} 860 0;
     }
 
-slice-aggregate-add-drawn : tie.Need-slice-aggregate-add-drawn Inv-loop μ-loop
-slice-aggregate-add-drawn c = sym (c .before .before .loop .inv .room)
-
-add-drawn-requires : tie.Need-add-drawn-requires Inv-loop μ-loop
-add-drawn-requires c κs =
-    let head = c .before .before .before .loop in
-    let counted = c .before .before .before .before .before .before .before .before in
-    let start = counted .before .before .before .before .before in
-    record {
-      draw = record {
-        within = start .pre .within;
-        states = start .pre .states;
-        leaf = omega (arith, c .before .before .loop-test .taken, counted .leaf-count .ensures);
-        room = omega (arith, head .inv .room, start .pre .within);
-      };
-      sum = head .inv .long;
-    }
-
-add-i : tie.Need-add-i Inv-loop μ-loop
-add-i c =
-    let counted = c .before .before .before .before .before .before .before .before .before .before .before .before in
-    let start = counted .before .before .before .before .before in
-    omega (arith, leaves-small (start .args .p) (start .pre .within), counted .leaf-count .ensures)
-
-loop-less : tie.Need-loop-less Inv-loop μ-loop
-loop-less c = omega arith
-
 loop-again : tie.Need-loop-again Inv-loop μ-loop
-loop-again c =
-    let added = c .before .before .before .add-drawn in
-    let head = c .before .before .before .before .before .before .before .loop in
-    let begun = c .before .before .before .before .before .before .before .before .before .before .before .before .before in
-    let args = begun .before .before .before .before .args in
-    let p = args .p in
-    let s = drawnShare p (args .prefix .now) (args .states .now) in
-    let i = head .i in
-    record {
-      within = omega (arith, c .before .before .before .before .before .before .loop-test .taken);
-      sum = added .ensures (args .prefix .now) (begun .begin .ensures) ∙ ap (λ (l : List ℕ). xorList l (s i)) (head .inv .sum)
+loop-again c = let in-loop : tie.In-loop Inv-loop μ-loop = search in let head : tie.At-loop Inv-loop μ-loop = search in
+    let begun : tie.After-begin Inv-loop μ-loop = search in let start : tie.Start Inv-loop μ-loop = search in
+    let added = c .before .before .before .add-drawn in let args = start .args in let p = args .p in
+    let s = drawnShare p (args .prefix .now) (args .states .now) in let i = head .loop .i in record {
+      within = omega (arith, in-loop .loop-test .taken);
+      sum = added .ensures (args .prefix .now) (begun .begin .ensures) ∙ ap (λ (l : List ℕ). xorList l (s i)) (head .loop .inv .sum)
           ∙ sym (total-yes p (λ i. true) s i refl) ∙ ap (total p (λ i. true) s) (sym (add-one i));
-      long = added .kept .1 .1 .1 .1 .1 .0 ∙ head .inv .long;
-      room = added .kept .1 .1 .1 .1 .0 ∙ head .inv .room;
+      long = added .kept .1 .1 .1 .1 .1 .0 ∙ head .loop .inv .long;
+      room = added .kept .1 .1 .1 .1 .0 ∙ head .loop .inv .room;
     }
-
-same-length : tie.Need-same-length Inv-loop μ-loop
-same-length c = c .before .loop .inv .long ∙ sym (c .before .before .before .before .before .before .before .before .before .before .before .pre .room)
 
 returns : tie.Need-returns Inv-loop μ-loop
-returns c =
-    let head = c .before .loop in
-    let counted = c .before .before .before .before .before .before in
-    let args = counted .before .before .before .before .before .args in
+returns c = let counted : tie.After-leaf-count Inv-loop μ-loop = search in let start : tie.Start Inv-loop μ-loop = search in
+    let head = c .before .loop in let args = start .args in
     let last : head .i ≡ leaves (args .p) = omega (arith, c .loop-test .left, head .inv .within, counted .leaf-count .ensures) in
     head .inv .sum ∙ ap (total (args .p) (λ i. true) (drawnShare (args .p) (args .prefix .now) (args .states .now))) last
 
 pub share-sum-spec : {M : Type 1} → statement M
-share-sum-spec =
-    tie.close
-    (tie.spec
-    Inv-loop
-    μ-loop
-    (λ c κs. search needs)
-    (λ c κs. search needs)
-    (λ c κs. search needs)
-    loop-holds
-    slice-aggregate-add-drawn
-    add-drawn-requires
-    add-i
-    loop-less
-    loop-again
-    same-length
-    returns)
+share-sum-spec = tie.close (tie.spec Inv-loop μ-loop (λ c κs. search needs) (λ c κs. search needs) (λ c κs. search needs) loop-holds
+    (λ c. search needs) (λ c κs. search needs) (λ c. search needs) (λ c. omega arith) loop-again (λ c. search needs) returns)

@@ -1,6 +1,5 @@
 -- The laws of a leaf's share as hashed.
 --
--- leaves-small         there are at most 256 leaves
 -- drawnLength-le       no leaf takes more than a whole share
 -- Front, drawn-front   the front of a buffer that a share was drawn into
 -- drawnShare-is        a drawn share is what layer 3 gives, in the leaf's length
@@ -15,16 +14,11 @@ use lib.Seq.{length-take-le}
 use Rattle.shake256.specs.Fips.{SHAKE256}
 use Rattle.shake256.proofs.Laws.{length-SHAKE256}
 use Rattle.parameters.specs.declared.Parameters.{Parameters}
-use Rattle.parameters.specs.Limits.{Within}
-use Rattle.layout.specs.Layout.{leaves, isLast, shareLength, atX}
-use Rattle.layout.specs.Layout.Bounds.{leaves-most}
+use Rattle.layout.specs.Layout.{isLast, shareLength, atX}
 use Rattle.exchange.specs.Strings.{string3}
 use Rattle.exchange.specs.Leaf.{share}
 use Rattle.leaves.specs.States.{stateAt}
 use Rattle.parties.specs.Drawn.{drawnLength, drawnShare}
-
-pub leaves-small : (p : Parameters) → Within p → leaves p ≤ 256
-leaves-small p h = leaves-most p h
 
 pub drawnLength-le : (p : Parameters) (i : ℕ) → drawnLength p i ≤ shareLength p
 unfolding drawnLength

@@ -16,18 +16,23 @@ use native.Mathlib.Omega.{arith}
 use lib.Dec.{lit<}
 use lib.ListN.{length, getD, take, drop, length-append}
 use lib.Seq.{getD-take}
-use Rattle.algebra.specs.Ring.{Ring2, ring}
+use Rattle.algebra.specs.Ring.{Ring2}
+use Rattle.algebra.specs.Ring.Laws.{ring}
 use Rattle.algebra.specs.Extension.Laws.{pair}
-use Rattle.lists.specs.Xor.{_⊕_, xors, ⊕-zero}
+use Rattle.lists.specs.Xor.{_⊕_}
+use Rattle.lists.specs.Xor.Laws.{xors, ⊕-zero}
 use Rattle.lists.specs.Part.{putAt}
 use Rattle.lists.specs.Part.Laws.{putAt-putAt, putAt-whole}
 use Rattle.bytefield.specs.Product.{_⊗_, reduction, xtime, timesBits}
 use Rattle.bytefield.specs.Product.Laws.{bytefield, ⊗-comm, ⊗-lt, one-⊗, zero-⊗}
-use Rattle.bytefield.specs.Byte.{byte, byteRing, byte-homomorphism}
+use Rattle.bytefield.specs.Byte.{byte, byteRing}
+use Rattle.bytefield.specs.Byte.Laws.{byte-homomorphism}
 use Rattle.tower.specs.Point.{Quad, quad, four, lone, fourSum, fourTimes}
 use Rattle.tower.specs.Point.Steps.{byte-product}
 use Rattle.tower.specs.Point.Written.{plus₄, times₄, four-path}
-use Rattle.tower.specs.Field.{Point, point, bytesOf, bytesOf-point, pointOf, point-bytesOf, point-sum, point-times}
+use Rattle.tower.specs.Field.{Point, point, bytesOf, pointOf}
+use Rattle.tower.specs.Field.Laws.{point-bytesOf}
+use Rattle.tower.specs.Field.Laws.{bytesOf-point, point-sum, point-times}
 use Rattle.packed.specs.Word.{bytes, word, scaled}
 use Rattle.packed.specs.Word.Laws.{⊕-shl, first-byte, other-bytes}
 use Rattle.packed.specs.Table.{nibbles, multiples, picked}

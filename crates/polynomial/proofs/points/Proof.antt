@@ -18,19 +18,11 @@ Inv-loop fs₀ f₀ i₀ fs f i = (i ≤ 255) × (f ≡ i) × (fs ≡ blend i (i
 abbrev μ-loop : tie.MeasureT-loop
 μ-loop fs₀ f₀ i₀ fs f i = 255 - i
 
-loop-holds : tie.Need-loop-holds Inv-loop μ-loop
-loop-holds c = (omega arith, omega arith, blend-none _ _, refl, refl)
-
 loop-again : tie.Need-loop-again Inv-loop μ-loop
-loop-again c =
-    let l = c .before .loop in
+loop-again c = let l = c .before .loop in
     (omega arith, omega arith, points-turn 255 (l .i) _ _ (l .fs) (l .inv .3) (omega arith) (omega arith) (l .inv .2), l .inv .3, simp length-set (l .inv .4))
 
-returns : tie.Need-returns Inv-loop μ-loop
-returns c =
-    let l = c .before .loop in
-    l .inv .2 ∙ blend-all (l .i) _ _ (length-ascending 1 255 ∙ sym (l .inv .3)) (omega arith)
-
 pub points-spec : {M : Type 1} → statement M
-points-spec = tie.close (tie.spec Inv-loop μ-loop loop-holds (λ c. search needs) (λ c. omega arith)
-    (λ c. search needs) (λ c. search needs) loop-again returns)
+points-spec = tie.close (tie.spec Inv-loop μ-loop (λ c. (omega arith, omega arith, blend-none _ _, refl, refl)) (λ c. search needs) (λ c. omega arith)
+    (λ c. search needs) (λ c. search needs) loop-again
+    (λ c. let l = c .before .loop in l .inv .2 ∙ blend-all (l .i) _ _ (length-ascending 1 255 ∙ sym (l .inv .3)) (omega arith)))

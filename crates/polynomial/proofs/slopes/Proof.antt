@@ -15,20 +15,14 @@ use Rattle.polynomial.proofs.slopes.Statement.{statement}
 use Rattle.polynomial.proofs.slopes.Tie as tie
 
 abbrev Inv-loop : tie.InvT-loop
-Inv-loop zs₀ gs f y log pow n i₀ zs i = (i ≤ n) × (zs ≡ blend i (slopes byteOps inverse f y gs zs₀) zs₀) × (length zs ≡ length zs₀)
+Inv-loop zs₀ gs f y tables n i₀ zs i = (i ≤ n) × (zs ≡ blend i (slopes byteOps inverse f y gs zs₀) zs₀) × (length zs ≡ length zs₀)
 
 abbrev μ-loop : tie.MeasureT-loop
-μ-loop zs₀ gs f y log pow n i₀ zs i = n - i
-
-loop-holds : tie.Need-loop-holds Inv-loop μ-loop
-loop-holds c = (omega arith, blend-none _ _, refl)
+μ-loop zs₀ gs f y tables n i₀ zs i = n - i
 
 loop-again : tie.Need-loop-again Inv-loop μ-loop
-loop-again c =
-    let after-sum : tie.After-sum Inv-loop μ-loop = search in
-    let p : tie.At-loop Inv-loop μ-loop = search in
-    let start : tie.Start Inv-loop μ-loop = search in
-    let a = start .args in (
+loop-again c = let after-sum : tie.After-sum Inv-loop μ-loop = search in let p : tie.At-loop Inv-loop μ-loop = search in
+    let start : tie.Start Inv-loop μ-loop = search in let a = start .args in (
       omega arith,
       slopes-turn (a .f) (a .y) (p .loop .i) (a .gs .now) (a .zs .now) (p .loop .zs) _ _ _ _ (start .pre .0) (omega arith) (p .loop .inv .1)
           (after-sum .sum .ensures) (c .before .before .sum2 .ensures) (c .before .inverse .ensures) (c .product .ensures),
@@ -36,13 +30,10 @@ loop-again c =
     )
 
 returns : tie.Need-returns Inv-loop μ-loop
-returns c =
-    let s : tie.Start Inv-loop μ-loop = search in
-    let a = s .args in
-    c .before .loop .inv .1
+returns c = let s : tie.Start Inv-loop μ-loop = search in let a = s .args in c .before .loop .inv .1
     ∙ blend-all (c .before .loop .i) _ _ (length-slopes byteOps inverse (a .f) (a .y) (a .gs .now) (a .zs .now) (s .pre .0)) (omega arith)
 
 pub slopes-spec : {M : Type 1} → statement M
-slopes-spec = tie.close (tie.spec Inv-loop μ-loop loop-holds (λ c. search needs) (λ c κs. search needs)
-    (λ c. search needs) (λ c κs. search needs) (λ c κs. search needs) (λ c κs. search needs) (λ c. search needs)
-    (λ c. search needs) (λ c. search needs) loop-again (λ c. search needs) returns)
+slopes-spec = tie.close (tie.spec Inv-loop μ-loop (λ c. (omega arith, blend-none _ _, refl)) (λ c. search needs) (λ c κs. search needs)
+    (λ c. search needs) (λ c κs. search needs) (λ c κs. search needs) (λ c κs. search needs) (λ c. search needs) (λ c. search needs)
+    (λ c. search needs) loop-again (λ c. search needs) returns)

@@ -9,7 +9,8 @@ use native.Mathlib.Omega.{arith}
 use lib.ListN.{length, take, getD, replicate, length-append, length-replicate, getD-replicate, List·getD-eq-default}
 use lib.Seq.{take-at, take-all, getD-at, take-append-add, getD-append-add}
 use Rattle.algebra.specs.Operations.{Operations}
-use Rattle.algebra.specs.Ring.{Ring2, ops, ring}
+use Rattle.algebra.specs.Ring.{Ring2, ops}
+use Rattle.algebra.specs.Ring.Laws.{ring}
 use Rattle.algebra.specs.Polynomial.{plus, scale, times}
 use Rattle.algebra.specs.Polynomial.Lengths.{length-plus, length-scale}
 use Rattle.polynomial.specs.Division.{degree, remainder, over}

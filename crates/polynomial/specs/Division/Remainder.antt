@@ -11,7 +11,8 @@ use native.Mathlib.Omega.{arith}
 use lib.ListN.{length, take, getD, replicate, length-replicate}
 use lib.Seq.{length-take-le, take-suc, take-all}
 use Rattle.algebra.specs.Operations.{Operations}
-use Rattle.algebra.specs.Ring.{Ring2, ops, ring, combine}
+use Rattle.algebra.specs.Ring.{Ring2, ops}
+use Rattle.algebra.specs.Ring.Laws.{ring, combine}
 use Rattle.algebra.specs.Polynomial.{eval, scale, pow}
 use Rattle.algebra.specs.Polynomial.Lengths.{length-plus, length-scale}
 use Rattle.algebra.specs.Polynomial.Evaluation.{eval-plus, eval-scale, eval-snoc}

@@ -26,7 +26,8 @@ use lib.ListN.{length, take, getD, length-map}
 use Rattle.lists.specs.Sum.{xorList}
 use Rattle.lists.specs.Sum.Laws.{length-xorList}
 use Rattle.algebra.specs.Ring.{ops}
-use Rattle.algebra.specs.Each.{Each, Distinct, each-of-map, each-at}
+use Rattle.algebra.specs.Each.{Each, Distinct}
+use Rattle.algebra.specs.Each.Laws.{each-of-map, each-at}
 use Rattle.algebra.specs.Polynomial.{eval, plus, product, vanishing, interpolate, values}
 use Rattle.algebra.specs.Polynomial.Lengths.{length-product, length-interpolate}
 use Rattle.algebra.specs.Polynomial.Linear.{interpolate-sum}
@@ -37,8 +38,11 @@ use Rattle.algebra.specs.Polynomial.Maps.{map-eval, map-interpolate, map-produc
 use Rattle.bytefield.specs.Product.{byteOps}
 use Rattle.bytefield.specs.Product.Laws.{byte-linear, xorList-plus}
 use Rattle.bytefield.specs.Inverse.{inverse}
-use Rattle.bytefield.specs.Byte.{Byte, byte, byteRing, byteField, byteInverse, byte-zero, byte-one, byte-inverse, byte-homomorphism}
-use Rattle.polynomial.specs.Bytes.{Bytes, inField, byte-equal, bytes-equal, byte-eval, bytes-monic, bytes-interpolate, bytes-product}
+use Rattle.bytefield.specs.Byte.{Byte, byte, byteRing, byteField, byteInverse}
+use Rattle.bytefield.specs.Byte.Laws.{byte-zero}
+use Rattle.bytefield.specs.Byte.Laws.{byte-one, byte-inverse, byte-homomorphism}
+use Rattle.polynomial.specs.Bytes.{Bytes, inField}
+use Rattle.polynomial.specs.Bytes.Laws.{byte-equal, bytes-equal, byte-eval, bytes-monic, bytes-interpolate, bytes-product}
 use Rattle.polynomial.specs.Interpolant.{ascending, interpolationPoints, interpolantOf, vanishingOf}
 
 -- ---- the points

@@ -1,7 +1,7 @@
--- The laws of the checks of begin but 13.
+-- The laws of the checks of begin.
 --
 -- passed, failed     what a branch on a negated test says
--- argument-row       the checks from the values of their tests
+-- begin-row          the checks from the values of their tests
 -- begin-sized        what the test of the lengths says
 -- padded-back        x lent at the front of 255 zeros, and back
 use mathlib.Core.Path.{_≡_, sym, _∙_}
@@ -13,16 +13,18 @@ use lib.Dec.{eqb, leb}
 use lib.ListN.{length, replicate, drop}
 use borrow.Author.Tests.{eqb-true, not-true, not-false}
 use Rattle.lists.specs.Part.{putAt}
-use Rattle.lists.specs.Checks.{allTrue, all-at, and-right}
+use Rattle.lists.specs.Checks.{allTrue}
+use Rattle.lists.specs.Checks.Laws.{all-at, and-right}
 use Rattle.answers.specs.declared.Answer.the-variants.{Done}
-use Rattle.answers.specs.declared.Refusal.the-variants.{Parameter, Length, Weight}
+use Rattle.answers.specs.declared.Refusal.the-variants.{Parameter, Length, Weight, Repeated}
 use Rattle.answers.specs.Checks.{check, checks}
 use Rattle.parameters.specs.declared.Parameters.{Parameters}
 use Rattle.parameters.specs.Limits.{withinLimits}
 use Rattle.relation.specs.Key.{weightOf, vectorOf}
 use Rattle.layout.specs.Lent.{lent}
 use Rattle.layout.specs.Lent.Laws.{test-lent}
-use Rattle.prover.specs.Arguments.{beginTests, argumentChecks, Sized}
+use Rattle.prover.specs.declared.arguments.Lengths.{Lengths}
+use Rattle.prover.specs.Arguments.{beginTests, beginRow, Sized}
 
 -- ---- a test that the code made, negated and branched on
 
@@ -34,26 +36,27 @@ failed {r} e h = sym e ∙ not-true r h
 
 -- ---- the checks
 
-module _ (p : Parameters) (xA salt root matrix y work out : List ℕ) where
+module _ (p : Parameters) (xA matrix y : List ℕ) (l : Lengths) where
   abbrev tests : List Bool
-  tests = beginTests p (length xA) (length salt) (length root) (length matrix) (length y) (length work) (length out)
+  tests = beginTests p (length xA) (length matrix) (length y) l
 
-  pub argument-row : (limits lengths light : Bool) → withinLimits p ≡ limits → allTrue tests ≡ lengths → leb (weightOf (vectorOf matrix y xA)) (p .w) ≡ light
-      → check limits Parameter (check lengths Length (check light Weight Done)) ≡ checks (argumentChecks p xA salt root matrix y work out)
-  unfolding argumentChecks
-  argument-row limits lengths light e f g = rw (← e, ← f, ← g)
+  pub begin-row : (again limits lengths light same : Bool) → withinLimits p ≡ limits → allTrue tests ≡ lengths
+      → leb (weightOf (vectorOf matrix y xA)) (p .w) ≡ light → again ≡ same
+      → check limits Parameter (check lengths Length (check light Weight (check (not same) Repeated Done))) ≡ checks (beginRow p xA matrix y l again)
+  unfolding beginRow
+  begin-row again limits lengths light same e f g h = rw (← e, ← f, ← g, ← h)
 
-  pub begin-sized : allTrue tests ≡ true → Sized p xA salt root matrix y work out
+  pub begin-sized : allTrue tests ≡ true → Sized p (length xA) (length matrix) (length y) l
   unfolding beginTests lent
   begin-sized e =
       let test = all-at tests e in
-      let rest = and-right (eqb (length root) 16) _ (and-right (eqb (length salt) 32) _ (and-right (eqb (length xA) (p .k)) _ e)) in
+      let rest = and-right (eqb (l .root) 16) _ (and-right (eqb (l .salt) 32) _ (and-right (eqb (length xA) (p .k)) _ e)) in
       record {
         xA-is = eqb-true (length xA) (p .k) (test 0);
-        salt-is = eqb-true (length salt) 32 (test 1);
-        root-is = eqb-true (length root) 16 (test 2);
-        out-is = eqb-true (length out) 64 (test 3);
-        lent = test-lent p (length matrix) (length y) (length work) (and-right (eqb (length out) 64) _ rest);
+        salt-is = eqb-true (l .salt) 32 (test 1);
+        root-is = eqb-true (l .root) 16 (test 2);
+        out-is = eqb-true (l .out) 64 (test 3);
+        lent = test-lent p (length matrix) (length y) (l .work) (and-right (eqb (l .out) 64) _ rest);
       }
 
 -- ---- x

@@ -22,7 +22,9 @@ use lib.ListN.{length, take, replicate, length-append, length-map}
 use lib.Seq.{take-at}
 use Rattle.algebra.specs.Ring.{ops}
 use Rattle.algebra.specs.Each.{Each, Disjoint}
-use Rattle.algebra.specs.Marks.{pick, leave, length-pick, length-leave, distinct-leave, pick-apart, map-pick, map-leave}
+use Rattle.algebra.specs.Marks.{pick, leave}
+use Rattle.algebra.specs.Marks.Laws.{length-pick, map-pick}
+use Rattle.algebra.specs.Marks.Laws.{length-leave, distinct-leave, pick-apart, map-leave}
 use Rattle.algebra.specs.Polynomial.{eval, times, product, quotient, vanishing, interpolate}
 use Rattle.algebra.specs.Polynomial.Lengths.{length-product}
 use Rattle.algebra.specs.Polynomial.Lengths as lengths
@@ -33,12 +35,14 @@ use Rattle.algebra.specs.Polynomial.Maps.{map-times, map-product, map-quotient,
 use Rattle.bytefield.specs.Product.{byteOps}
 use Rattle.bytefield.specs.Product.Laws.{⊗-lt}
 use Rattle.bytefield.specs.Inverse.{inverse}
-use Rattle.bytefield.specs.Byte.{Byte, byte, byteRing, byteField, byteInverse, byte-one, byte-inverse, byte-homomorphism}
+use Rattle.bytefield.specs.Byte.{Byte, byte, byteRing, byteField, byteInverse}
+use Rattle.bytefield.specs.Byte.Laws.{byte-one, byte-inverse, byte-homomorphism}
 use Rattle.polynomial.specs.Division.{over}
 use Rattle.polynomial.specs.Division.Exact.{over-times}
 use Rattle.polynomial.specs.Division.Maps.{map-take, map-over}
-use Rattle.polynomial.specs.Bytes.{Bytes, inField, bytes-equal, bytes-monic, bytes-take, bytes-times, bytes-product, bytes-interpolate, bytes-over}
-use Rattle.polynomial.specs.Bytes as polynomial
+use Rattle.polynomial.specs.Bytes.{Bytes, inField}
+use Rattle.polynomial.specs.Bytes.Laws.{bytes-equal, bytes-monic, bytes-take, bytes-times, bytes-product, bytes-interpolate, bytes-over}
+use Rattle.polynomial.specs.Bytes.Laws as polynomial
 use Rattle.polynomial.specs.Interpolant.{interpolationPoints, interpolantOf, vanishingOf}
 use Rattle.polynomial.specs.Interpolant.Laws.{length-ascending, distinct-ascending, points-distinct, length-interpolant, bytes-interpolant, interpolant-values, vanishing-in-field, vanishing-leading, length-vanishing}
 use Rattle.relation.specs.Key.{weightOf, positions, locatorOf, quotientOf}

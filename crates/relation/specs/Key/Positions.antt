@@ -13,7 +13,8 @@ use Rattle.algebra.specs.Ring.{ops}
 use Rattle.algebra.specs.Each.{Each}
 use Rattle.algebra.specs.Marks.{leave, marked}
 use Rattle.algebra.specs.Polynomial.{eval, first, behind, values}
-use Rattle.bytefield.specs.Byte.{Byte, byteRing, byte-zero}
+use Rattle.bytefield.specs.Byte.{Byte, byteRing}
+use Rattle.bytefield.specs.Byte.Laws.{byte-zero}
 use Rattle.polynomial.specs.Bytes.{inField}
 use Rattle.relation.specs.Key.{weightOf, filled, positions}
 

@@ -10,12 +10,14 @@ use Prim.Native.Nat.{ℕ, zero, suc, _+_, _<_}
 use native.Mathlib.Omega.{arith}
 use lib.Dec.{lit<}
 use lib.ListN.{length, drop, length-append}
-use Rattle.lists.specs.Xor.{_⊕_, zero-⊕, ⊕-lt}
+use Rattle.lists.specs.Xor.{_⊕_}
+use Rattle.lists.specs.Xor.Laws.{zero-⊕, ⊕-lt}
 use Rattle.lists.specs.Sum.{xorList}
 use Rattle.lists.specs.Sum.Laws.{length-xorList, xorList-comm, xorList-assoc, xorList-append}
 use Rattle.bytefield.specs.Product.{_⊗_}
 use Rattle.bytefield.specs.Product.Laws.{⊗-lt, bytefield}
-use Rattle.polynomial.specs.Bytes.{Bytes, bytes-append, bytes-xorList}
+use Rattle.polynomial.specs.Bytes.{Bytes}
+use Rattle.polynomial.specs.Bytes.Laws.{bytes-append, bytes-xorList}
 use Rattle.relation.specs.Key.{dot, rows, vectorOf}
 
 -- ---- lengths

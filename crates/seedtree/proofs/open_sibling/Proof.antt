@@ -15,46 +15,18 @@ use Rattle.seedtree.proofs.Lent.{lent-length, part-back}
 use Rattle.seedtree.proofs.open_sibling.Statement.{statement}
 use Rattle.seedtree.proofs.open_sibling.Tie as tie
 
-sub-from : tie.Need-sub-from
-sub-from c = let start : tie.Start = search in omega (arith, c .skipped .ensures, skipped-le (start .args .way))
-
-sub-below : tie.Need-sub-below
-sub-below c = let start : tie.Start = search in omega (arith, c .side .ensures, side-le (start .args .way))
-
 returns : tie.Need-returns
-returns c prefix b =
-    let sided : tie.After-side = search in
-    let skipping : tie.After-skipped = search in
-    let start : tie.Start = search in
-    let filled = c .before .before .below in
-    let args = start .args in
-    let w = args .way in
-    let d = args .seeds .now in
-    let half = w .size / 2 in
-    let from = args .at + 16 * (half - skipping .skipped .result) in
-    let room : from + 16 * half ≤ length d = omega (arith, start .pre .room) in
+returns c prefix b = let sided : tie.After-side = search in let skipping : tie.After-skipped = search in let start : tie.Start = search in
+    let filled = c .before .before .below in let args = start .args in let w = args .way in let d = args .seeds .now in let half = w .size / 2 in
+    let from = args .at + 16 * (half - skipping .skipped .result) in let room : from + 16 * half ≤ length d = omega (arith, start .pre .room) in
     let leaves : ℕ → List ℕ = λ n. laid (leafSeeds SHAKE256 prefix (args .l) (2 * w .node + (1 - n)) (args .sibling .now)) in
     part-back d (filled .last .1 .1 .1 .1 .0) from (16 * half) (filled .kept .1 .1 .1 .1 .0 ∙ lent-length d from (16 * half) room)
     ∙ ap (putAt d from) (filled .ensures prefix b ∙ ap leaves (sided .side .ensures))
     ∙ ap (λ (n : ℕ). putAt d (args .at + 16 * (half - n)) (leaves (side w))) (skipping .skipped .ensures)
 
 pub open-sibling-spec : {M : Type 1} → statement M
-open-sibling-spec =
-    tie.close
-    (tie.spec
-    (λ c κs. search needs)
-    sub-from
-    (λ c. search needs)
-    (λ c. search needs)
-    (λ c. search needs)
-    (λ c. search needs)
-    (λ c. search needs)
-    (λ c κs. search needs)
-    sub-below
-    (λ c. search needs)
-    (λ c. search needs)
-    (λ c. search needs)
-    (λ c. search needs)
-    (λ c κs. search needs)
-    (λ c. search needs)
-    returns)
+open-sibling-spec = tie.close (tie.spec (λ c κs. search needs)
+    (λ c. let start : tie.Start = search in omega (arith, c .skipped .ensures, skipped-le (start .args .way))) (λ c. search needs)
+    (λ c. search needs) (λ c. search needs) (λ c. search needs) (λ c. search needs) (λ c κs. search needs)
+    (λ c. let start : tie.Start = search in omega (arith, c .side .ensures, side-le (start .args .way))) (λ c. search needs) (λ c. search needs)
+    (λ c. search needs) (λ c. search needs) (λ c κs. search needs) (λ c. search needs) returns)

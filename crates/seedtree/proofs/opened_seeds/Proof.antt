@@ -15,7 +15,8 @@ use Rattle.seedtree.specs.Laid.{laid}
 use Rattle.seedtree.specs.Way.{side, skipped, next, OnWay}
 use Rattle.seedtree.specs.Way.Laws.{rootWay-size, next-size, skipped-le, onWay-root, onWay-half, onWay-twice, onWay-next, onWay-node}
 use Rattle.seedtree.specs.Opened.{opening, beside, opened-none, opened-more, opened-all}
-use Rattle.seedtree.proofs.Lent.{lent-part, lent-length}
+use Rattle.lists.specs.Part.Laws.{lent-part}
+use Rattle.seedtree.proofs.Lent.{lent-length}
 use Rattle.seedtree.proofs.opened_seeds.Statement.{statement}
 use Rattle.seedtree.proofs.opened_seeds.Tie as tie
 
@@ -32,10 +33,7 @@ abbrev μ-loop : tie.MeasureT-loop
 μ-loop prefix d leaf siblings seeds₀ nodes way₀ at₀ k₀ seeds way at k = d - k
 
 loop-holds : tie.Need-loop-holds Inv-loop μ-loop
-loop-holds c =
-    let start : tie.Start Inv-loop μ-loop = search in
-    let args = start .args in
-    let shape = start .pre in
+loop-holds c = let start : tie.Start Inv-loop μ-loop = search in let args = start .args in let shape = start .pre in
     let way-is = c .root-way .ensures in
     record {
       on = subst (OnWay (args .d) 0) (sym way-is) (onWay-root (args .d) (args .leaf) (shape .is-leaf));
@@ -46,14 +44,8 @@ loop-holds c =
     }
 
 open-sibling-requires : tie.Need-open-sibling-requires Inv-loop μ-loop
-open-sibling-requires c κs =
-    let start : tie.Start Inv-loop μ-loop = search in
-    let head = c .before .before .before in
-    let shape = start .pre in
-    let d = start .args .d in
-    let k = head .loop .k in
-    let w = head .loop .way in
-    let inv = head .loop .inv in
+open-sibling-requires c κs = let start : tie.Start Inv-loop μ-loop = search in let head = c .before .before .before in let shape = start .pre in
+    let d = start .args .d in let k = head .loop .k in let w = head .loop .way in let inv = head .loop .inv in
     let less = c .before .before .loop-test .taken in
     record {
       levels = omega (arith, shape .levels);
@@ -65,41 +57,20 @@ open-sibling-requires c κs =
 
 skipped-fits : (c : tie.After-skipped Inv-loop μ-loop)
     → c .before .before .before .before .before .before .before .loop .at + 16 * c .skipped .result ≤ length (c .before .before .before .before .before .before .before .loop .seeds)
-skipped-fits c =
-    let head = c .before .before .before .before .before .before .before in
+skipped-fits c = let head = c .before .before .before .before .before .before .before in
     omega (arith, c .skipped .ensures, skipped-le (head .loop .way), head .loop .inv .room)
 
-mul-at : tie.Need-mul-at Inv-loop μ-loop
-mul-at c = omega (arith, skipped-fits c)
-
-add-at : tie.Need-add-at Inv-loop μ-loop
-add-at c = let at-loop : tie.At-loop Inv-loop μ-loop = search in omega (arith, skipped-fits c, at-loop .loop .inv .long)
-
 next-requires : tie.Need-next-requires Inv-loop μ-loop
-next-requires c κs =
-    let test : tie.In-loop Inv-loop μ-loop = search in
-    let head : tie.At-loop Inv-loop μ-loop = search in
+next-requires c κs = let test : tie.In-loop Inv-loop μ-loop = search in let head : tie.At-loop Inv-loop μ-loop = search in
     let start : tie.Start Inv-loop μ-loop = search in
     omega (arith, onWay-node (start .args .d) (head .loop .k) (head .loop .way) (test .loop-test .taken) (head .loop .inv .on) (start .pre .levels))
 
 loop-again : tie.Need-loop-again Inv-loop μ-loop
-loop-again c =
-    let after-open-sibling : tie.After-open-sibling Inv-loop μ-loop = search in
-    let test : tie.In-loop Inv-loop μ-loop = search in
-    let head : tie.At-loop Inv-loop μ-loop = search in
-    let after-begin : tie.After-begin Inv-loop μ-loop = search in
-    let start : tie.Start Inv-loop μ-loop = search in
-    let filled = after-open-sibling .open-sibling in
-    let args = start .args in
-    let prefix = args .prefix .now in
-    let d = args .d in
-    let k = head .loop .k in
-    let w = head .loop .way in
-    let seeds = head .loop .seeds in
-    let s = args .siblings .now in
-    let inv = head .loop .inv in
-    let less = test .loop-test .taken in
-    let begun-is = after-begin .begin .ensures in
+loop-again c = let after-open-sibling : tie.After-open-sibling Inv-loop μ-loop = search in let test : tie.In-loop Inv-loop μ-loop = search in
+    let head : tie.At-loop Inv-loop μ-loop = search in let after-begin : tie.After-begin Inv-loop μ-loop = search in
+    let start : tie.Start Inv-loop μ-loop = search in let filled = after-open-sibling .open-sibling in let args = start .args in
+    let prefix = args .prefix .now in let d = args .d in let k = head .loop .k in let w = head .loop .way in let seeds = head .loop .seeds in
+    let s = args .siblings .now in let inv = head .loop .inv in let less = test .loop-test .taken in let begun-is = after-begin .begin .ensures in
     let next-is : c .next .result ≡ next w = c .next .ensures in
     let skipped-is : c .before .skipped .result ≡ skipped w = c .before .skipped .ensures in
     let seeds-is : filled .last .1 .1 .1 .1 .0 ≡ putAt seeds (head .loop .at + 16 * (w .size / 2 - skipped w)) (beside SHAKE256 prefix length-SHAKE256 d s k w) =
@@ -111,8 +82,7 @@ loop-again c =
       on = subst (OnWay d (k + 1)) (sym next-is) (onWay-next d k w less (inv .on));
       long = kept ∙ inv .long;
       room = omega (arith, kept, ap (λ (w : Way). w .size) next-is, next-size w, skipped-is, skipped-le w, onWay-twice d k w less (inv .on), inv .room);
-      rest = inv .rest
-          ∙ opened-more SHAKE256 prefix length-SHAKE256 d s k w seeds (head .loop .at) less (inv .on) (start .pre .siblings) (inv .room)
+      rest = inv .rest ∙ opened-more SHAKE256 prefix length-SHAKE256 d s k w seeds (head .loop .at) less (inv .on) (start .pre .siblings) (inv .room)
           ∙ sym (λ t. opening SHAKE256 prefix length-SHAKE256 d s (k + 1) (next-is t) (seeds-is t) (head .loop .at + 16 * skipped-is t));
     }
 
@@ -120,56 +90,18 @@ last-level : (c : tie.After-loop Inv-loop μ-loop) → c .before .loop .k ≡ c 
 last-level c = omega (arith, c .before .loop .inv .on .within)
 
 last-room : (c : tie.After-loop Inv-loop μ-loop) → c .before .loop .at + 16 ≤ length (c .before .loop .seeds)
-last-room c =
-    let start : tie.Start Inv-loop μ-loop = search in
-    let inv = c .before .loop .inv in
-    let d = start .args .d in
+last-room c = let start : tie.Start Inv-loop μ-loop = search in let inv = c .before .loop .inv in let d = start .args .d in
     omega (arith, inv .room, inv .on .leaf)
 
-put-at-requires : tie.Need-put-at-requires Inv-loop μ-loop
-put-at-requires c κs = last-room (c .before .before)
-
-same-length : tie.Need-same-length Inv-loop μ-loop
-same-length c =
-    let at-loop : tie.At-loop Inv-loop μ-loop = search in
-    c .before .before .put-at .kept .0 ∙ at-loop .loop .inv .long
-
 returns : tie.Need-returns Inv-loop μ-loop
-returns c =
-    let last : tie.After-loop Inv-loop μ-loop = search in
-    let at-loop : tie.At-loop Inv-loop μ-loop = search in
-    let start : tie.Start Inv-loop μ-loop = search in
-    let head = at-loop .loop in
-    let args = start .args in
-    c .before .before .put-at .ensures
-    ∙ sym (head .inv .rest
+returns c = let last : tie.After-loop Inv-loop μ-loop = search in let at-loop : tie.At-loop Inv-loop μ-loop = search in
+    let start : tie.Start Inv-loop μ-loop = search in let head = at-loop .loop in let args = start .args in
+    c .before .before .put-at .ensures ∙ sym (head .inv .rest
     ∙ opened-all SHAKE256 (args .prefix .now) length-SHAKE256 (args .d) (args .siblings .now) (head .k) (head .way) (head .seeds) (head .at) (last-level last))
 
 pub opened-seeds-spec : {M : Type 1} → statement M
-opened-seeds-spec =
-    tie.close
-    (tie.spec
-    Inv-loop
-    μ-loop
-    (λ c κs. search needs)
-    (λ c κs. search needs)
-    loop-holds
-    (λ c. search needs)
-    (λ c. search needs)
-    (λ c. search needs)
-    (λ c. search needs)
-    (λ c. search needs)
-    (λ c. search needs)
-    (λ c. search needs)
-    open-sibling-requires
-    (λ c κs. search needs)
-    mul-at
-    add-at
-    next-requires
-    (λ c. search needs)
-    (λ c. search needs)
-    loop-again
-    (λ c. search needs)
-    put-at-requires
-    same-length
-    returns)
+opened-seeds-spec = tie.close (tie.spec Inv-loop μ-loop (λ c κs. search needs) (λ c κs. search needs) loop-holds (λ c. search needs)
+    (λ c. search needs) (λ c. search needs) (λ c. search needs) (λ c. search needs) (λ c. search needs) (λ c. search needs) open-sibling-requires
+    (λ c κs. search needs) (λ c. omega (arith, skipped-fits c))
+    (λ c. let at-loop : tie.At-loop Inv-loop μ-loop = search in omega (arith, skipped-fits c, at-loop .loop .inv .long)) next-requires
+    (λ c. search needs) (λ c. search needs) loop-again (λ c. search needs) (λ c κs. search needs) (λ c. search needs) returns)

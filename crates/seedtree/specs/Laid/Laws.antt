@@ -13,7 +13,8 @@ use native.Mathlib.Nat.{not-suc-le-zero, le-of-suc-le-suc}
 use native.Mathlib.Omega.{arith}
 use lib.ListN.{length, getD, length-append}
 use lib.Seq.{take-at, drop-append-add}
-use Rattle.algebra.specs.Each.{Each, each-map}
+use Rattle.algebra.specs.Each.{Each}
+use Rattle.algebra.specs.Each.Laws.{each-map}
 use Rattle.lists.specs.Part.{part}
 use Rattle.seedtree.specs.Laid.{slot, laid, Full, Slotted}
 

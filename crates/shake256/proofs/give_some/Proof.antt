@@ -1,4 +1,5 @@
 -- A whole lane is stored at once (`given-lane`), or one byte is.
+use Prim.Native.Nat.{ℕ}
 use mathlib.Core.Path.{ap, _∙_}
 use mathlib.Core.List.{[], _∷_}
 use native.Mathlib.Omega.{arith}
@@ -9,29 +10,16 @@ use Rattle.shake256.proofs.give_some.Statement.{statement}
 use Rattle.shake256.proofs.give_some.Tie as tie
 
 returns : tie.Need-returns
-returns c =
-    let start = c .before .before .before .before .before .before .before .before in
-    record {
-      some = omega arith;
-      within = omega (arith, start);
-      room = omega (arith, start);
-      is =
-          c .before .before .store .ensures
-          ∙ ap (sets (start .args .out .now) (start .args .i)) (given-lane (start .args .lanes .now) (start .args .at) (c .before .before .before .before .before .if1 .taken));
-    }
+returns c = let start = c .before .before .before .before .before .before .before .before in let a = start .args in
+    let lane = given-lane (a .lanes .now) (a .at) (c .before .before .before .before .before .if1 .taken) in
+    let is = c .before .before .store .ensures ∙ ap (sets (a .out .now) (a .i)) lane in
+    record { some = omega arith; within = omega (arith, start); room = omega (arith, start); is = is }
 
 returns-2 : tie.Need-returns-2
-returns-2 c =
-    let start = c .before .before .before .before in
-    record {
-      some = omega arith;
-      within = omega (arith, start);
-      room = omega (arith, start);
-      is = λ t. sets (start .args .out .now) (start .args .i) (c .byte-of .ensures t ∷ []);
-    }
+returns-2 c = let start = c .before .before .before .before in let a = start .args in
+    let is = ap (λ (b : ℕ). sets (a .out .now) (a .i) (b ∷ [])) (c .byte-of .ensures) in
+    record { some = omega arith; within = omega (arith, start); room = omega (arith, start); is = is }
 
 pub give-some-spec : {M : Type 1} → statement M
-give-some-spec =
-    tie.close
-    (tie.spec (λ c. search needs) (λ c. search needs) (λ c. search needs) (λ c κs. search needs) (λ c. search needs) returns
+give-some-spec = tie.close (tie.spec (λ c. search needs) (λ c. search needs) (λ c. search needs) (λ c κs. search needs) (λ c. search needs) returns
     (λ c κs. search needs) (λ c. search needs) (λ c. search needs) returns-2)

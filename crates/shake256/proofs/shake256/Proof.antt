@@ -6,10 +6,9 @@ use Rattle.shake256.proofs.shake256.Statement.{statement}
 use Rattle.shake256.proofs.shake256.Tie as tie
 
 returns : tie.Need-returns
-returns c =
-    let start = c .before .before .before .before .before .before .before .before .before in
+returns c = let start = c .before .before .before .before .before .before .before .before .before in
     cc (squeezed-SHAKE256 (start .args .message .now) (length (start .args .output .now)))
 
 pub shake256-spec : {M : Type 1} → statement M
-shake256-spec =
-    tie.close (tie.spec (λ c κs. search needs) (λ c κs. search needs) (λ c κs. search needs) (λ c κs. search needs) (λ c. search needs) returns)
+shake256-spec = tie.close (tie.spec (λ c κs. search needs) (λ c κs. search needs) (λ c κs. search needs) (λ c κs. search needs) (λ c. search needs)
+    returns)

@@ -7,11 +7,8 @@ use Rattle.stored.proofs.read_prover.Tie as tie
 
 returns : tie.Need-returns
 unfolding proverFrom part
-returns c =
-    let after-array32 : tie.After-array32 = search in
-    let after-array255 : tie.After-array255 = search in
-    let after-read-parameters : tie.After-read-parameters = search in
-    let after-phase-from : tie.After-phase-from = search in
+returns c = let after-array32 : tie.After-array32 = search in let after-array255 : tie.After-array255 = search in
+    let after-read-parameters : tie.After-read-parameters = search in let after-phase-from : tie.After-phase-from = search in
     λ i. record {
       phase = after-phase-from .phase-from .ensures i;
       parameters = after-read-parameters .read-parameters .ensures i;
@@ -22,9 +19,7 @@ returns c =
     }
 
 pub read-prover-spec : {M : Type 1} → statement M
-read-prover-spec =
-    tie.close
-    (tie.spec (λ c. search needs) (λ c κs. search needs) (λ c κs. search needs) (λ c. search needs) (λ c. search needs)
-    (λ c. search needs) (λ c κs. search needs) (λ c. search needs) (λ c. search needs) (λ c. search needs)
-    (λ c κs. search needs) (λ c. search needs) (λ c. search needs) (λ c. search needs) (λ c κs. search needs)
-    (λ c. search needs) (λ c. search needs) (λ c. search needs) (λ c κs. search needs) returns)
+read-prover-spec = tie.close (tie.spec (λ c. search needs) (λ c κs. search needs) (λ c κs. search needs) (λ c. search needs) (λ c. search needs)
+    (λ c. search needs) (λ c κs. search needs) (λ c. search needs) (λ c. search needs) (λ c. search needs) (λ c κs. search needs)
+    (λ c. search needs) (λ c. search needs) (λ c. search needs) (λ c κs. search needs) (λ c. search needs) (λ c. search needs) (λ c. search needs)
+    (λ c κs. search needs) returns)

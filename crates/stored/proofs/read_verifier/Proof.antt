@@ -8,11 +8,8 @@ use Rattle.stored.proofs.read_verifier.Tie as tie
 
 returns : tie.Need-returns
 unfolding verifierFrom part
-returns c =
-    let after-array64 : tie.After-array64 = search in
-    let after-read-parameters : tie.After-read-parameters = search in
-    let after-phase-from : tie.After-phase-from = search in
-    let start : tie.Start = search in
+returns c = let after-array64 : tie.After-array64 = search in let after-read-parameters : tie.After-read-parameters = search in
+    let after-phase-from : tie.After-phase-from = search in let start : tie.Start = search in
     λ i. record {
       phase = after-phase-from .phase-from .ensures i;
       parameters = after-read-parameters .read-parameters .ensures i;
@@ -23,9 +20,6 @@ returns c =
     }
 
 pub read-verifier-spec : {M : Type 1} → statement M
-read-verifier-spec =
-    tie.close
-    (tie.spec (λ c. search needs) (λ c κs. search needs) (λ c κs. search needs) (λ c. search needs) (λ c. search needs)
-    (λ c. search needs) (λ c κs. search needs) (λ c. search needs) (λ c. search needs) (λ c. search needs)
-    (λ c κs. search needs) (λ c. search needs) (λ c. search needs) (λ c. search needs) (λ c κs. search needs)
-    (λ c. search needs) returns)
+read-verifier-spec = tie.close (tie.spec (λ c. search needs) (λ c κs. search needs) (λ c κs. search needs) (λ c. search needs) (λ c. search needs)
+    (λ c. search needs) (λ c κs. search needs) (λ c. search needs) (λ c. search needs) (λ c. search needs) (λ c κs. search needs)
+    (λ c. search needs) (λ c. search needs) (λ c. search needs) (λ c κs. search needs) (λ c. search needs) returns)

@@ -18,20 +18,14 @@ lengths c = record {
 }
 
 write-parts-requires : tie.Need-write-parts-requires
-write-parts-requires c κs =
-    let after-head : tie.After-head = search in
-    let start : tie.Start = search in
+write-parts-requires c κs = let after-head : tie.After-head = search in let start : tie.Start = search in
     omega (arith, lengths start, ap length (after-head .head .ensures))
 
 returns : tie.Need-returns
 unfolding verifierBytes
-returns c =
-    let after-head : tie.After-head = search in
-    let after-phase-byte : tie.After-phase-byte = search in
+returns c = let after-head : tie.After-head = search in let after-phase-byte : tie.After-phase-byte = search in
     rw (c .before .before .write-parts .ensures, after-head .head .ensures, after-phase-byte .phase-byte .ensures)
 
 pub write-verifier-spec : {M : Type 1} → statement M
-write-verifier-spec =
-    tie.close
-    (tie.spec (λ c κs. search needs) (λ c κs. search needs) (λ c. search needs) (λ c. search needs) (λ c. search needs)
+write-verifier-spec = tie.close (tie.spec (λ c κs. search needs) (λ c κs. search needs) (λ c. search needs) (λ c. search needs) (λ c. search needs)
     (λ c. search needs) (λ c. search needs) write-parts-requires (λ c. search needs) returns)

@@ -6,31 +6,12 @@ use Rattle.keytext.specs.Finish.Laws.{fits-room}
 use Rattle.test_listing.proofs.show.Statement.{statement}
 use Rattle.test_listing.proofs.show.Tie as tie
 
-listing-room-requires : tie.Need-listing-room-requires
-listing-room-requires c κs = search needs
-
-listing-requires : tie.Need-listing-requires
-listing-requires c κs = search needs
-
 array-share-prefix-out : tie.Need-array-share-prefix-out
 array-share-prefix-out c = let e = c .listing .ensures in fits-room _ _ (e .0) (e .1)
 
 slice-aggregate-write-all : tie.Need-slice-aggregate-write-all
 slice-aggregate-write-all c = let e = c .before .listing .ensures in sym (length-take-le _ _ (fits-room _ _ (e .0) (e .1)))
 
-write-all-requires : tie.Need-write-all-requires
-write-all-requires c κs = search needs
-
-returns : tie.Need-returns
-returns c = search needs
-
 pub show-spec : {M : Type 1} → statement M
-show-spec =
-    tie.close
-    (tie.spec
-    listing-room-requires
-    listing-requires
-    array-share-prefix-out
-    slice-aggregate-write-all
-    write-all-requires
-    returns)
+show-spec = tie.close (tie.spec (λ c κs. search needs) (λ c κs. search needs) array-share-prefix-out
+    slice-aggregate-write-all (λ c κs. search needs) (λ c. search needs))

@@ -16,23 +16,17 @@ abbrev μ-loop : tie.MeasureT-loop
 loop-holds : tie.Need-loop-holds Inv-loop μ-loop
 loop-holds c = (refl, refl, refl)
 
-slice-aggregate-feed : tie.Need-slice-aggregate-feed Inv-loop μ-loop
-slice-aggregate-feed c = search needs
-
-feed-requires : tie.Need-feed-requires Inv-loop μ-loop
-feed-requires c κs = search needs
-
 add-i : tie.Need-add-i Inv-loop μ-loop
-add-i c =
-    omega (arith, c .before .before .before .before .before .before .before .before .before .before .before)
+add-i c = let in-loop : tie.In-loop Inv-loop μ-loop = search in omega (arith, in-loop)
 
 loop-less : tie.Need-loop-less Inv-loop μ-loop
-loop-less c =
-    omega (arith, c .before .before .before .before .before .before .before .before .before .before .before)
+loop-less c = let in-loop : tie.In-loop Inv-loop μ-loop = search in omega (arith, in-loop)
 
 loop-again : tie.Need-loop-again Inv-loop μ-loop
 loop-again c =
-    (c .before .before .before .before .before .before .feed .kept .1 .1 .0 ∙ c .before .before .before .before .before .before .before .before .before .before .before .before .loop .inv .0, c .before .before .before .before .before .before .feed .kept .1 .1 .1 .0 ∙ c .before .before .before .before .before .before .before .before .before .before .before .before .loop .inv .1, c .before .before .before .before .before .before .feed .kept .1 .1 .1 .1 .0 ∙ c .before .before .before .before .before .before .before .before .before .before .before .before .loop .inv .2)
+    let after-feed : tie.After-feed Inv-loop μ-loop = search in
+    let at-loop : tie.At-loop Inv-loop μ-loop = search in
+    (after-feed .feed .kept .1 .1 .0 ∙ at-loop .loop .inv .0, after-feed .feed .kept .1 .1 .1 .0 ∙ at-loop .loop .inv .1, after-feed .feed .kept .1 .1 .1 .1 .0 ∙ at-loop .loop .inv .2)
 
 same-length : tie.Need-same-length Inv-loop μ-loop
 same-length c = c .before .loop .inv .0
@@ -43,22 +37,6 @@ same-length-2 c = c .before .loop .inv .1
 same-length-3 : tie.Need-same-length-3 Inv-loop μ-loop
 same-length-3 c = c .before .loop .inv .2
 
-returns : tie.Need-returns Inv-loop μ-loop
-returns c = search needs
-
 pub zeros-spec : {M : Type 1} → statement M
-zeros-spec =
-    tie.close
-    (tie.spec
-    Inv-loop
-    μ-loop
-    loop-holds
-    slice-aggregate-feed
-    feed-requires
-    add-i
-    loop-less
-    loop-again
-    same-length
-    same-length-2
-    same-length-3
-    returns)
+zeros-spec = tie.close (tie.spec Inv-loop μ-loop loop-holds (λ c. search needs) (λ c κs. search needs) add-i loop-less
+    loop-again same-length same-length-2 same-length-3 (λ c. search needs))

@@ -16,35 +16,20 @@ Inv-loop message cuts t₀ i₀ k₀ t i k = (i ≤ length message) × ((k ≤ l
 abbrev μ-loop : tie.MeasureT-loop
 μ-loop message cuts t₀ i₀ k₀ t i k = length cuts - k
 
-loop-holds : tie.Need-loop-holds Inv-loop μ-loop
-unfolding absorbed
-loop-holds c = (omega arith, (omega arith, refl))
-
 loop-again : tie.Need-loop-again Inv-loop μ-loop
 loop-again c =
-    let head = c .before .before .before .before .before in
-    let start = head .before .before .before in
-    let m = start .args .message .now in
-    let e = c .before .before .end in (
-      e .ensures .1,
-      (
-        omega arith,
-        c .absorb .ensures ∙ absorbed-part (start .args .s) (head .loop .t) m (head .loop .i) (e .result) (e .ensures .0) (head .loop .inv .1 .1),
-      ),
-    )
+    let head = c .before .before .before .before .before in let start = head .before .before .before in let m = start .args .message .now in
+    let e = c .before .before .end in
+    let part = absorbed-part (start .args .s) (head .loop .t) m (head .loop .i) (e .result) (e .ensures .0) (head .loop .inv .1 .1) in
+    (e .ensures .1, (omega arith, c .absorb .ensures ∙ part))
 
 returns : tie.Need-returns Inv-loop μ-loop
-returns c =
-    let head = c .before .before .before in
-    let start = head .before .before .before in
-    let m = start .args .message .now in
-    c .absorb2 .ensures
-    ∙ absorbed-part (start .args .s) (head .loop .t) m (head .loop .i) (length m) (head .loop .inv .0) (head .loop .inv .1 .1)
-    ∙ ap (absorbed (start .args .s)) (take-length m)
+returns c = let head = c .before .before .before in let start = head .before .before .before in let m = start .args .message .now in
+    c .absorb2 .ensures ∙ absorbed-part (start .args .s) (head .loop .t) m (head .loop .i) (length m) (head .loop .inv .0) (head .loop .inv .1 .1) ∙
+    ap (absorbed (start .args .s)) (take-length m)
 
 pub absorb-pieces-spec : {M : Type 1} → statement M
-absorb-pieces-spec =
-    tie.close (tie.spec Inv-loop μ-loop loop-holds (λ c. search needs) (λ c. search needs)
-    (λ c κs. search needs) (λ c. search needs) (λ c. search needs) (λ c. search needs) (λ c κs. search needs)
-    (λ c. search needs) (λ c. search needs) loop-again (λ c. search needs) (λ c. search needs)
-    (λ c. search needs) (λ c κs. search needs) returns)
+unfolding absorbed
+absorb-pieces-spec = tie.close (tie.spec Inv-loop μ-loop (λ c. (omega arith, (omega arith, refl))) (λ c. search needs) (λ c. search needs)
+    (λ c κs. search needs) (λ c. search needs) (λ c. search needs) (λ c. search needs) (λ c κs. search needs) (λ c. search needs) (λ c. search needs)
+    loop-again (λ c. search needs) (λ c. search needs) (λ c. search needs) (λ c κs. search needs) returns)

@@ -13,7 +13,5 @@ abbrev μ-loop : tie.MeasureT-loop
 μ-loop s line₀ message₀ monte u₀ i₀ line message u i = length s - i
 
 pub chunk-spec : {M : Type 1} → statement M
-chunk-spec =
-    tie.close (tie.spec Inv-loop μ-loop (λ c. search needs) (λ c. search needs) (λ c κs. search needs)
-    (λ c. search needs) (λ c. search needs) (λ c. search needs) (λ c. search needs) (λ c. search needs)
-    (λ c. search needs))
+chunk-spec = tie.close (tie.spec Inv-loop μ-loop (λ c. search needs) (λ c. search needs) (λ c κs. search needs) (λ c. search needs)
+    (λ c. search needs) (λ c. search needs) (λ c. search needs) (λ c. search needs) (λ c. search needs))

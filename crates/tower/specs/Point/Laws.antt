@@ -3,7 +3,8 @@
 --   Bytes x              the four numbers are bytes
 --   bytes-times          a product is four bytes, whatever the factors
 use Prim.Native.Nat.{ℕ, _<_}
-use Rattle.lists.specs.Xor.{_⊕_, ⊕-lt}
+use Rattle.lists.specs.Xor.{_⊕_}
+use Rattle.lists.specs.Xor.Laws.{⊕-lt}
 use Rattle.bytefield.specs.Product.{_⊗_}
 use Rattle.bytefield.specs.Product.Laws.{⊗-lt}
 use Rattle.tower.specs.Point.{pointOps, Quad, four}

@@ -3,32 +3,10 @@ use borrow.Author.Needs.{needs}
 use Rattle.unlock.proofs.exchange.Statement.{statement}
 use Rattle.unlock.proofs.exchange.Tie as tie
 
-received-requires : tie.Need-received-requires
-received-requires c κs = c .before .before .before .before .before .before .before .before .before .before .before .before .before .before .before .before .before .before .before .before .before .before .before .pre
-
 pub exchange-spec : {M : Type 1} → statement M
-exchange-spec =
-    tie.close
-    (tie.spec
-    (λ c κs. search needs)
-    (λ c κs. search needs)
-    (λ c κs. search needs)
-    (λ c κs. search needs)
-    (λ c. search needs)
-    (λ c. search needs)
-    (λ c. search needs)
-    (λ c. search needs)
-    (λ c κs. search needs)
-    (λ c. search needs)
-    (λ c κs. search needs)
-    (λ c. search needs)
-    (λ c. search needs)
-    (λ c κs. search needs)
-    (λ c. search needs)
-    (λ c. search needs)
-    (λ c κs. search needs)
-    (λ c. search needs)
-    (λ c. search needs)
-    received-requires
-    (λ c κs. search needs)
-    (λ c. search needs))
+exchange-spec = tie.close (tie.spec (λ c κs. search needs) (λ c κs. search needs) (λ c κs. search needs) (λ c κs. search needs) (λ c. search needs)
+    (λ c. search needs) (λ c. search needs) (λ c. search needs) (λ c κs. search needs) (λ c. search needs) (λ c κs. search needs) (λ c. search needs)
+    (λ c. search needs) (λ c κs. search needs) (λ c. search needs) (λ c. search needs) (λ c κs. search needs) (λ c. search needs) (λ c. search needs)
+    (λ c κs. let m = c .before .before .before .before .before .before .before .before .before .before .before in
+    m .before .before .before .before .before .before .before .before .before .before .before .before .pre)
+    (λ c κs. search needs) (λ c. search needs))

@@ -4,6 +4,7 @@ use mathlib.Core.Bool.{Bool, true, false}
 use Prim.Native.Nat.{ℕ, _≤_}
 use native.Mathlib.Omega.{arith}
 use borrow.Author.Needs.{needs}
+use lib.ListN.{length, take}
 use lib.Seq.{length-take-le}
 use Rattle.parameters.specs.declared.Parameters.{Parameters}
 use Rattle.parameters.specs.Limits.{Within}
@@ -20,44 +21,18 @@ length5 p i w false e = rw e (omega arith)
 longest : (p : Parameters) (i : ℕ) → Within p → message5Length p i ≤ 1_020
 longest p i w = length5 p i w (isLast p i) refl
 
-array-borrow-prefix-message5 : tie.Need-array-borrow-prefix-message5
-array-borrow-prefix-message5 c =
-    let m = c .before in
-    let s = m .before .before .before .before .before .before .before .before .before .before .before .before .before in
-    room 1_020 (m .before .message5-room .ensures) (omega (arith, m .message5-length .ensures, longest (s .args .p) (m .before .before .before .before .before .before .before .before .before .leaf .result) (s .pre)))
+abbrev back : tie.After-message5-length → tie.Start
+back m = m .before .before .before .before .before .before .before .before .before .before .before .before .before
 
-slice-aggregate-opening : tie.Need-slice-aggregate-opening
-slice-aggregate-opening c =
-    let m = c .before .before in
-    let s = m .before .before .before .before .before .before .before .before .before .before .before .before .before in
-    let r = m .before .message5-room in
-    sym (length-take-le (m .message5-length .result) (r .result) (room 1_020 (r .ensures) (omega (arith, m .message5-length .ensures, longest (s .args .p) (m .before .before .before .before .before .before .before .before .before .leaf .result) (s .pre)))))
+long : (m : tie.After-message5-length) → m .message5-length .result ≤ 1_020
+long m = let i = m .before .before .before .before .before .before .before .before .before .leaf .result in
+    omega (arith, m .message5-length .ensures, longest (back m .args .p) i (back m .pre))
 
-opening-requires : tie.Need-opening-requires
-opening-requires c κs =
-    let m = c .before .before in
-    let s = m .before .before .before .before .before .before .before .before .before .before .before .before .before in
-    let r = m .before .message5-room in
-    let h : m .message5-length .result ≤ 1_020 = omega (arith, m .message5-length .ensures, longest (s .args .p) (m .before .before .before .before .before .before .before .before .before .leaf .result) (s .pre)) in
-    omega (arith, h, length-take-le (m .message5-length .result) (r .result) (room 1_020 (r .ensures) h))
+fits : (m : tie.After-message5-length) → length (take (m .message5-length .result) (m .before .message5-room .result)) ≡ m .message5-length .result
+fits m = length-take-le (m .message5-length .result) (m .before .message5-room .result) (room 1_020 (m .before .message5-room .ensures) (long m))
 
 pub leaf-spec : {M : Type 1} → statement M
-leaf-spec =
-    tie.close
-    (tie.spec
-    (λ c κs. search needs)
-    (λ c κs. search needs)
-    (λ c. search needs)
-    (λ c. search needs)
-    (λ c. search needs)
-    (λ c. search needs)
-    (λ c. search needs)
-    (λ c κs. search needs)
-    (λ c κs. search needs)
-    (λ c. search needs)
-    (λ c κs. search needs)
-    array-borrow-prefix-message5
-    slice-aggregate-opening
-    opening-requires
-    (λ c. search needs)
-    (λ c. search needs))
+leaf-spec = tie.close (tie.spec (λ c κs. search needs) (λ c κs. search needs) (λ c. search needs) (λ c. search needs) (λ c. search needs)
+    (λ c. search needs) (λ c. search needs) (λ c κs. search needs) (λ c κs. search needs) (λ c. search needs) (λ c κs. search needs)
+    (λ c. room 1_020 (c .before .before .message5-room .ensures) (long (c .before))) (λ c. sym (fits (c .before .before)))
+    (λ c κs. omega (arith, long (c .before .before), fits (c .before .before))) (λ c. search needs) (λ c. search needs))

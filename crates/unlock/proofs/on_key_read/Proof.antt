@@ -17,7 +17,8 @@ told r = search
 abbrev start : tie.After-parameters-of → tie.Start
 start r = search
 
-passed : (r : tie.After-parameters-of) → Read (start r .args .scan) (length (start r .args .matrix .now)) (length (start r .args .y .now)) (length (start r .args .x-a .now))
+passed : (r : tie.After-parameters-of)
+    → Read (start r .args .scan) (length (start r .args .matrix .now)) (length (start r .args .y .now)) (length (start r .args .x-a .now))
 passed r = let f : tie.After-read-checks = search in read-done _ _ _ _ (sym (f .read-checks .ensures) ∙ told r .enum-told .given .1)
 
 within : (r : tie.After-parameters-of) → Within (r .parameters-of .result)
@@ -28,27 +29,11 @@ held : (r : tie.After-parameters-of)
     × (r .parameters-of .result .k ≤ length (start r .args .x-a .now))
 held r = read-held (start r .args .scan) (r .parameters-of .ensures) (passed r)
 
-sub-rows : tie.Need-sub-rows
-sub-rows c = let r : tie.After-parameters-of = search in omega (arith, within r .k-most)
-
-mul-size : tie.Need-mul-size
-mul-size c = let r : tie.After-parameters-of = search in omega (arith, size-most (r .parameters-of .result) (within r))
-
-slice-aggregate-exchange : tie.Need-slice-aggregate-exchange
-slice-aggregate-exchange c = let r : tie.After-parameters-of = search in sym (length-take-le _ (start r .args .matrix .now) (held r .0))
-
-slice-aggregate-exchange-2 : tie.Need-slice-aggregate-exchange-2
-slice-aggregate-exchange-2 c = let r : tie.After-parameters-of = search in sym (length-take-le _ (start r .args .y .now) (held r .1))
-
-slice-aggregate-exchange-3 : tie.Need-slice-aggregate-exchange-3
-slice-aggregate-exchange-3 c = let r : tie.After-parameters-of = search in sym (length-take-le _ (start r .args .x-a .now) (held r .2))
-
-exchange-requires : tie.Need-exchange-requires
-exchange-requires c κs = let r : tie.After-parameters-of = search in within r
-
 pub on-key-read-spec : {M : Type 1} → statement M
-on-key-read-spec =
-    tie.close
-    (tie.spec (λ c κs. search needs) (λ c. search needs) (λ c κs. search needs) (λ c. search needs) (λ c. search needs) (λ c. search needs)
-    (λ c κs. search needs) sub-rows mul-size slice-aggregate-exchange slice-aggregate-exchange-2 slice-aggregate-exchange-3 exchange-requires
-    (λ c. search needs))
+on-key-read-spec = tie.close (tie.spec (λ c κs. search needs) (λ c. search needs) (λ c κs. search needs) (λ c. search needs) (λ c. search needs)
+    (λ c. search needs) (λ c κs. search needs) (λ c. let r : tie.After-parameters-of = search in omega (arith, within r .k-most))
+    (λ c. let r : tie.After-parameters-of = search in omega (arith, size-most (r .parameters-of .result) (within r)))
+    (λ c. let r : tie.After-parameters-of = search in sym (length-take-le _ (start r .args .matrix .now) (held r .0)))
+    (λ c. let r : tie.After-parameters-of = search in sym (length-take-le _ (start r .args .y .now) (held r .1)))
+    (λ c. let r : tie.After-parameters-of = search in sym (length-take-le _ (start r .args .x-a .now) (held r .2)))
+    (λ c κs. let r : tie.After-parameters-of = search in within r) (λ c. search needs))

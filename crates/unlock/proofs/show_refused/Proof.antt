@@ -6,19 +6,6 @@ use Rattle.unlock.specs.Lines.Laws.{written-fits}
 use Rattle.unlock.proofs.show_refused.Statement.{statement}
 use Rattle.unlock.proofs.show_refused.Tie as tie
 
-array-share-prefix-line : tie.Need-array-share-prefix-line
-array-share-prefix-line c = written-fits (c .before .refused .ensures)
-
-slice-aggregate-write-all : tie.Need-slice-aggregate-write-all
-slice-aggregate-write-all c = sym (length-take-le _ _ (written-fits (c .before .before .refused .ensures)))
-
 pub show-refused-spec : {M : Type 1} → statement M
-show-refused-spec =
-    tie.close
-    (tie.spec
-    (λ c. search needs)
-    (λ c κs. search needs)
-    array-share-prefix-line
-    slice-aggregate-write-all
-    (λ c κs. search needs)
-    (λ c. search needs))
+show-refused-spec = tie.close (tie.spec (λ c. search needs) (λ c κs. search needs) (λ c. written-fits (c .before .refused .ensures))
+    (λ c. sym (length-take-le _ _ (written-fits (c .before .before .refused .ensures)))) (λ c κs. search needs) (λ c. search needs))

@@ -11,9 +11,11 @@ use Prim.Native.Nat.{ℕ, _+_, _*_}
 use native.Mathlib.Omega.{arith}
 use lib.ListN.{length, take, length-append}
 use lib.Seq.{take-at}
-use Rattle.algebra.specs.Ring.{Ring2, ring}
+use Rattle.algebra.specs.Ring.{Ring2}
+use Rattle.algebra.specs.Ring.Laws.{ring}
 use Rattle.bytefield.specs.Byte.{byteRing}
-use Rattle.tower.specs.Field.{Point, point, bytesOf, point-bytesOf}
+use Rattle.tower.specs.Field.{Point, point, bytesOf}
+use Rattle.tower.specs.Field.Laws.{point-bytesOf}
 use Rattle.parameters.specs.declared.Parameters.{Parameters}
 use Rattle.layout.specs.Layout.{factorLength, valuesLength}
 use Rattle.exchange.specs.Reading.{points, pointAt, encode, _⊞_, _⊠_, 𝟎}
@@ -21,20 +23,20 @@ use Rattle.exchange.specs.Reading.Laws.{length-encode}
 use Rattle.exchange.specs.Values.{Key, aOf, bOf, alpha, beta, partV}
 use Rattle.values.specs.Announced.{gamma, announcedOf, vOf}
 
-pub partV-gamma : (p : Parameters) (key : Key) (m2 : List ℕ) (first : Bool) (s : List ℕ) (α̂ β̂ : Point) (l : ℕ)
-    → partV p key m2 first s α̂ β̂ l ≡ vOf p s first (gamma p m2 s l) α̂ β̂ l
+pub partV-gamma : (p : Parameters) (key : Key) (message2 : List ℕ) (first : Bool) (s : List ℕ) (α̂ β̂ : Point) (l : ℕ)
+    → partV p key message2 first s α̂ β̂ l ≡ vOf p s first (gamma p message2 s l) α̂ β̂ l
 unfolding partV vOf gamma
-partV-gamma p key m2 first s α̂ β̂ l = refl
+partV-gamma p key message2 first s α̂ β̂ l = refl
 
 pub two-lengths : (f g : ℕ → Point) (t : ℕ) → length (encode f t ++ encode g t) ≡ 8 * t
 two-lengths f g t = length-append (encode f t) (encode g t) ∙ omega (arith, length-encode f t, length-encode g t)
 
-pub announced-front : (p : Parameters) (key : Key) (m2 : List ℕ) (first : Bool) (s : List ℕ)
-    → take (valuesLength p) (announcedOf p key m2 first s) ≡ encode (alpha p key m2 first s) (p .t) ++ encode (beta p key m2 first s) (p .t)
+pub announced-front : (p : Parameters) (key : Key) (message2 : List ℕ) (first : Bool) (s : List ℕ)
+    → take (valuesLength p) (announcedOf p key message2 first s) ≡ encode (alpha p key message2 first s) (p .t) ++ encode (beta p key message2 first s) (p .t)
 unfolding announcedOf
-announced-front p key m2 first s =
-    ap (take (valuesLength p)) (sym (append-assoc (encode (alpha p key m2 first s) (p .t)) (encode (beta p key m2 first s) (p .t)) _))
-    ∙ take-at (encode (alpha p key m2 first s) (p .t) ++ encode (beta p key m2 first s) (p .t)) _ (valuesLength p) (two-lengths _ _ (p .t))
+announced-front p key message2 first s =
+    ap (take (valuesLength p)) (sym (append-assoc (encode (alpha p key message2 first s) (p .t)) (encode (beta p key message2 first s) (p .t)) _))
+    ∙ take-at (encode (alpha p key message2 first s) (p .t) ++ encode (beta p key message2 first s) (p .t)) _ (valuesLength p) (two-lengths _ _ (p .t))
 
 regroup : {K : Type 0} (R : Ring2 K) (g x y k a b : K)
     → R .add (R .add g (R .mul (R .add b k) x)) (R .mul a y) ≡ R .add (R .add (R .add g (R .mul x b)) (R .mul y a)) (R .mul x k)

@@ -23,7 +23,8 @@ use Rattle.lists.specs.Xor.{_⊕_}
 use Rattle.lists.specs.Blend.{blend}
 use Rattle.lists.specs.Blend.Laws.{blend-up, blend-late, blend-all}
 use Rattle.bytefield.specs.Byte.{byteRing}
-use Rattle.tower.specs.Field.{Point, point, bytesOf, point-bytesOf}
+use Rattle.tower.specs.Field.{Point, point, bytesOf}
+use Rattle.tower.specs.Field.Laws.{point-bytesOf}
 use Rattle.packed.specs.Word.{word}
 use Rattle.exchange.specs.Sequences.Laws.{length-listed, getD-listed, listed-ext}
 use Rattle.exchange.specs.Reading.{points, bytesAt, value, _⊞_, _⊠_, 𝟎}
@@ -58,9 +59,9 @@ count-twice n len h =
     let c = mul-comm len n in
     omega arith
 
-pub terms-ready : (size n stride from len entries made j at now k : ℕ) → EvaluationAsked size n stride from len entries made → j < len → at ≡ from + j
+pub terms-ready : (size n stride from len entries j at now k : ℕ) → EvaluationAsked size n stride from len entries → j < len → at ≡ from + j
     → now ≡ n → k ≡ j * (n + 1) → TermsAsked size n stride at now k
-terms-ready size n stride from len entries made j at now k a l ea b e =
+terms-ready size n stride from len entries j at now k a l ea b e =
     let c = count-small n j (a .few) (let h = a .short in omega arith) in
     record {
       few = a .few;

@@ -6,38 +6,42 @@
 -- vanishing-value      F(r): the value of its low coefficients, and the leading term
 -- locators-made, interpolants-made, quotients-made    the values of Q, S and P of n shares, from those of their bytes
 -- vanishing-made       the value of the low coefficients of F, which stand behind those of S
+-- length-words, end-lent, words-kept    how many words there are where three parts are lent one after another
+-- word-front, -middle, -end    what stands in the parts: the words of Q, of S and F, and of P
 -- at-point             all of them at an equal point
 -- evaluation-asked     n polynomials that stand in blocks of one size, at one place of each, can be evaluated
+-- first-half, second-half, length-tables    what stands in the two tables of multiples
 -- factor-made          ε·F(r)
 use mathlib.Core.Path.{_≡_, refl, sym, ap, ap₂, _∙_, subst}
 use mathlib.Core.Bool.{Bool, true, false, cond}
-use mathlib.Core.List.{List, [], _∷_, _++_, append-nil}
+use mathlib.Core.List.{List, [], _∷_, _++_, append-nil, append-assoc}
 use Prim.Native.Nat.{ℕ, zero, _+_, _-_, _*_, _≤_, _<_}
 use native.Mathlib.Omega.{arith}
-use lib.ListN.{length, getD, take, length-append}
-use lib.Seq.{length-take-le}
+use lib.ListN.{length, getD, take, drop, length-append, length-take, length-drop, List·getD-append}
+use lib.Seq.{length-take-le, take-at, drop-at, getD-append-add}
 use Rattle.lists.specs.Xor.{_⊕_}
 use Rattle.lists.specs.Part.{part}
-use Rattle.lists.specs.Part.Laws.{getD-part, part-fits, part-append-left}
-use Rattle.algebra.specs.Ring.{Ring2, ring}
-use Rattle.tower.specs.Field.{Point, point, bytesOf, point-bytesOf}
+use Rattle.lists.specs.Part.Laws.{getD-part, part-fits, part-append-left, tail-back}
+use Rattle.algebra.specs.Ring.{Ring2}
+use Rattle.algebra.specs.Ring.Laws.{ring}
+use Rattle.tower.specs.Field.{Point, point, bytesOf}
+use Rattle.tower.specs.Field.Laws.{point-bytesOf}
 use Rattle.polynomial.specs.Interpolant.{vanishingOf}
 use Rattle.polynomial.specs.Interpolant.Laws.{length-vanishing, vanishing-monic}
 use Rattle.parameters.specs.declared.Parameters.{Parameters}
 use Rattle.layout.specs.Layout.{shareLength, atQ, atP}
 use Rattle.exchange.specs.Sequences.{joined}
-use Rattle.exchange.specs.Sequences.Laws.{getD-listed, length-joined}
+use Rattle.exchange.specs.Sequences.Laws.{getD-listed, length-joined, part-joined}
 use Rattle.exchange.specs.Reading.{points, bytesAt, value, _⊞_, _⊠_, 𝟎}
 use Rattle.exchange.specs.Reading.Laws.{length-bytesAt, bytesAt-ext, bytesAt-part, bytesAt-inside, lone-homomorphism}
 use Rattle.exchange.specs.Values.{Key, QOf, POf, SOf, F, pointOf}
 use Rattle.exchange.specs.Values.Laws.{length-SOf}
-use Rattle.points.specs.Blocks.{blocks-at}
 use Rattle.coefficients.specs.Shares.{shareOf}
 use Rattle.points.specs.Multiples.{wordOf}
 use Rattle.points.specs.Multiples.Laws.{wordOf-sum}
 use Rattle.values.specs.Evaluation.{pointPower, valuesOf, EvaluationAsked}
 use Rattle.values.specs.Evaluation.Laws.{value-snoc}
-use Rattle.values.specs.Position.{Valued, RowsOf}
+use Rattle.values.specs.Position.{Valued, firstHalf, secondHalf, RowsOf}
 
 pub inside-part : (s : List ℕ) (at size from n : ℕ) → from + n ≤ size → bytesAt s (from + at) n ≡ bytesAt (part s at size) from n
 inside-part s at size from n h =
@@ -114,7 +118,7 @@ module _ (p : Parameters) (n : ℕ) (shares : List ℕ) (x : Point) where
         let f = part-fits i n (p .m) h in
         value-at i (omega arith) (row i)
         (bytesAt-part _ (i * p .m) (p .m) (omega (arith, length-append (joined row n) (take (p .m) (F p))))
-        ∙ part-append-left (joined row n) (take (p .m) (F p)) (i * p .m) (p .m) (omega arith) ∙ blocks-at row (p .m) n (joined row n) i sized h refl)
+        ∙ part-append-left (joined row n) (take (p .m) (F p)) (i * p .m) (p .m) (omega arith) ∙ part-joined row (p .m) n sized i h)
 
     pub vanishing-made : getD ss n 0 ≡ wordOf (value (take (p .m) (F p)) x)
     unfolding F
@@ -123,23 +127,88 @@ module _ (p : Parameters) (n : ℕ) (shares : List ℕ) (x : Point) where
         (ap (λ (q : List ℕ). bytesAt (joined row n ++ q) (n * p .m) (p .m)) (sym (append-nil (take (p .m) (F p))))
         ∙ bytesAt-inside (joined row n) (take (p .m) (F p)) [] (n * p .m) (p .m) (length-joined row n (p .m) sized) (length-low (p .m)))
 
-pub at-point : (p : Parameters) (key : Key) (first : Bool) (shares : List ℕ) (n : ℕ) (x y : Point) (qs ss ps : List ℕ) (leading : ℕ) (f : List ℕ) → x ≡ y
-    → Valued p key first shares n x qs ss ps leading → f ≡ bytesOf (value (F p) x)
-    → Valued p key first shares n y qs ss ps leading × (f ≡ bytesOf (value (F p) y))
-at-point p key first shares n x y qs ss ps leading f e v h =
-    subst (λ (z : Point). Valued p key first shares n z qs ss ps leading × (f ≡ bytesOf (value (F p) z))) e (v, h)
+-- ---- the words as they come back: the front, the middle and the end of w are lent one after another, and become u, s and v
+
+module _ (w u s : List ℕ) (n b : ℕ) (fits : b ≤ length w) (lu : length u ≡ n) (ls : n + length s ≡ b) where
+  abbrev words₂ : List ℕ
+  words₂ = take n (u ++ drop n w) ++ (s ++ drop (b - n) (drop n (u ++ drop n w)))
+
+  second : words₂ ≡ (u ++ s) ++ drop (b - n) (drop n w)
+  second =
+      ap₂ (λ (x y : List ℕ). x ++ (s ++ drop (b - n) y)) (take-at u (drop n w) n lu) (drop-at u (drop n w) n lu)
+      ∙ sym (append-assoc u s (drop (b - n) (drop n w)))
+
+  length-front : length (u ++ s) ≡ b
+  length-front = length-append u s ∙ omega arith
+
+  pub length-words : length words₂ ≡ length w
+  length-words = ap length second ∙ simp (length-append, length-drop) (omega arith)
+
+  pub end-lent : length (take (length words₂ - b) (drop b words₂)) ≡ length w - b
+  end-lent = simp (length-take, length-drop) (omega (arith, length-words))
+
+  module _ (v : List ℕ) where
+    abbrev words₃ : List ℕ
+    words₃ = take b words₂ ++ (v ++ drop (length words₂ - b) (drop b words₂))
+
+    words-made : words₃ ≡ (u ++ s) ++ v
+    words-made =
+        tail-back words₂ v b (omega (arith, length-words))
+        ∙ ap (λ (x : List ℕ). x ++ v) (ap (take b) second ∙ take-at (u ++ s) (drop (b - n) (drop n w)) b length-front)
+
+    pub words-kept : length v ≡ length w - b → length words₃ ≡ length w
+    words-kept l = ap length words-made ∙ length-append (u ++ s) v ∙ omega (arith, length-front)
+
+    -- what stands at their places
+    pub word-front : (i : ℕ) → i < n → getD words₃ i 0 ≡ getD u i 0
+    word-front i h =
+        ap (λ (x : List ℕ). getD x i 0) words-made ∙ List·getD-append (u ++ s) v 0 i (omega (arith, length-front))
+        ∙ List·getD-append u s 0 i (omega arith)
+
+    pub word-middle : (i : ℕ) → n + i < b → getD words₃ (n + i) 0 ≡ getD s i 0
+    word-middle i h =
+        ap (λ (x : List ℕ). getD x (n + i) 0) words-made ∙ List·getD-append (u ++ s) v 0 (n + i) (omega (arith, length-front))
+        ∙ ap (λ (k : ℕ). getD (u ++ s) (k + i) 0) (sym lu) ∙ getD-append-add u s i 0
+
+    pub word-end : (i : ℕ) → getD words₃ (b + i) 0 ≡ getD v i 0
+    word-end i =
+        ap (λ (x : List ℕ). getD x (b + i) 0) words-made ∙ ap (λ (k : ℕ). getD ((u ++ s) ++ v) (k + i) 0) (sym length-front)
+        ∙ getD-append-add (u ++ s) v i 0
+
+pub at-point : (p : Parameters) (key : Key) (first : Bool) (shares : List ℕ) (n : ℕ) (x y : Point) (words : List ℕ) (leading : ℕ) (f : List ℕ) → x ≡ y
+    → Valued p key first shares n x words leading × (f ≡ bytesOf (value (F p) x)) → Valued p key first shares n y words leading × (f ≡ bytesOf (value (F p) y))
+at-point p key first shares n x y words leading f e v =
+    subst (λ (z : Point). Valued p key first shares n z words leading × (f ≡ bytesOf (value (F p) z))) e v
 
 -- ---- what the evaluations ask
 
-pub evaluation-asked : (total n size from len entries made : ℕ)
-    → (n ≤ 16) × (size ≤ 65536) × (len ≤ 255) × (from + len ≤ size) × (total ≡ n * size) × (entries ≡ n) × (made ≤ 1099511627776)
-    → EvaluationAsked total n size from len entries made
-evaluation-asked total n size from len entries made (few, near, short, h, e, sized, count) =
+pub evaluation-asked : (total n size from len entries : ℕ)
+    → (n ≤ 16) × (size ≤ 65536) × (len ≤ 255) × (from + len ≤ size) × (total ≡ n * size) × (entries ≡ n)
+    → EvaluationAsked total n size from len entries
+evaluation-asked total n size from len entries (few, near, short, h, e, sized) =
     let inside : 0 < n → from + (n - 1) * size + len ≤ total = λ z. let f = part-fits (n - 1) n size (omega arith) in omega arith in search arith
+
+-- ---- the two tables: the front and then the rest of d are lent, and become u and v
+
+module _ (u v d : List ℕ) (lu : length u ≡ 128) (lv : length v ≡ 128) where
+  abbrev tables₂ : List ℕ
+  tables₂ = take 128 (u ++ drop 128 d) ++ (v ++ drop 128 (drop 128 (u ++ drop 128 d)))
+
+  both : tables₂ ≡ u ++ (v ++ drop 128 (drop 128 (u ++ drop 128 d)))
+  both = ap (λ (x : List ℕ). x ++ (v ++ drop 128 (drop 128 (u ++ drop 128 d)))) (take-at u (drop 128 d) 128 lu)
+
+  pub first-half : firstHalf tables₂ ≡ u
+  first-half = ap firstHalf both ∙ take-at u _ 128 lu
+
+  pub second-half : secondHalf tables₂ ≡ v
+  second-half = ap secondHalf both ∙ ap (take 128) (drop-at u _ 128 lu) ∙ take-at v _ 128 lv
+
+  pub length-tables : length d ≡ 256 → length tables₂ ≡ 256
+  length-tables l = ap length both ∙ simp (length-append, length-drop) (omega arith)
 
 -- ---- ε·F(r)
 
-pub factor-made : (p : Parameters) (m2 f x : List ℕ) (l : ℕ) (ε : Point) → f ≡ bytesOf (value (F p) (pointOf p m2 l))
-    → x ≡ bytesOf (point f ⊠ ε) → x ≡ bytesOf (ε ⊠ value (F p) (pointOf p m2 l))
-factor-made p m2 f x l ε ef ex =
+pub factor-made : (p : Parameters) (message2 f x : List ℕ) (l : ℕ) (ε : Point) → f ≡ bytesOf (value (F p) (pointOf p message2 l))
+    → x ≡ bytesOf (point f ⊠ ε) → x ≡ bytesOf (ε ⊠ value (F p) (pointOf p message2 l))
+factor-made p message2 f x l ε ef ex =
     ex ∙ ap bytesOf (ap (λ (y : Point). y ⊠ ε) (ap point ef ∙ point-bytesOf _) ∙ points .base .mul-comm _ _)

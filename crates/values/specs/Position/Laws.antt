@@ -105,36 +105,36 @@ module _ (p : Parameters) (before out u next : List ℕ) (n i b room : ℕ) (er 
   pub left-turn : Left p before out i n → Left p before next (i + 1) n
   left-turn h j k m = other j m (λ e. omega arith) ∙ h j (omega arith) m
 
-  module _ (key : Key) (m2 : List ℕ) (first : Bool) (shares : List ℕ) (l : ℕ) where
-    pub each-turn : u ≡ announcedAt p key m2 first (shareOf p shares i) l (take (b + room - b) (drop b out))
-        → Left p before out i n → EachAnnounced p key m2 first shares l before out i → EachAnnounced p key m2 first shares l before next (i + 1)
+  module _ (key : Key) (message2 : List ℕ) (first : Bool) (shares : List ℕ) (l : ℕ) where
+    pub each-turn : u ≡ announcedAt p key message2 first (shareOf p shares i) l (take (b + room - b) (drop b out))
+        → Left p before out i n → EachAnnounced p key message2 first shares l before out i → EachAnnounced p key message2 first shares l before next (i + 1)
     unfolding part
     each-turn e left h j k = go (ℕ-discrete j i)
       where
-        same : u ≡ announcedAt p key m2 first (shareOf p shares i) l (blockOf p before i)
+        same : u ≡ announcedAt p key message2 first (shareOf p shares i) l (blockOf p before i)
         same =
             let s : b + room - b ≡ rowLength p = omega arith in
-            e ∙ ap₂ (λ (m m′ : ℕ). announcedAt p key m2 first (shareOf p shares i) l (take m (drop m′ out))) s eb
-            ∙ ap (announcedAt p key m2 first (shareOf p shares i) l) (left i (omega arith) below)
+            e ∙ ap₂ (λ (m m′ : ℕ). announcedAt p key message2 first (shareOf p shares i) l (take m (drop m′ out))) s eb
+            ∙ ap (announcedAt p key message2 first (shareOf p shares i) l) (left i (omega arith) below)
 
-        go : Dec (j ≡ i) → blockOf p next j ≡ announcedAt p key m2 first (shareOf p shares j) l (blockOf p before j)
-        go (yes q) = ap (blockOf p next) q ∙ own ∙ same ∙ ap (λ (m : ℕ). announcedAt p key m2 first (shareOf p shares m) l (blockOf p before m)) (sym q)
+        go : Dec (j ≡ i) → blockOf p next j ≡ announcedAt p key message2 first (shareOf p shares j) l (blockOf p before j)
+        go (yes q) = ap (blockOf p next) q ∙ own ∙ same ∙ ap (λ (m : ℕ). announcedAt p key message2 first (shareOf p shares m) l (blockOf p before m)) (sym q)
         go (no q) = other j (omega arith) q ∙ h j (omega arith)
 
 -- ---- all positions
 
-module _ (p : Parameters) (key : Key) (m2 : List ℕ) (first : Bool) (n : ℕ) (shares : List ℕ) where
+module _ (p : Parameters) (key : Key) (message2 : List ℕ) (first : Bool) (n : ℕ) (shares : List ℕ) where
   abbrev pub EachTo : List ℕ → ℕ → Type 0
-  EachTo out l = (i : ℕ) → i < n → let s = shareOf p shares i in Announced p (alpha p key m2 first s) (beta p key m2 first s) (gamma p m2 s) (blockOf p out i) l
+  EachTo out l = (i : ℕ) → i < n → let s = shareOf p shares i in Announced p (alpha p key message2 first s) (beta p key message2 first s) (gamma p message2 s) (blockOf p out i) l
 
   pub to-none : (out : List ℕ) → length out ≡ n * rowLength p → EachTo out 0
   to-none out e i h =
       announced-none p _ _ _ (blockOf p out i)
       (length-part out (i * rowLength p) (rowLength p) (within-blocks i n (rowLength p) (i * rowLength p) (length out) h refl e))
 
-  pub to-turn : (out next : List ℕ) (l : ℕ) → l < p .t → EachAnnounced p key m2 first shares l out next n → EachTo out l → EachTo next (l + 1)
+  pub to-turn : (out next : List ℕ) (l : ℕ) → l < p .t → EachAnnounced p key message2 first shares l out next n → EachTo out l → EachTo next (l + 1)
   to-turn out next l h g to i b = announced-turn p _ _ _ (blockOf p out i) (blockOf p next i) l h (g i b) (to i b)
 
-  pub to-end : (out : List ℕ) → EachTo out (p .t) → (i : ℕ) → i < n → blockOf p out i ≡ announcedOf p key m2 first (shareOf p shares i)
+  pub to-end : (out : List ℕ) → EachTo out (p .t) → (i : ℕ) → i < n → blockOf p out i ≡ announcedOf p key message2 first (shareOf p shares i)
   unfolding announcedOf
   to-end out to i h = announced-end p _ _ _ (blockOf p out i) (to i h)

@@ -13,7 +13,8 @@ use mathlib.Core.Logic.{_⊎_, inl, inr}
 use Prim.Native.Nat.{ℕ, _≤_}
 use lib.Dec.{eqb}
 use borrow.Author.Tests.{eqb-true}
-use Rattle.lists.specs.Checks.{allTrue, all-at}
+use Rattle.lists.specs.Checks.{allTrue}
+use Rattle.lists.specs.Checks.Laws.{all-at}
 use Rattle.lists.specs.Xor.{_⊕_}
 use Rattle.prover_phase.specs.Distance.{ones, distance, clear}
 use Rattle.prover_phase.specs.Distance.Laws.{words-apart, near-shut}

@@ -6,11 +6,11 @@ use native.Mathlib.Omega.{arith}
 use borrow.Author.Needs.{needs}
 use lib.ListN.{length}
 use Rattle.lists.specs.Part.{part}
+use Rattle.lists.specs.Part.Laws.{lent-part}
 use Rattle.lists.specs.Sum.{xorList}
 use Rattle.layout.specs.Layout.{others}
-use Rattle.points.specs.Blocks.{within-blocks, next-block, length-block}
+use Rattle.points.specs.Blocks.{within-blocks, next-block}
 use Rattle.parties.specs.Sums.{less}
-use Rattle.axes.specs.Slices.{middle-part}
 use Rattle.axes.proofs.axis.put_last.Statement.{statement}
 use Rattle.axes.proofs.axis.put_last.Tie as tie
 
@@ -39,42 +39,26 @@ loop-holds : tie.Need-loop-holds Inv-loop μ-loop
 unfolding less
 loop-holds c = let e : tie.After-copy Inv-loop μ-loop = search in (omega arith, omega arith, e .copy .ensures, refl)
 
-xor-into-requires : tie.Need-xor-into-requires Inv-loop μ-loop
-xor-into-requires c κs =
-    let t : tie.In-loop Inv-loop μ-loop = search in
-    let q : tie.At-loop Inv-loop μ-loop = search in
-    let e : tie.After-copy Inv-loop μ-loop = search in
-    omega (arith, e .copy .kept .0, length-block (q .loop .b) _ (start q .args .rows .now) (inside q (t .loop-test .taken)), sized q .row-length .ensures, q .loop .inv .3, start q .pre .3)
-
 loop-again : tie.Need-loop-again Inv-loop μ-loop
 unfolding less
-loop-again c =
-    let e : tie.After-xor-into Inv-loop μ-loop = search in
-    let t : tie.In-loop Inv-loop μ-loop = search in
-    let q : tie.At-loop Inv-loop μ-loop = search in
-    let a = start q .args in
-    let n = sized q .row-length .result in (
+loop-again c = let e : tie.After-xor-into Inv-loop μ-loop = search in let t : tie.In-loop Inv-loop μ-loop = search in
+    let q : tie.At-loop Inv-loop μ-loop = search in let a = start q .args in let n = sized q .row-length .result in (
       omega (arith, t .loop-test .taken),
       next-block (q .loop .c) _ (q .loop .b) (q .loop .inv .1),
       e .xor-into .ensures
-          ∙ ap₂ xorList (q .loop .inv .2) (middle-part (a .rows .now) (q .loop .b) n ∙ ap (λ (b : ℕ). part (a .rows .now) b n) (q .loop .inv .1))
+          ∙ ap₂ xorList (q .loop .inv .2) (lent-part (a .rows .now) (q .loop .b) n ∙ ap (λ (b : ℕ). part (a .rows .now) b n) (q .loop .inv .1))
           ∙ ap (less (a .total .now) (λ c. part (a .rows .now) (c * n) n)) (sym (add-one (q .loop .c))),
       e .xor-into .kept .0 ∙ q .loop .inv .3,
     )
 
 returns : tie.Need-returns Inv-loop μ-loop
-returns c =
-    let t : tie.After-loop Inv-loop μ-loop = search in
-    let q : tie.At-loop Inv-loop μ-loop = search in
-    let a = start q .args in
-    let last : q .loop .c ≡ others (a .p) = omega (arith, t .loop-test .left, q .loop .inv .0, counted q .others .ensures) in
-    q .loop .inv .2
+returns c = let t : tie.After-loop Inv-loop μ-loop = search in let q : tie.At-loop Inv-loop μ-loop = search in let a = start q .args in
+    let last : q .loop .c ≡ others (a .p) = omega (arith, t .loop-test .left, q .loop .inv .0, counted q .others .ensures) in q .loop .inv .2
     ∙ ap₂ (λ (n c : ℕ). less (a .total .now) (λ c. part (a .rows .now) (c * n) n) c) (sized q .row-length .ensures) last
 
 pub put-last-spec : {M : Type 1} → statement M
-put-last-spec =
-    tie.close
-    (tie.spec Inv-loop μ-loop (λ c κs. search needs) (λ c κs. search needs) (λ c κs. search needs) loop-holds
+put-last-spec = tie.close (tie.spec Inv-loop μ-loop (λ c κs. search needs) (λ c κs. search needs) (λ c κs. search needs) loop-holds
     (λ c. omega (arith, inside (c .before) (c .loop-test .taken))) (λ c. omega arith) (λ c. omega arith)
-    (λ c. let t : tie.In-loop Inv-loop μ-loop = search in let q : tie.At-loop Inv-loop μ-loop = search in omega (arith, inside q (t .loop-test .taken)))
-    xor-into-requires (λ c. search needs) (λ c. search needs) loop-again (λ c. search needs) returns)
+    (λ c. let t : tie.In-loop Inv-loop μ-loop = search in let q : tie.At-loop Inv-loop μ-loop = search in
+    omega (arith, inside q (t .loop-test .taken))) (λ c κs. search needs) (λ c. search needs) (λ c. search needs) loop-again (λ c. search needs)
+    returns)

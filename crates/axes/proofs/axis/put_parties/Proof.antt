@@ -13,11 +13,11 @@ use Rattle.axes.proofs.axis.put_parties.Statement.{statement}
 use Rattle.axes.proofs.axis.put_parties.Tie as tie
 
 abbrev Inv-loop : tie.InvT-loop
-Inv-loop p axis parts blocks sums rows₀ log pow n room b₀ c₀ rows b c =
-    (c ≤ n) × (b ≡ c * room) × Blocks (partyRow p parts blocks sums axis) room rows₀ rows c × (length rows ≡ length rows₀)
+Inv-loop p axis sums blocks hats rows₀ tables n room b₀ c₀ rows b c =
+    (c ≤ n) × (b ≡ c * room) × Blocks (partyRow p sums blocks hats axis) room rows₀ rows c × (length rows ≡ length rows₀)
 
 abbrev μ-loop : tie.MeasureT-loop
-μ-loop p axis parts blocks sums rows₀ log pow n room b₀ c₀ rows b c = n - c
+μ-loop p axis sums blocks hats rows₀ tables n room b₀ c₀ rows b c = n - c
 
 abbrev start : tie.At-loop Inv-loop μ-loop → tie.Start Inv-loop μ-loop
 start q = search
@@ -36,43 +36,29 @@ inside q h = within-blocks (q .loop .c) (counted q .others .result) _ (q .loop .
 
 put-party-requires : tie.Need-put-party-requires Inv-loop μ-loop
 put-party-requires c κs =
-    let t : tie.In-loop Inv-loop μ-loop = search in
-    let q : tie.At-loop Inv-loop μ-loop = search in
-    let (f, j, n, l, w) = start q .pre in
-    (f, j, omega (arith, t .loop-test .taken, counted q .others .ensures), length-block (q .loop .b) _ (q .loop .rows) (inside q (t .loop-test .taken)) ∙ sized q .row-length .ensures, l, w)
+    let t : tie.In-loop Inv-loop μ-loop = search in let q : tie.At-loop Inv-loop μ-loop = search in let (f, j, n, w) = start q .pre in
+    (f, j, omega (arith, t .loop-test .taken, counted q .others .ensures), length-block (q .loop .b) _ (q .loop .rows) (inside q (t .loop-test .taken)) ∙ sized q .row-length .ensures, w)
 
 loop-again : tie.Need-loop-again Inv-loop μ-loop
-loop-again c =
-    let e : tie.After-put-party Inv-loop μ-loop = search in
-    let t : tie.In-loop Inv-loop μ-loop = search in
-    let q : tie.At-loop Inv-loop μ-loop = search in
-    let a = start q .args in
-    let h = t .loop-test .taken in
-    let u = e .put-party .last .1 .1 .1 .1 .1 .1 .0 in
-    let n = sized q .row-length .result in
-    let fits = inside q h in
+loop-again c = let e : tie.After-put-party Inv-loop μ-loop = search in let t : tie.In-loop Inv-loop μ-loop = search in
+    let q : tie.At-loop Inv-loop μ-loop = search in let a = start q .args in let h = t .loop-test .taken in
+    let u = e .put-party .last .1 .1 .1 .1 .1 .1 .0 in let n = sized q .row-length .result in let fits = inside q h in
     let eu : length u ≡ n = e .put-party .kept .1 .1 .1 .1 .1 .1 .0 ∙ length-block (q .loop .b) n (q .loop .rows) fits in (
       omega (arith, h),
       next-block (q .loop .c) _ (q .loop .b) (q .loop .inv .1),
-      blocks-turn (partyRow (a .p) (a .parts .now) (a .blocks .now) (a .sums .now) (a .axis)) n (counted q .others .result) (a .rows .now) (whole q)
+      blocks-turn (partyRow (a .p) (a .sums .now) (a .blocks .now) (a .hats .now) (a .axis)) n (counted q .others .result) (a .rows .now) (whole q)
           (q .loop .rows) u (q .loop .c) (q .loop .b) h (q .loop .inv .1) eu (e .put-party .ensures) (q .loop .inv .2),
       middle-kept (q .loop .b) (q .loop .b + n - q .loop .b) u (q .loop .rows) (eu ∙ omega arith) (omega (arith, fits)) ∙ q .loop .inv .3,
     )
 
 returns : tie.Need-returns Inv-loop μ-loop
-returns c =
-    let t : tie.After-loop Inv-loop μ-loop = search in
-    let q : tie.At-loop Inv-loop μ-loop = search in
-    let a = start q .args in
-    let f = partyRow (a .p) (a .parts .now) (a .blocks .now) (a .sums .now) (a .axis) in
+returns c = let t : tie.After-loop Inv-loop μ-loop = search in let q : tie.At-loop Inv-loop μ-loop = search in let a = start q .args in
+    let f = partyRow (a .p) (a .sums .now) (a .blocks .now) (a .hats .now) (a .axis) in
     blocks-end f (sized q .row-length .result) (counted q .others .result) (a .rows .now) (whole q) (q .loop .rows) (q .loop .c)
-    (omega (arith, t .loop-test .left, q .loop .inv .0)) (q .loop .inv .2)
-    ∙ ap (joined f) (counted q .others .ensures)
+    (omega (arith, t .loop-test .left, q .loop .inv .0)) (q .loop .inv .2) ∙ ap (joined f) (counted q .others .ensures)
 
 pub put-parties-spec : {M : Type 1} → statement M
-put-parties-spec =
-    tie.close
-    (tie.spec Inv-loop μ-loop (λ c κs. search needs) (λ c κs. search needs) (λ c. (omega arith, omega arith, blocks-none _ _ _, refl))
-    (λ c. omega (arith, inside (c .before) (c .loop-test .taken))) (λ c. omega arith) (λ c. omega arith)
-    (λ c. let t : tie.In-loop Inv-loop μ-loop = search in let q : tie.At-loop Inv-loop μ-loop = search in omega (arith, inside q (t .loop-test .taken)))
-    put-party-requires (λ c. search needs) (λ c. search needs) loop-again (λ c. search needs) returns)
+put-parties-spec = tie.close (tie.spec Inv-loop μ-loop (λ c κs. search needs) (λ c κs. search needs)
+    (λ c. (omega arith, omega arith, blocks-none _ _ _, refl)) (λ c. omega (arith, inside (c .before) (c .loop-test .taken))) (λ c. omega arith)
+    (λ c. omega arith) (λ c. let t : tie.In-loop Inv-loop μ-loop = search in let q : tie.At-loop Inv-loop μ-loop = search in
+    omega (arith, inside q (t .loop-test .taken))) put-party-requires (λ c. search needs) (λ c. search needs) loop-again (λ c. search needs) returns)

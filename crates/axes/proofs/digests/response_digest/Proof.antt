@@ -24,35 +24,20 @@ inside : (p : Parameters) (rows : List ℕ) (j b : ℕ) → length rows ≡ p .a
 inside p rows j b sized e h = omega (arith, part-fits j (p .axes) (axisLength p) h)
 
 loop-holds : tie.Need-loop-holds Inv-loop μ-loop
-loop-holds c =
-    let width : tie.After-axis-length Inv-loop μ-loop = search in
-    let first : tie.After-begin2 Inv-loop μ-loop = search in
+loop-holds c = let width : tie.After-axis-length Inv-loop μ-loop = search in let first : tie.After-begin2 Inv-loop μ-loop = search in
     (omega arith, omega arith, width .axis-length .ensures, streamed-none _ _ _ _ (first .begin2 .ensures))
 
 add-e : tie.Need-add-e Inv-loop μ-loop
-add-e c =
-    let q : tie.At-loop Inv-loop μ-loop = search in
-    let s : tie.Start Inv-loop μ-loop = search in
+add-e c = let q : tie.At-loop Inv-loop μ-loop = search in let s : tie.Start Inv-loop μ-loop = search in
     omega (arith, q .loop .inv, inside (s .args .p) (s .args .rows .now) (q .loop .j) (q .loop .b) (s .pre .sized-rows) (q .loop .inv .1) (c .if1 .taken))
 
 part-add-axis-end : tie.Need-part-add-axis-end Inv-loop μ-loop
-part-add-axis-end c =
-    let q : tie.At-loop Inv-loop μ-loop = search in
-    let s : tie.Start Inv-loop μ-loop = search in
+part-add-axis-end c = let q : tie.At-loop Inv-loop μ-loop = search in let s : tie.Start Inv-loop μ-loop = search in
     omega (arith, q .loop .inv, inside (s .args .p) (s .args .rows .now) (q .loop .j) (q .loop .b) (s .pre .sized-rows) (q .loop .inv .1) (c .if1 .taken))
 
-add-axis-requires : tie.Need-add-axis-requires Inv-loop μ-loop
-add-axis-requires c κs = let s : tie.Start Inv-loop μ-loop = search in omega (arith, c .before .if1 .taken, s .pre .within .axes-most)
-
-add-j : tie.Need-add-j Inv-loop μ-loop
-add-j c = let s : tie.Start Inv-loop μ-loop = search in omega (arith, c .before .before .if1 .taken, s .pre .within .axes-most)
-
 loop-again : tie.Need-loop-again Inv-loop μ-loop
-loop-again c =
-    let q : tie.At-loop Inv-loop μ-loop = search in
-    let axes : tie.After-begin Inv-loop μ-loop = search in
-    let s : tie.Start Inv-loop μ-loop = search in
-    let a = s .args in (
+loop-again c = let q : tie.At-loop Inv-loop μ-loop = search in let axes : tie.After-begin Inv-loop μ-loop = search in
+    let s : tie.Start Inv-loop μ-loop = search in let a = s .args in (
       omega (arith, c .before .before .if1 .taken),
       omega (arith, q .loop .inv),
       q .loop .inv .2,
@@ -61,32 +46,11 @@ loop-again c =
     )
 
 returns : tie.Need-returns Inv-loop μ-loop
-returns c =
-    let made : tie.After-digest Inv-loop μ-loop = search in
-    let q : tie.At-loop Inv-loop μ-loop = search in
-    let s : tie.Start Inv-loop μ-loop = search in
-    let a = s .args in
-    made .digest .ensures
+returns c = let made : tie.After-digest Inv-loop μ-loop = search in let q : tie.At-loop Inv-loop μ-loop = search in
+    let s : tie.Start Inv-loop μ-loop = search in let a = s .args in made .digest .ensures
     ∙ streamed-end (a .p) (a .prefix .now) (a .rows .now) (q .loop .all) (q .loop .j) (length (a .out .now)) (omega (arith, q .loop .inv)) (q .loop .inv .3)
 
 pub response-digest-spec : {M : Type 1} → statement M
-response-digest-spec =
-    tie.close
-    (tie.spec
-    Inv-loop
-    μ-loop
-    (λ c κs. search needs)
-    (λ c κs. search needs)
-    (λ c κs. search needs)
-    loop-holds
-    add-e
-    (λ c. omega arith)
-    (λ c. omega arith)
-    part-add-axis-end
-    add-axis-requires
-    add-j
-    (λ c. omega (arith, c .before .before .if1 .taken))
-    loop-again
-    (λ c κs. search needs)
-    (λ c. search needs)
-    returns)
+response-digest-spec = tie.close (tie.spec Inv-loop μ-loop (λ c κs. search needs) (λ c κs. search needs) (λ c κs. search needs) loop-holds add-e
+    (λ c. omega arith) (λ c. omega arith) part-add-axis-end (λ c κs. search needs) (λ c. search needs)
+    (λ c. omega (arith, c .before .before .if1 .taken)) loop-again (λ c κs. search needs) (λ c. search needs) returns)

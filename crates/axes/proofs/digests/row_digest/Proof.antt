@@ -10,15 +10,9 @@ use Rattle.axes.proofs.digests.row_digest.Tie as tie
 
 returns : tie.Need-returns
 returns c prefix e =
-    let made : tie.After-hash = search in
-    let s : tie.Start = search in
-    let a = s .args in
-    let n = length (a .out .now) in
-    made .hash .ensures
-    ∙ hashed-no-tail (a .axes) ((a .axis + 1) ∷ []) (a .row .now) n
-    ∙ hashed-from 6 prefix ((a .axis + 1) ∷ a .row .now) n (a .axes) e
+    let made : tie.After-hash = search in let s : tie.Start = search in let a = s .args in let n = length (a .out .now) in made .hash .ensures
+    ∙ hashed-no-tail (a .axes) ((a .axis + 1) ∷ []) (a .row .now) n ∙ hashed-from 6 prefix ((a .axis + 1) ∷ a .row .now) n (a .axes) e
 
 pub row-digest-spec : {M : Type 1} → statement M
-row-digest-spec =
-    tie.close
-    (tie.spec (λ c. search needs) (λ c. search needs) (λ c. search needs) (λ c. search needs) (λ c κs. search needs) (λ c. search needs) returns)
+row-digest-spec = tie.close (tie.spec (λ c. search needs) (λ c. search needs) (λ c. search needs) (λ c. search needs) (λ c κs. search needs)
+    (λ c. search needs) returns)

@@ -15,9 +15,7 @@ fits s = omega (arith, s .pre .1, s .pre .2)
 returns : tie.Need-returns
 unfolding frontBy
 returns c =
-    let d : tie.After-copy = search in
-    let s : tie.Start = search in
-    d .copy .ensures ∙ ap (λ (n : ℕ). take n (s .args .block .now)) (s .pre .2)
+    let d : tie.After-copy = search in let s : tie.Start = search in d .copy .ensures ∙ ap (λ (n : ℕ). take n (s .args .block .now)) (s .pre .2)
 
 pub put-front-spec : {M : Type 1} → statement M
 put-front-spec = tie.close (tie.spec (λ c. let s : tie.Start = search in front-length _ _ (fits s))

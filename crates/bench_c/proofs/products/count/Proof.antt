@@ -41,20 +41,19 @@ announce-each-requires c κs =
     let r : tie.After-row-length = search in
     let m : tie.After-message2-length = search in
     let d = back-to-share r in
-    let p : tie.After-power-table = search in
-    let l : tie.After-log-table = search in
+    let t : tie.After-field-tables = search in
     let s = back-to-start d in
     let (w, few) = s .pre in
     let shares = length-take-le (s .args .n * d .share-length .result) (zeros 7740) (shares-fit d) ∙ ap (λ (k : ℕ). s .args .n * k) (d .share-length .ensures) in
     let rows = length-take-le ((s .args .n + 1) * s .args .p .m) (zeros 2550) (rows-fit s) in
-    let m2 = length-take-le (m .message2-length .result) (zeros 64) (points-fit m) ∙ m .message2-length .ensures in
+    let message2 = length-take-le (m .message2-length .result) (zeros 64) (points-fit m) ∙ m .message2-length .ensures in
     let out =
     length-take-le (s .args .n * r .row-length .result) (zeros 864) (out-fits r) ∙ ap (λ (k : ℕ). s .args .n * k) (r .row-length .ensures)
     in
-    (omega arith, l .log-table .ensures, p .power-table .ensures)
+    (omega arith, t .field-tables .ensures)
 
 pub count-spec : {M : Type 1} → statement M
-count-spec = tie.close (tie.spec (λ c κs. search needs) (λ c κs. search needs) (λ c κs. search needs)
+count-spec = tie.close (tie.spec (λ c κs. search needs) (λ c κs. search needs)
     (λ c. let d : tie.After-share-length = search in let h = shares-fit d in omega arith) (λ c. search needs)
     (λ c. let d : tie.After-share-length = search in let h = rows-fit (back-to-start d) in omega arith) (λ c κs. search needs) (λ c κs. search needs)
     (λ c. let r : tie.After-row-length = search in let h = out-fits r in omega arith)

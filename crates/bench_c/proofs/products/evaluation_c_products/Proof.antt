@@ -27,7 +27,6 @@ returns-4 c =
     counted-outside _ _ (omega arith) (l .if2 .left) _ (p .parameters-of .ensures) (sym (c .before .within-limits .ensures) ∙ c .if3 .left)
 
 pub evaluation-c-products-spec : {M : Type 1} → statement M
-evaluation-c-products-spec =
-    tie.close
-    (tie.spec returns returns-2 (λ c κs. search needs) (λ c κs. search needs)
-    (λ c κs. let w : tie.After-within-limits = search in (test-within _ (sym (w .within-limits .ensures) ∙ c .if3 .taken), omega arith)) returns-3 returns-4)
+evaluation-c-products-spec = tie.close (tie.spec returns returns-2 (λ c κs. search needs) (λ c κs. search needs)
+    (λ c κs. let w : tie.After-within-limits = search in (test-within _ (sym (w .within-limits .ensures) ∙ c .if3 .taken), omega arith))
+    returns-3 returns-4)

@@ -10,19 +10,11 @@ use Rattle.stored.specs.Buffer.Laws.{fits-not, fits-so}
 use Rattle.capi.proofs.fresh.unlock_verifier_new.Statement.{statement}
 use Rattle.capi.proofs.fresh.unlock_verifier_new.Tie as tie
 
-returns : tie.Need-returns
-returns c = fits-not _ _ _ _ (c .if1 .taken)
-
-write-verifier-requires : tie.Need-write-verifier-requires
-write-verifier-requires c κs = (c .before .before .if1 .left, fresh-small _ (c .before .fresh .ensures))
-
 returns-2 : tie.Need-returns-2
-returns-2 c =
-    let after-fresh : tie.After-fresh = search in
-    let else1 : tie.Else1 = search in
-    let whole = else1 .if1 .left in
+returns-2 c = let after-fresh : tie.After-fresh = search in let else1 : tie.Else1 = search in let whole = else1 .if1 .left in
     ap (λ (l : List ℕ). kept 0 l) (c .before .before .write-verifier .ensures ∙ ap verifierBytes (after-fresh .fresh .ensures))
     ∙ fits-so _ verifierSize _ _ whole
 
 pub unlock-verifier-new-spec : {M : Type 1} → statement M
-unlock-verifier-new-spec = tie.close (tie.spec returns (λ c κs. search needs) write-verifier-requires (λ c. search needs) returns-2)
+unlock-verifier-new-spec = tie.close (tie.spec (λ c. fits-not _ _ _ _ (c .if1 .taken)) (λ c κs. search needs)
+    (λ c κs. (c .before .before .if1 .left, fresh-small _ (c .before .fresh .ensures))) (λ c. search needs) returns-2)

@@ -4,11 +4,6 @@ use borrow.Author.Needs.{needs}
 use Rattle.capi.proofs.misfit.misfit_number.Statement.{statement}
 use Rattle.capi.proofs.misfit.misfit_number.Tie as tie
 
-returns : tie.Need-returns
-returns c = rw (sym (c .before .within-limits .ensures) ∙ c .if1 .taken)
-
-returns-2 : tie.Need-returns-2
-returns-2 c = rw (sym (c .before .within-limits .ensures) ∙ c .if1 .left)
-
 pub misfit-number-spec : {M : Type 1} → statement M
-misfit-number-spec = tie.close (tie.spec (λ c κs. search needs) returns returns-2)
+misfit-number-spec = tie.close (tie.spec (λ c κs. search needs) (λ c. rw (sym (c .before .within-limits .ensures) ∙ c .if1 .taken))
+    (λ c. rw (sym (c .before .within-limits .ensures) ∙ c .if1 .left)))

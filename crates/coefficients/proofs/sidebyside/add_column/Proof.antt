@@ -18,8 +18,7 @@ use Rattle.coefficients.proofs.sidebyside.add_column.Tie as tie
 
 abbrev Inv-loop : tie.InvT-loop
 Inv-loop out₀ matrix k i table n j₀ out j =
-    (j ≤ length out₀)
-    × ((v : ℕ) → table ≡ multiples v → out ≡ xorList out₀ (take j (map (scaled v) (column (length out₀) k i matrix))))
+    (j ≤ length out₀) × ((v : ℕ) → table ≡ multiples v → out ≡ xorList out₀ (take j (map (scaled v) (column (length out₀) k i matrix))))
     × (length out ≡ length out₀)
 
 abbrev μ-loop : tie.MeasureT-loop
@@ -27,27 +26,18 @@ abbrev μ-loop : tie.MeasureT-loop
 
 -- the entry stands within the matrix
 inside : (q : tie.In-loop Inv-loop μ-loop) →
-    let a = q .before .before .before .before .args in
-    q .before .loop .j * a .k + a .i < length (a .matrix .now)
-inside q =
-    let a = q .before .before .before .before .args in
+    let a = q .before .before .before .before .args in q .before .loop .j * a .k + a .i < length (a .matrix .now)
+inside q = let a = q .before .before .before .before .args in
     omega (arith, part-fits (q .before .loop .j) (length (a .out .now)) (a .k) (q .loop-test .taken))
 
 loop-holds : tie.Need-loop-holds Inv-loop μ-loop
-loop-holds c =
-    let s : tie.Start Inv-loop μ-loop = search in
-    let a = s .args in
+loop-holds c = let s : tie.Start Inv-loop μ-loop = search in let a = s .args in
     (search needs, λ v e. xorList-none _ (map (scaled v) (column (length (a .out .now)) (a .k) (a .i) (a .matrix .now))), refl)
 
 loop-again : tie.Need-loop-again Inv-loop μ-loop
 unfolding _⊕_
-loop-again c =
-    let p : tie.At-loop Inv-loop μ-loop = search in
-    let s : tie.Start Inv-loop μ-loop = search in
-    let a = s .args in
-    let l = p .loop in
-    let n = length (a .out .now) in
-    let m = length-column n (a .k) (a .i) (a .matrix .now) in (
+loop-again c = let p : tie.At-loop Inv-loop μ-loop = search in let s : tie.Start Inv-loop μ-loop = search in let a = s .args in let l = p .loop in
+    let n = length (a .out .now) in let m = length-column n (a .k) (a .i) (a .matrix .now) in (
       omega arith,
       λ v e. added-more (scaled v) (a .out .now) (column n (a .k) (a .i) (a .matrix .now)) (l .out) (l .j) (c .times .result) (omega arith) (omega arith)
           (l .inv .1 v e) (c .times .ensures .0 v e ∙ ap (scaled v) (sym (column-at n (a .k) (a .i) (a .matrix .now) (l .j) (omega arith)))),
@@ -55,10 +45,7 @@ loop-again c =
     )
 
 returns : tie.Need-returns Inv-loop μ-loop
-returns c =
-    let p : tie.At-loop Inv-loop μ-loop = search in
-    let s : tie.Start Inv-loop μ-loop = search in
-    let a = s .args in
+returns c = let p : tie.At-loop Inv-loop μ-loop = search in let s : tie.Start Inv-loop μ-loop = search in let a = s .args in
     let m = length-column (length (a .out .now)) (a .k) (a .i) (a .matrix .now) in
     λ v e. p .loop .inv .1 v e ∙ added-all (scaled v) _ (column (length (a .out .now)) (a .k) (a .i) (a .matrix .now)) (p .loop .j) (omega arith)
 

@@ -27,35 +27,20 @@ gathered : (d : tie.After-gather) → length (d .gather .last .1 .1 .1 .1 .0) �
 gathered d = d .gather .kept .1 .1 .1 .1 .0 ∙ sym (front (back-to-start d))
 
 prepared : (z : tie.After-clear) →
-    let d = z .before .before .before .before in
-    let s = back-to-start d in
-    let p = s .args .p in
-    let g = d .gather .last .1 .1 .1 .1 .0 in
+    let d = z .before .before .before .before in let s = back-to-start d in let p = s .args .p in let g = d .gather .last .1 .1 .1 .1 .0 in
     let w = g ++ drop (p .k) (s .args .words .now) in
     take (p .k) w ++ (z .clear .last .0 ++ drop (length w - p .k) (drop (p .k) w)) ≡ g ++ replicate (p .m - p .k) 0
-prepared z =
-    let d = z .before .before .before .before in
-    let s = back-to-start d in
+prepared z = let d = z .before .before .before .before in let s = back-to-start d in
     prepared-made _ _ (s .args .words .now) (d .gather .last .1 .1 .1 .1 .0) _ (s .pre .sized-words) (gathered d) (below s) (z .clear .ensures)
 
 image-requires : tie.Need-image-requires
-image-requires c κs =
-    let z : tie.After-clear = search in
-    let d : tie.After-gather = search in
-    let s = back-to-start d in
+image-requires c κs = let z : tie.After-clear = search in let d : tie.After-gather = search in let s = back-to-start d in
     prepared-image _ _ (d .gather .last .1 .1 .1 .1 .0) _ (below s) (gathered d) (prepared z) (s .args .matrix .now) (s .pre .sized-matrix)
 
 returns : tie.Need-returns
-returns c =
-    let u : tie.After-add-where = search in
-    let v : tie.After-image = search in
-    let z : tie.After-clear = search in
-    let d : tie.After-gather = search in
-    let x : tie.After-at-x = search in
-    let s = back-to-start d in
-    let y : tie.After-shared-slice-known3 = search in
-    let a = s .args in
-    let p = a .p in
+returns c = let u : tie.After-add-where = search in let v : tie.After-image = search in let z : tie.After-clear = search in
+    let d : tie.After-gather = search in let x : tie.After-at-x = search in let s = back-to-start d in
+    let y : tie.After-shared-slice-known3 = search in let a = s .args in let p = a .p in
     λ i h. vector-made p (a .matrix .now) (a .y .now) (a .first) (shareOf p (a .shares .now) i) i h (λ k. omega (arith, y .shared-slice-known3 .given k))
     (s .pre .sized-y) _ _ (v .image .last .0) (u .add-where .last .1 .0) (below s) (gathered d) (prepared z) (v .image .kept .0) (v .image .ensures .0)
     (v .image .ensures .1 i h) (u .add-where .ensures)
@@ -63,6 +48,6 @@ returns c =
 
 pub vectors-spec : {M : Type 1} → statement M
 vectors-spec = tie.close (tie.spec (λ c κs. search needs) (λ c. search needs) (λ c. let s : tie.Start = search in front s)
-    (λ c κs. let x : tie.After-at-x = search in let s : tie.Start = search in let e = front s in omega (arith, x .at-x, s .pre)) (λ c. search needs) (λ c. search needs) (λ c. search needs) (λ c. search needs)
-    (λ c κs. search needs) image-requires (λ c. search needs) (λ c. search needs) (λ c. search needs) (λ c. search needs) (λ c κs. search needs)
-    (λ c. search needs) returns)
+    (λ c κs. let x : tie.After-at-x = search in let s : tie.Start = search in let e = front s in omega (arith, x .at-x, s .pre)) (λ c. search needs)
+    (λ c. search needs) (λ c. search needs) (λ c. search needs) (λ c κs. search needs) image-requires (λ c. search needs) (λ c. search needs)
+    (λ c. search needs) (λ c. search needs) (λ c κs. search needs) (λ c. search needs) returns)

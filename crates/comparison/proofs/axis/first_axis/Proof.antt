@@ -6,11 +6,6 @@ use lib.Count.{trailing-le}
 use Rattle.comparison.proofs.axis.first_axis.Statement.{statement}
 use Rattle.comparison.proofs.axis.first_axis.Tie as tie
 
-cast-result : tie.Need-cast-result
-cast-result c = omega (arith, trailing-le 8 (bitXor (c .args .first) (c .args .second)))
-
-add-result : tie.Need-add-result
-add-result c = omega (arith, trailing-le 8 (bitXor (c .args .first) (c .args .second)))
-
 pub first-axis-spec : {M : Type 1} → statement M
-first-axis-spec = tie.close (tie.spec cast-result add-result (λ c. search needs))
+first-axis-spec = tie.close (tie.spec (λ c. omega (arith, trailing-le 8 (bitXor (c .args .first) (c .args .second))))
+    (λ c. omega (arith, trailing-le 8 (bitXor (c .args .first) (c .args .second)))) (λ c. search needs))

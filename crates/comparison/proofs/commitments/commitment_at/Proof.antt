@@ -1,53 +1,35 @@
 -- The hidden leaf's commitment is copied; any other leaf's is made of its state.
-use mathlib.Core.Path.{_≡_, ap, _∙_}
-use Prim.Native.Nat.{ℕ, _+_, _-_, _*_}
+use mathlib.Core.Path.{ap, _∙_}
+use mathlib.Core.List.{List}
+use Prim.Native.Nat.{ℕ}
 use native.Mathlib.Omega.{arith}
 use borrow.Author.Needs.{needs}
 use borrow.Author.Tests.{eq-eqb, ne-eqb}
-use Rattle.lists.specs.Part.{part}
-use Rattle.shake256.specs.Fips.{SHAKE256}
-use Rattle.exchange.specs.Leaf.{commitment}
-use Rattle.leaves.specs.After.Laws.{commitment-begun}
+use Rattle.leaves.specs.After.{commitmentAfter}
+use Rattle.leaves.specs.Commitments.{commitmentsAfter}
 use Rattle.layout.specs.Layout.Bounds.{leaves-most}
-use Rattle.comparison.specs.Comparison.{commitmentAt}
+use Rattle.comparison.specs.Opened.Laws.{given-lent, state-lent}
 use Rattle.comparison.proofs.commitments.commitment_at.Statement.{statement}
 use Rattle.comparison.proofs.commitments.commitment_at.Tie as tie
 
 returns : tie.Need-returns
-unfolding commitmentAt
-returns c prefix b = rw (eq-eqb _ _ (c .before .before .before .before .if1 .taken)) (c .before .before .copy .ensures)
+unfolding commitmentsAfter
+returns c =
+    let copied : tie.After-copy = search in let end : tie.After-rows-end = search in let test : tie.Then1 = search in let s : tie.Start = search in
+    rw (eq-eqb _ _ (test .if1 .taken)) (copied .copy .ensures ∙ given-lent (s .args .p) (s .args .opened .now) _ (end .rows-end .ensures))
 
 leaf-commitment-requires : tie.Need-leaf-commitment-requires
 leaf-commitment-requires c κs =
-    let start = c .before .before .before .before .before .before .before in
-    record {
-      of = record { within = start .pre .within; number = omega (arith, start .pre .below, leaves-most (start .args .p) (start .pre .within)) };
-      room = start .pre .room;
-    }
+    let s : tie.Start = search in let a = s .pre .room in
+    record { of = record { within = s .pre .within; number = omega (arith, s .pre .below, leaves-most (s .args .p) (s .pre .within)) }; room = a }
 
 returns-2 : tie.Need-returns-2
-unfolding commitmentAt part
-returns-2 c prefix b =
-    let made = c .before .before in
-    let test = made .before .before .before in
-    let a = test .before .before .before .before .before .args in
-    let at : ℕ = 32 * a .leaf in
-    let size : (at + 32) - at ≡ 32 = omega arith in
-    rw (ne-eqb _ _ (test .if1 .left))
-    (made .leaf-commitment .ensures ∙ commitment-begun (a .start) prefix (a .p) (a .leaf) _ (a .aux .now) b ∙ ap (λ (n : ℕ). commitment SHAKE256 (a .p) prefix (a .leaf) (part (a .states .now) at n) (a .aux .now)) size)
+unfolding commitmentsAfter
+returns-2 c = let made : tie.After-leaf-commitment = search in let test : tie.Else1 = search in let s : tie.Start = search in let a = s .args in
+    rw (ne-eqb _ _ (test .if1 .left)) (made .leaf-commitment .ensures ∙ ap
+    (λ (state : List ℕ). commitmentAfter (a .start) (a .p) (a .leaf) state (a .aux .now)) (state-lent (a .opened .now) (a .leaf)))
 
 pub commitment-at-spec : {M : Type 1} → statement M
-commitment-at-spec =
-    tie.close
-    (tie.spec
-    (λ c κs. search needs)
-    (λ c. search needs)
-    returns
-    (λ c. search needs)
-    (λ c. search needs)
-    (λ c. search needs)
-    (λ c. search needs)
-    (λ c. search needs)
-    leaf-commitment-requires
-    (λ c. search needs)
-    returns-2)
+commitment-at-spec = tie.close (tie.spec (λ c κs. search needs) (λ c. search needs) (λ c. search needs) (λ c. search needs) (λ c κs. search needs)
+    (λ c. search needs) returns (λ c. search needs) (λ c. search needs) (λ c. search needs) (λ c. search needs) (λ c. search needs)
+    leaf-commitment-requires (λ c. search needs) returns-2)

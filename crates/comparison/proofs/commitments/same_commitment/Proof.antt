@@ -6,20 +6,9 @@ use Rattle.comparison.proofs.commitments.same_commitment.Statement.{sta
 use Rattle.comparison.proofs.commitments.same_commitment.Tie as tie
 
 returns : tie.Need-returns
-returns c prefix b =
-    let second = c .before .before .before .before in
-    let first = second .before .before .before in
-    c .equal .ensures ∙ ap₂ eqList (first .commitment-at .ensures prefix b) (second .commitment-at2 .ensures prefix b)
+returns c = let second : tie.After-commitment-at2 = search in let first : tie.After-commitment-at = search in
+    c .equal .ensures ∙ ap₂ eqList (first .commitment-at .ensures) (second .commitment-at2 .ensures)
 
 pub same-commitment-spec : {M : Type 1} → statement M
-same-commitment-spec =
-    tie.close
-    (tie.spec
-    (λ c. search needs)
-    (λ c κs. search needs)
-    (λ c. search needs)
-    (λ c κs. search needs)
-    (λ c. search needs)
-    (λ c. search needs)
-    (λ c κs. search needs)
-    returns)
+same-commitment-spec = tie.close (tie.spec (λ c. search needs) (λ c κs. search needs) (λ c. search needs) (λ c κs. search needs) (λ c. search needs)
+    (λ c. search needs) (λ c κs. search needs) returns)

@@ -17,45 +17,24 @@ use Rattle.comparison.proofs.digests.same_digest.Tie as tie
 fits : (s : tie.Start) (n : ℕ) → n ≡ axisLength (s .args .p) → s .args .axis * n + n ≤ s .args .p .axes * axisLength (s .args .p)
 fits s n e = omega (arith, part-fits (s .args .axis) (s .args .p .axes) n (s .pre .1), ap (_*_ (s .args .p .axes)) e)
 
-mul-at : tie.Need-mul-at
-mul-at c = let s : tie.Start = search in omega (arith, fits s _ (c .axis-length .ensures), s .pre .0 .first)
-
-add-end : tie.Need-add-end
-add-end c =
-    let w : tie.After-axis-length = search in
-    let s : tie.Start = search in
-    omega (arith, fits s _ (w .axis-length .ensures), s .pre .0 .first)
-
-part-axis-digest-end : tie.Need-part-axis-digest-end
-part-axis-digest-end c =
-    let w : tie.After-axis-length = search in
-    let s : tie.Start = search in
-    omega (arith, fits s _ (w .axis-length .ensures), s .pre .0 .first)
-
 part-axis-digest-end-2 : tie.Need-part-axis-digest-end-2
 part-axis-digest-end-2 c =
-    let w : tie.After-axis-length = search in
-    let s : tie.Start = search in
-    omega (arith, fits s _ (w .axis-length .ensures), s .pre .0 .second)
+    let w : tie.After-axis-length = search in let s : tie.Start = search in omega (arith, fits s _ (w .axis-length .ensures), s .pre .0 .second)
 
 returns : tie.Need-returns
 unfolding part digestAt
-returns c =
-    let second : tie.After-axis-digest2 = search in
-    let first : tie.After-axis-digest = search in
-    let w : tie.After-axis-length = search in
-    let s : tie.Start = search in
-    let a = s .args in
-    let n = w .axis-length .result in
-    let e = w .axis-length .ensures in
+returns c = let second : tie.After-axis-digest2 = search in let first : tie.After-axis-digest = search in let w : tie.After-axis-length = search in
+    let s : tie.Start = search in let a = s .args in let n = w .axis-length .result in let e = w .axis-length .ensures in
     let size : (a .axis * n + n) - a .axis * n ≡ axisLength (a .p) = omega (arith, e) in
     let digest : List ℕ → ℕ → ℕ → List ℕ = λ rows at m. SHAKE256 (string 6 (a .prefix .now) ((a .axis + 1) ∷ part rows at m)) 32 in
-    c .equal .ensures ∙ ap₂ eqList (first .axis-digest .ensures) (second .axis-digest2 .ensures)
-    ∙ ap₂ (λ (at m : ℕ). eqList (digest (a .rows .now) at m) (digest (a .others .now) at m)) (ap (_*_ (a .axis)) e) size
+    c .equal .ensures ∙ ap₂ eqList (first .axis-digest .ensures) (second .axis-digest2 .ensures) ∙ ap₂
+    (λ (at m : ℕ). eqList (digest (a .rows .now) at m) (digest (a .others .now) at m)) (ap (_*_ (a .axis)) e) size
 
 pub same-digest-spec : {M : Type 1} → statement M
-same-digest-spec =
-    tie.close
-    (tie.spec (λ c κs. search needs) mul-at add-end (λ c. search needs) (λ c. search needs) part-axis-digest-end (λ c. search needs) (λ c κs. search needs)
-    (λ c. search needs) (λ c. search needs) part-axis-digest-end-2 (λ c. search needs) (λ c κs. search needs) (λ c. search needs) (λ c. search needs)
-    (λ c κs. search needs) returns)
+same-digest-spec = tie.close (tie.spec (λ c κs. search needs)
+    (λ c. let s : tie.Start = search in omega (arith, fits s _ (c .axis-length .ensures), s .pre .0 .first))
+    (λ c. let w : tie.After-axis-length = search in let s : tie.Start = search in omega (arith, fits s _ (w .axis-length .ensures), s .pre .0 .first))
+    (λ c. search needs) (λ c. search needs)
+    (λ c. let w : tie.After-axis-length = search in let s : tie.Start = search in omega (arith, fits s _ (w .axis-length .ensures), s .pre .0 .first))
+    (λ c. search needs) (λ c κs. search needs) (λ c. search needs) (λ c. search needs) part-axis-digest-end-2 (λ c. search needs)
+    (λ c κs. search needs) (λ c. search needs) (λ c. search needs) (λ c κs. search needs) returns)

@@ -1,94 +1,53 @@
--- Each return has what the searches before it found (`Steps`).
-use mathlib.Core.Path.{sym, _∙_}
-use Prim.Native.Nat.{_-_}
+-- Each return has what the searches before it found (`Steps`); the rows are parts of what the openings give (`rows-lent`).
+use mathlib.Core.Path.{_≡_, sym, ap, subst}
+use mathlib.Core.List.{List}
+use Prim.Native.Nat.{ℕ, _-_, _*_, _≤_}
 use native.Mathlib.Omega.{arith}
 use borrow.Author.Needs.{needs}
-use Rattle.layout.specs.Layout.Laws.{isLast-last, isLast-false}
-use Rattle.layout.specs.Layout.Bounds.{leaves-most}
-use Rattle.comparison.specs.Comparison.Steps.{response-apart, row-apart, commitment-apart, leaf-apart, all-equal}
-use Rattle.comparison.specs.Found.{named, filled}
+use lib.ListN.{length, take, drop}
+use Rattle.layout.specs.Layout.{axisLength}
+use Rattle.exchange.specs.Extractor.{Finding}
+use Rattle.openings.specs.Parts.{rowsIn}
+use Rattle.layout.specs.Layout.{openedLength}
+use Rattle.openings.specs.Parts.Laws.{length-rowsIn}
+use Rattle.comparison.specs.Comparison.Steps.{response-apart, row-apart, rows-equal}
+use Rattle.comparison.specs.Opened.Laws.{rows-lent}
+use Rattle.comparison.specs.Found.{Found, named}
 use Rattle.comparison.proofs.findings.compare.Statement.{statement}
 use Rattle.comparison.proofs.findings.compare.Tie as tie
 
+abbrev back : tie.After-rows-end → tie.Start
+back c = search
+
+abbrev lent : tie.After-rows-end → List ℕ → List ℕ
+lent c o = take (c .rows-end .result - c .before .states-length .result) (drop (c .before .states-length .result) o)
+
+rows : (c : tie.After-rows-end) (o : List ℕ) → lent c o ≡ rowsIn (back c .args .p) o
+rows c o = rows-lent (back c .args .p) o _ _ (c .before .states-length .ensures) (c .rows-end .ensures)
+
+fits : (c : tie.After-rows-end) (o : List ℕ) → length o ≡ openedLength (back c .args .p)
+    → back c .args .p .axes * axisLength (back c .args .p) ≤ length (lent c o)
+fits c o l = omega (arith, ap length (rows c o), length-rowsIn (back c .args .p) o l)
+
 returns : tie.Need-returns
-returns c = named _ _ _ _ (response-apart _ _ _ _ _ (c .before .first-digest .ensures) (c .if1 .taken))
+returns c = let end : tie.After-rows-end = search in
+    named _ _ _ _ (response-apart _ _ _ _ _ _ (rows end _) (rows end _) _ (c .before .first-digest .ensures) (c .if1 .taken))
 
 returns-2 : tie.Need-returns-2
-returns-2 c =
-    let f = c .before .before in
-    named _ _ _ _ (row-apart _ _ _ _ _ (f .before .first-digest .ensures) (f .if1 .left) _ (c .before .first-row .ensures) (c .if2 .taken))
+returns-2 c = let f : tie.Else1 = search in let end : tie.After-rows-end = search in
+    named _ _ _ _ (row-apart _ _ _ _ _ _ (rows end _) (rows end _) _ (f .before .first-digest .ensures) (f .if1 .left) _
+    (c .before .first-row .ensures) (c .if2 .taken))
 
 returns-3 : tie.Need-returns-3
-returns-3 c =
-    let counted = c .before .before in
-    let g = counted .before in
-    let f = g .before .before in
-    named _ _ _ _
-    (commitment-apart _ _ _ _ _ (f .before .first-digest .ensures) (f .if1 .left) _ (g .before .first-row .ensures) (g .if2 .left) _
-    (c .before .first-commitment .ensures) (omega (arith, c .if3 .taken, counted .leaf-count .ensures)))
-
-cast-t24 : tie.Need-cast-t24
-cast-t24 c =
-    let counted = c .before .before .before .before in
-    let start = counted .before .before .before .before .before .before .before .before .before .before .before .before .before .before .before in
-    omega (arith, c .if4 .taken, counted .leaf-count .ensures, leaves-most (start .args .p) (start .pre .within))
-
-returns-4 : tie.Need-returns-4
-returns-4 c =
-    let h = c .before .before in
-    let counted = h .before .before in
-    let g = counted .before in
-    let f = g .before .before in
-    named _ _ _ _
-    (leaf-apart _ _ _ _ _ (f .before .first-digest .ensures) (f .if1 .left) _ (g .before .first-row .ensures) (g .if2 .left) _
-    (h .before .first-commitment .ensures) (omega (arith, h .if3 .left, counted .leaf-count .ensures)) _ (c .before .first-leaf .ensures)
-    (omega (arith, c .if4 .taken, counted .leaf-count .ensures)))
-
-write-output-requires : tie.Need-write-output-requires
-write-output-requires c κs =
-    let start = c .before .before .before .before .before .before .before .before .before .before .before .before .before .before .before .before .before .before .before .before in
-    let p = start .args .p in
-    let v = start .pre in
-    record {
-      both = record { within = v .within; first = v .first .states; second = v .second .states };
-      below = v .first .below;
-      last = λ e. v .second .aux (isLast-false p _ (λ z. v .other (isLast-last p _ e ∙ sym z)));
-      other = v .first .aux;
-      room = v .room;
-    }
-
-returns-5 : tie.Need-returns-5
-returns-5 c =
-    let output = c .before .before .before in
-    let i = output .before .before in
-    let h = i .before .before in
-    let counted = h .before .before in
-    let g = counted .before in
-    let f = g .before .before in
-    filled _ _ _ _ _ _
-    (all-equal _ _ _ _ _ (f .before .first-digest .ensures) (f .if1 .left) _ (g .before .first-row .ensures) (g .if2 .left) _
-    (h .before .first-commitment .ensures) (omega (arith, h .if3 .left, counted .leaf-count .ensures)) _ (i .before .first-leaf .ensures)
-    (omega (arith, i .if4 .left, counted .leaf-count .ensures)))
-    (c .first-axis .ensures)
-    (output .write-output .ensures)
+returns-3 c = let compared : tie.After-compare-leaves = search in let g : tie.Else2 = search in let f : tie.Else1 = search in
+    let end : tie.After-rows-end = search in
+    subst
+    (λ (x : Finding). Found x (back end .args .out .now) (compared .compare-leaves .result) (compared .compare-leaves .last .1 .1 .1 .1 .1 .1 .1 .0))
+    (sym (rows-equal _ _ _ _ _ _ (rows end _) (rows end _) _ (f .before .first-digest .ensures) (f .if1 .left) _ (g .before .first-row .ensures)
+    (g .if2 .left))) (compared .compare-leaves .ensures)
 
 pub compare-spec : {M : Type 1} → statement M
-compare-spec =
-    tie.close
-    (tie.spec
-    (λ c κs. search needs)
-    returns
-    (λ c κs. search needs)
-    (λ c. search needs)
-    (λ c. search needs)
-    returns-2
-    (λ c κs. search needs)
-    (λ c κs. search needs)
-    returns-3
-    (λ c κs. search needs)
-    cast-t24
-    returns-4
-    write-output-requires
-    (λ c κs. search needs)
-    (λ c. search needs)
-    returns-5)
+compare-spec = tie.close (tie.spec (λ c κs. search needs) (λ c κs. search needs) (λ c. search needs) (λ c. search needs) (λ c. search needs)
+    (λ c. search needs) (λ c. search needs) (λ c. search needs) (λ c κs. search needs) returns (λ c. search needs) (λ c. search needs)
+    (λ c. search needs) (λ c. search needs) (λ c. search needs) (λ c. search needs) (λ c κs. search needs) (λ c. search needs) (λ c. search needs)
+    returns-2 (λ c κs. search needs) (λ c. search needs) returns-3)

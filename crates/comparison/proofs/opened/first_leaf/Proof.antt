@@ -12,59 +12,30 @@ use Rattle.comparison.proofs.opened.first_leaf.Statement.{statement}
 use Rattle.comparison.proofs.opened.first_leaf.Tie as tie
 
 abbrev Inv-loop : tie.InvT-loop
-Inv-loop p first aux states second other-aux others n leaf₀ leaf =
+Inv-loop p hidden aux opened other-aux other-opened n leaf₀ leaf =
     (leaf ≤ leaves p)
-    × ((k : ℕ) → k < leaf → (openedBoth first second k && apart (leafAt p states aux) (leafAt p others other-aux) k) ≡ false)
+    × ((k : ℕ) → k < leaf → (openedBoth (hidden .first) (hidden .second) k && apart (leafAt p opened aux) (leafAt p other-opened other-aux) k) ≡ false)
 
 abbrev μ-loop : tie.MeasureT-loop
-μ-loop p first aux states second other-aux others n leaf₀ leaf = n - leaf
-
-loop-holds : tie.Need-loop-holds Inv-loop μ-loop
-loop-holds c = (omega arith, λ k l. absurd (omega arith))
-
-leaf-differs-requires : tie.Need-leaf-differs-requires Inv-loop μ-loop
-leaf-differs-requires c κs =
-    (c .before .before .before .before .before .before .before .pre, omega (arith, c .loop-test .taken, c .before .before .leaf-count .ensures))
+μ-loop p hidden aux opened other-aux other-opened n leaf₀ leaf = n - leaf
 
 returns : tie.Need-returns Inv-loop μ-loop
 unfolding firstOpened
-returns c =
-    let f = c .before .before in
-    least-found _ _ _ (omega (arith, f .loop-test .taken, f .before .before .leaf-count .ensures)) (sym (c .before .leaf-differs .ensures) ∙ c .if1 .taken)
-    (f .before .loop .inv .1)
-
-add-leaf : tie.Need-add-leaf Inv-loop μ-loop
-add-leaf c = omega arith
-
-loop-less : tie.Need-loop-less Inv-loop μ-loop
-loop-less c = omega arith
+returns c = let f = c .before .before in
+    least-found _ _ _ (omega (arith, f .loop-test .taken, f .before .before .leaf-count .ensures))
+    (sym (c .before .leaf-differs .ensures) ∙ c .if1 .taken) (f .before .loop .inv .1)
 
 loop-again : tie.Need-loop-again Inv-loop μ-loop
-loop-again c =
-    let f = c .before .before in (
-      omega (arith, f .loop-test .taken, f .before .before .leaf-count .ensures),
-      below-more _ _ (f .before .loop .inv .1) (sym (c .before .leaf-differs .ensures) ∙ c .if1 .left),
-    )
+loop-again c = let f = c .before .before in
+    let a = below-more _ _ (f .before .loop .inv .1) (sym (c .before .leaf-differs .ensures) ∙ c .if1 .left) in
+    (omega (arith, f .loop-test .taken, f .before .before .leaf-count .ensures), a)
 
 returns-2 : tie.Need-returns-2 Inv-loop μ-loop
 unfolding firstOpened
-returns-2 c =
-    let f = c .before in
-    let n = leaves (f .before .before .before .before .before .before .args .p) in
+returns-2 c = let f = c .before in let s : tie.Start Inv-loop μ-loop = search in let n = leaves (s .args .p) in
     let e : f .loop .leaf ≡ n = omega (arith, f .loop .inv .0, c .loop-test .left, f .before .leaf-count .ensures) in
     e ∙ least-none _ n (λ k l. f .loop .inv .1 k (omega arith))
 
 pub first-leaf-spec : {M : Type 1} → statement M
-first-leaf-spec =
-    tie.close
-    (tie.spec
-    Inv-loop
-    μ-loop
-    (λ c κs. search needs)
-    loop-holds
-    leaf-differs-requires
-    returns
-    add-leaf
-    loop-less
-    loop-again
-    returns-2)
+first-leaf-spec = tie.close (tie.spec Inv-loop μ-loop (λ c κs. search needs) (λ c. (omega arith, λ k l. absurd (omega arith))) (λ c κs. search needs)
+    returns (λ c. omega arith) (λ c. omega arith) loop-again returns-2)

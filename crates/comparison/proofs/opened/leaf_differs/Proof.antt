@@ -8,16 +8,11 @@ use Rattle.comparison.proofs.opened.leaf_differs.Statement.{statement}
 use Rattle.comparison.proofs.opened.leaf_differs.Tie as tie
 
 returns : tie.Need-returns
-unfolding openedBoth
-returns c = rw (eq-eqb _ _ (c .if1 .taken))
-
-returns-2 : tie.Need-returns-2
-unfolding openedBoth
-returns-2 c = rw (ne-eqb _ _ (c .before .if1 .left), eq-eqb _ _ (c .if2 .taken))
-
-returns-3 : tie.Need-returns-3
 unfolding openedBoth apart
-returns-3 c = rw (ne-eqb _ _ (c .before .before .if1 .left), ne-eqb _ _ (c .before .if2 .left)) (ap not (c .same-leaf .ensures))
+returns c = let second : tie.Then2 = search in let first : tie.Then1 = search in
+    rw (ne-eqb _ _ (first .if1 .taken), ne-eqb _ _ (second .if2 .taken)) (ap not (c .same-leaf .ensures))
 
 pub leaf-differs-spec : {M : Type 1} → statement M
-leaf-differs-spec = tie.close (tie.spec returns returns-2 (λ c κs. search needs) returns-3)
+unfolding openedBoth
+leaf-differs-spec = tie.close (tie.spec (λ c κs. search needs) returns
+    (λ c. let first : tie.Then1 = search in rw (ne-eqb _ _ (first .if1 .taken), eq-eqb _ _ (c .if2 .left))) (λ c. rw (eq-eqb _ _ (c .if1 .left))))

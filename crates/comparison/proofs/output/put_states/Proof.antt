@@ -1,51 +1,33 @@
 -- Two writes, each within the output.
 use mathlib.Core.Path.{_≡_, sym, ap, ap₂, _∙_}
 use mathlib.Core.List.{List}
-use Prim.Native.Nat.{ℕ, _+_, _-_, _*_}
+use Prim.Native.Nat.{ℕ, _-_, _*_}
 use native.Mathlib.Omega.{arith}
 use borrow.Author.Needs.{needs}
 use lib.ListN.{length, take}
 use lib.Seq.{length-take-le}
-use Rattle.lists.specs.Part.{part, putAt}
+use Rattle.lists.specs.Part.{putAt}
+use Rattle.layout.specs.Layout.{leaves}
+use Rattle.comparison.specs.Opened.Laws.{state-lent}
 use Rattle.comparison.proofs.output.put_states.Statement.{statement}
 use Rattle.comparison.proofs.output.put_states.Tie as tie
 
-front : (c : tie.After-leaf-count) → length (take (32 * c .leaf-count .result) (c .before .before .before .before .args .states .now)) ≡ 32 * c .leaf-count .result
-front c = length-take-le _ _ (omega (arith, c .leaf-count .ensures, c .before .before .before .before .pre .both .first))
-
-slice-aggregate-put-at : tie.Need-slice-aggregate-put-at
-slice-aggregate-put-at c = sym (front (c .before .before))
+front : (s : tie.Start) (n : ℕ) → n ≡ leaves (s .args .p) → length (take (32 * n) (s .args .opened .now)) ≡ 32 * n
+front s n e = length-take-le _ _ (omega (arith, s .pre .both .first))
 
 put-at-requires : tie.Need-put-at-requires
-put-at-requires c κs =
-    let counted = c .before .before in
-    omega (arith, front counted, counted .leaf-count .ensures, counted .before .before .before .before .pre .room)
+put-at-requires c κs = let counted : tie.After-leaf-count = search in let s : tie.Start = search in
+    omega (arith, front s _ (counted .leaf-count .ensures), counted .leaf-count .ensures, s .pre .room)
 
 returns : tie.Need-returns
-unfolding part
-returns c =
-    let counted = c .before .before .before .before .before .before .before .before .before .before in
-    let a = counted .before .before .before .before .args in
-    let at : ℕ = 32 * a .first in
-    let size : (at + 32) - at ≡ 32 = omega arith in
-    c .before .before .put-at2 .ensures
-    ∙ ap₂ (λ (d s : List ℕ). putAt d at s)
-    (c .before .before .before .before .before .before .before .put-at .ensures ∙ ap (λ (n : ℕ). putAt (a .out .now) 0 (take (32 * n) (a .states .now))) (counted .leaf-count .ensures))
-    (ap (λ (n : ℕ). part (a .others .now) at n) size)
+returns c = let second : tie.After-put-at2 = search in let first : tie.After-put-at = search in let counted : tie.After-leaf-count = search in
+    let s : tie.Start = search in let a = s .args in
+    second .put-at2 .ensures ∙ ap₂ (λ (d t : List ℕ). putAt d (32 * a .first) t)
+    (first .put-at .ensures ∙ ap (λ (n : ℕ). putAt (a .out .now) 0 (take (32 * n) (a .opened .now))) (counted .leaf-count .ensures))
+    (state-lent (a .other-opened .now) (a .first))
 
 pub put-states-spec : {M : Type 1} → statement M
-put-states-spec =
-    tie.close
-    (tie.spec
-    (λ c κs. search needs)
-    (λ c. search needs)
-    slice-aggregate-put-at
-    put-at-requires
-    (λ c. search needs)
-    (λ c. search needs)
-    (λ c. search needs)
-    (λ c. search needs)
-    (λ c. search needs)
-    (λ c κs. search needs)
-    (λ c. search needs)
+put-states-spec = tie.close (tie.spec (λ c κs. search needs) (λ c. search needs)
+    (λ c. let counted : tie.After-leaf-count = search in let s : tie.Start = search in sym (front s _ (counted .leaf-count .ensures))) put-at-requires
+    (λ c. search needs) (λ c. search needs) (λ c. search needs) (λ c. search needs) (λ c. search needs) (λ c κs. search needs) (λ c. search needs)
     returns)

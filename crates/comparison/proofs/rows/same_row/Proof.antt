@@ -13,40 +13,20 @@ use Rattle.comparison.proofs.rows.same_row.Tie as tie
 fits : (s : tie.Start) (n : ℕ) → n ≡ axisLength (s .args .p) → s .args .axis * n + n ≤ s .args .p .axes * axisLength (s .args .p)
 fits s n e = omega (arith, part-fits (s .args .axis) (s .args .p .axes) n (s .pre .1), ap (_*_ (s .args .p .axes)) e)
 
-mul-at : tie.Need-mul-at
-mul-at c = let s : tie.Start = search in omega (arith, fits s _ (c .axis-length .ensures), s .pre .0 .first)
-
-add-end : tie.Need-add-end
-add-end c =
-    let w : tie.After-axis-length = search in
-    let s : tie.Start = search in
-    omega (arith, fits s _ (w .axis-length .ensures), s .pre .0 .first)
-
-part-equal-end : tie.Need-part-equal-end
-part-equal-end c =
-    let w : tie.After-axis-length = search in
-    let s : tie.Start = search in
-    omega (arith, fits s _ (w .axis-length .ensures), s .pre .0 .first)
-
 part-equal-end-2 : tie.Need-part-equal-end-2
 part-equal-end-2 c =
-    let w : tie.After-axis-length = search in
-    let s : tie.Start = search in
-    omega (arith, fits s _ (w .axis-length .ensures), s .pre .0 .second)
+    let w : tie.After-axis-length = search in let s : tie.Start = search in omega (arith, fits s _ (w .axis-length .ensures), s .pre .0 .second)
 
 returns : tie.Need-returns
 unfolding part
-returns c =
-    let w : tie.After-axis-length = search in
-    let s : tie.Start = search in
-    let a = s .args in
-    let n = w .axis-length .result in
-    let e = w .axis-length .ensures in
-    let size : (a .axis * n + n) - a .axis * n ≡ axisLength (a .p) = omega (arith, e) in
+returns c = let w : tie.After-axis-length = search in let s : tie.Start = search in let a = s .args in let n = w .axis-length .result in
+    let e = w .axis-length .ensures in let size : (a .axis * n + n) - a .axis * n ≡ axisLength (a .p) = omega (arith, e) in
     c .equal .ensures ∙ ap₂ (λ (at m : ℕ). eqList (part (a .rows .now) at m) (part (a .others .now) at m)) (ap (_*_ (a .axis)) e) size
 
 pub same-row-spec : {M : Type 1} → statement M
-same-row-spec =
-    tie.close
-    (tie.spec (λ c κs. search needs) mul-at add-end (λ c. search needs) (λ c. search needs) part-equal-end (λ c. search needs) (λ c. search needs)
-    part-equal-end-2 (λ c κs. search needs) returns)
+same-row-spec = tie.close (tie.spec (λ c κs. search needs)
+    (λ c. let s : tie.Start = search in omega (arith, fits s _ (c .axis-length .ensures), s .pre .0 .first))
+    (λ c. let w : tie.After-axis-length = search in let s : tie.Start = search in omega (arith, fits s _ (w .axis-length .ensures), s .pre .0 .first))
+    (λ c. search needs) (λ c. search needs)
+    (λ c. let w : tie.After-axis-length = search in let s : tie.Start = search in omega (arith, fits s _ (w .axis-length .ensures), s .pre .0 .first))
+    (λ c. search needs) (λ c. search needs) part-equal-end-2 (λ c κs. search needs) returns)

@@ -1,11 +1,10 @@
--- Each return has the tests that came before it: `early-row` says which answer they give.
-use mathlib.Core.Path.{_≡_, sym, ap, _∙_}
+-- Each return has the tests that came before it.
+use mathlib.Core.Path.{_≡_, sym, _∙_}
 use mathlib.Core.Bool.{Bool, true, false, not}
 use borrow.Author.Needs.{needs}
 use borrow.Author.Tests.{eq-eqb, ne-eqb, not-true, not-false}
-use Rattle.parameters.specs.Limits.{withinLimits}
 use Rattle.parameters.specs.Limits.Laws.{test-within}
-use Rattle.extractor.specs.Early.{early-row, row-1, row-2, row-3, row-4, row-5, row-6, row-7, row-done}
+use Rattle.extractor.specs.Early.{earlyOf}
 use Rattle.extractor.proofs.checks.early_checks.Statement.{statement}
 use Rattle.extractor.proofs.checks.early_checks.Tie as tie
 
@@ -16,113 +15,39 @@ off {r} e h = sym e ∙ not-true r h
 on : {r b : Bool} → r ≡ b → not r ≡ false → b ≡ true
 on {r} e h = sym e ∙ not-false r h
 
-limits-passed : (c : tie.Else1) → withinLimits (c .before .before .before .before .before .before .before .before .before .before .before .before .before .before .args .p) ≡ true
-limits-passed c = on (c .before .within-limits .ensures) (c .if1 .left)
-
-returns : tie.Need-returns
-returns c = row-1 _ _ _ _ _ _ _ (off (c .before .within-limits .ensures) (c .if1 .taken)) ∙ early-row _ _ _ _ _ _ _
-
-message-lengths-requires : tie.Need-message-lengths-requires
-message-lengths-requires c κs = test-within _ (limits-passed c)
-
 returns-2 : tie.Need-returns-2
+unfolding earlyOf
 returns-2 c =
-    row-2 _ _ _ _ _ _ _ (limits-passed (c .before .before)) (off (c .before .message-lengths .ensures) (c .if2 .taken)) ∙ early-row _ _ _ _ _ _ _
-
-message-lengths-requires-2 : tie.Need-message-lengths-requires-2
-message-lengths-requires-2 c κs = test-within _ (limits-passed (c .before .before))
+    let e : tie.Else1 = search in rw (on (e .before .within-limits .ensures) (e .if1 .left), off (c .before .all-lengths .ensures) (c .if2 .taken))
 
 returns-3 : tie.Need-returns-3
-returns-3 c =
-    let f = c .before .before in
-    row-3 _ _ _ _ _ _ _ (limits-passed (f .before .before)) (on (f .before .message-lengths .ensures) (f .if2 .left))
-    (off (c .before .message-lengths2 .ensures) (c .if3 .taken))
-    ∙ early-row _ _ _ _ _ _ _
-
-other-lengths-requires : tie.Need-other-lengths-requires
-other-lengths-requires c κs = test-within _ (limits-passed (c .before .before .before .before))
+unfolding earlyOf
+returns-3 c = let f : tie.Else2 = search in let e : tie.Else1 = search in let a = off (c .before .leaves-below .ensures) (c .if3 .taken) in
+    rw (on (e .before .within-limits .ensures) (e .if1 .left), on (f .before .all-lengths .ensures) (f .if2 .left), a)
 
 returns-4 : tie.Need-returns-4
-returns-4 c =
-    let g = c .before .before in
-    let f = g .before .before in
-    row-4 _ _ _ _ _ _ _ (limits-passed (f .before .before)) (on (f .before .message-lengths .ensures) (f .if2 .left))
-    (on (g .before .message-lengths2 .ensures) (g .if3 .left))
-    (off (c .before .other-lengths .ensures) (c .if4 .taken))
-    ∙ early-row _ _ _ _ _ _ _
-
-leaves-below-requires : tie.Need-leaves-below-requires
-leaves-below-requires c κs = test-within _ (limits-passed (c .before .before .before .before .before .before))
+unfolding earlyOf
+returns-4 c = let g : tie.Else3 = search in let f : tie.Else2 = search in let e : tie.Else1 = search in let s : tie.Start = search in
+    let a = on (e .before .within-limits .ensures) (e .if1 .left) in let b = on (g .before .leaves-below .ensures) (g .if3 .left) in
+    rw (a, on (f .before .all-lengths .ensures) (f .if2 .left), b, not-true (s .args .same) (c .if4 .taken))
 
 returns-5 : tie.Need-returns-5
-returns-5 c =
-    let h = c .before .before in
-    let g = h .before .before in
-    let f = g .before .before in
-    row-5 _ _ _ _ _ _ _ (limits-passed (f .before .before)) (on (f .before .message-lengths .ensures) (f .if2 .left))
-    (on (g .before .message-lengths2 .ensures) (g .if3 .left))
-    (on (h .before .other-lengths .ensures) (h .if4 .left))
-    (off (c .before .leaves-below .ensures) (c .if5 .taken))
-    ∙ early-row _ _ _ _ _ _ _
+unfolding earlyOf
+returns-5 c = let h : tie.Else4 = search in let g : tie.Else3 = search in let f : tie.Else2 = search in let e : tie.Else1 = search in
+    let s : tie.Start = search in let a = on (e .before .within-limits .ensures) (e .if1 .left) in
+    let b = on (g .before .leaves-below .ensures) (g .if3 .left) in
+    rw (a, on (f .before .all-lengths .ensures) (f .if2 .left), b, not-false (s .args .same) (h .if4 .left), eq-eqb _ _ (c .if5 .taken))
 
 returns-6 : tie.Need-returns-6
-returns-6 c =
-    let i = c .before .before in
-    let h = i .before .before in
-    let g = h .before .before in
-    let f = g .before .before in
-    row-6 _ _ _ _ _ _ _ (limits-passed (f .before .before)) (on (f .before .message-lengths .ensures) (f .if2 .left))
-    (on (g .before .message-lengths2 .ensures) (g .if3 .left))
-    (on (h .before .other-lengths .ensures) (h .if4 .left))
-    (on (i .before .leaves-below .ensures) (i .if5 .left))
-    (off (c .before .same-statement .ensures) (c .if6 .taken))
-    ∙ early-row _ _ _ _ _ _ _
-
-returns-7 : tie.Need-returns-7
-returns-7 c =
-    let j = c .before in
-    let i = j .before .before in
-    let h = i .before .before in
-    let g = h .before .before in
-    let f = g .before .before in
-    row-7 _ _ _ _ _ _ _ (limits-passed (f .before .before)) (on (f .before .message-lengths .ensures) (f .if2 .left))
-    (on (g .before .message-lengths2 .ensures) (g .if3 .left))
-    (on (h .before .other-lengths .ensures) (h .if4 .left))
-    (on (i .before .leaves-below .ensures) (i .if5 .left))
-    (on (j .before .same-statement .ensures) (j .if6 .left))
-    (ap not (eq-eqb _ _ (c .if7 .taken)))
-    ∙ early-row _ _ _ _ _ _ _
-
-returns-8 : tie.Need-returns-8
-returns-8 c =
-    let j = c .before in
-    let i = j .before .before in
-    let h = i .before .before in
-    let g = h .before .before in
-    let f = g .before .before in
-    row-done _ _ _ _ _ _ _ (limits-passed (f .before .before)) (on (f .before .message-lengths .ensures) (f .if2 .left))
-    (on (g .before .message-lengths2 .ensures) (g .if3 .left))
-    (on (h .before .other-lengths .ensures) (h .if4 .left))
-    (on (i .before .leaves-below .ensures) (i .if5 .left))
-    (on (j .before .same-statement .ensures) (j .if6 .left))
-    (ap not (ne-eqb _ _ (c .if7 .left)))
-    ∙ early-row _ _ _ _ _ _ _
+unfolding earlyOf
+returns-6 c = let h : tie.Else4 = search in let g : tie.Else3 = search in let f : tie.Else2 = search in let e : tie.Else1 = search in
+    let s : tie.Start = search in let a = on (e .before .within-limits .ensures) (e .if1 .left) in
+    let b = on (g .before .leaves-below .ensures) (g .if3 .left) in
+    rw (a, on (f .before .all-lengths .ensures) (f .if2 .left), b, not-false (s .args .same) (h .if4 .left), ne-eqb _ _ (c .if5 .left))
 
 pub early-checks-spec : {M : Type 1} → statement M
-early-checks-spec =
-    tie.close
-    (tie.spec
-    (λ c κs. search needs)
-    returns
-    message-lengths-requires
-    returns-2
-    message-lengths-requires-2
-    returns-3
-    other-lengths-requires
-    returns-4
-    leaves-below-requires
-    returns-5
-    (λ c κs. search needs)
-    returns-6
-    returns-7
-    returns-8)
+unfolding earlyOf
+early-checks-spec = tie.close (tie.spec (λ c κs. search needs) (λ c. rw (off (c .before .within-limits .ensures) (c .if1 .taken)))
+    (λ c κs. test-within _ (on (c .before .within-limits .ensures) (c .if1 .left))) returns-2
+    (λ c κs. let e : tie.Else1 = search in test-within _ (on (e .before .within-limits .ensures) (e .if1 .left))) returns-3 returns-4 returns-5
+    returns-6)

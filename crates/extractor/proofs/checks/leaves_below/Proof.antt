@@ -4,11 +4,6 @@ use borrow.Author.Tests.{le-ltb, lt-ltb}
 use Rattle.extractor.proofs.checks.leaves_below.Statement.{statement}
 use Rattle.extractor.proofs.checks.leaves_below.Tie as tie
 
-returns : tie.Need-returns
-returns c = rw (← c .before .leaf-count .ensures, le-ltb _ _ (c .if1 .taken))
-
-returns-2 : tie.Need-returns-2
-returns-2 c = rw (← c .before .leaf-count .ensures, lt-ltb _ _ (c .if1 .left))
-
 pub leaves-below-spec : {M : Type 1} → statement M
-leaves-below-spec = tie.close (tie.spec (λ c κs. search needs) returns returns-2)
+leaves-below-spec = tie.close (tie.spec (λ c κs. search needs) (λ c. rw (← c .before .leaf-count .ensures, lt-ltb _ _ (c .if1 .taken)))
+    (λ c. rw (← c .before .leaf-count .ensures, le-ltb _ _ (c .if1 .left))))

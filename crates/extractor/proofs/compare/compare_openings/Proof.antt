@@ -1,97 +1,31 @@
--- What was read of message 5, and aux behind it, are what the view has of it (`read-view`).
-use mathlib.Core.Path.{refl, sym, subst₂}
-use Prim.Native.Nat.{_≤_}
+-- Aux behind its place, and the fronts, are what the contract names (`openings-lent`, `found-lent`).
+use mathlib.Core.Path.{sym}
+use native.Mathlib.Omega.{arith}
 use borrow.Author.Needs.{needs}
-use lib.ListN.{length, take}
 use lib.Seq.{length-take-le}
-use Rattle.reader.specs.Message5.{auxPlace}
-use Rattle.reader.specs.Message5.Laws.{aux-inside}
-use Rattle.reader.specs.Opening.Laws.{rest-inside}
-use Rattle.comparison.specs.Comparison.{View, comparison}
-use Rattle.comparison.specs.Shapes.{Views}
-use Rattle.comparison.specs.Found.{Found}
-use Rattle.extractor.specs.Judged.{read-view}
+use Rattle.extractor.specs.Compared.{openings-lent, found-lent}
 use Rattle.extractor.proofs.compare.compare_openings.Statement.{statement}
 use Rattle.extractor.proofs.compare.compare_openings.Tie as tie
 
-module _ (start : tie.Start) where
-  inside : auxPlace (start .args .p) ≤ length (start .args .m5 .now)
-  inside = aux-inside (start .args .p) (start .args .first) (start .args .m5 .now) (start .pre .size5)
+slice-aggregate-compare-2 : tie.Need-slice-aggregate-compare-2
+slice-aggregate-compare-2 c = let all : tie.After-opened-length = search in let s : tie.Start = search in
+    sym (length-take-le _ (s .args .opened .now) (omega (arith, s .pre .first-fits, all .opened-length .ensures)))
 
-  inside′ : auxPlace (start .args .p) ≤ length (start .args .other5 .now)
-  inside′ = aux-inside (start .args .p) (start .args .second) (start .args .other5 .now) (start .pre .size5′)
-
-read-commitment-requires : tie.Need-read-commitment-requires
-read-commitment-requires c κs =
-    let start = c .before .before .before .before .before .before .before .before .before in
-    record { within = start .pre .views .within; size = refl; long = inside start }
-
-sub-aux : tie.Need-sub-aux
-sub-aux c =
-    let start = c .before .before .before .before .before .before .before .before .before .before .before in
-    rest-inside (start .args .p) (start .args .m5 .now) (inside start) (c .before .read-commitment .ensures .0)
-
-read-commitment-requires-2 : tie.Need-read-commitment-requires-2
-read-commitment-requires-2 c κs =
-    let start = c .before .before .before .before .before .before .before .before .before .before .before .before in
-    record { within = start .pre .views .within; size = refl; long = inside′ start }
-
-sub-other-aux : tie.Need-sub-other-aux
-sub-other-aux c =
-    let start = c .before .before .before .before .before .before .before .before .before .before .before .before .before .before in
-    rest-inside (start .args .p) (start .args .other5 .now) (inside′ start) (c .before .read-commitment2 .ensures .0)
-
-slice-aggregate-compare : tie.Need-slice-aggregate-compare
-slice-aggregate-compare c =
-    let start = c .before .before .before .before .before .before .before .before .before .before .before .before .before .before .before in
-    sym (length-take-le 32 (start .args .m1 .now) (start .pre .salt))
+slice-aggregate-compare-3 : tie.Need-slice-aggregate-compare-3
+slice-aggregate-compare-3 c = let all : tie.After-opened-length = search in let s : tie.Start = search in
+    sym (length-take-le _ (s .args .other .now) (omega (arith, s .pre .second-fits, all .opened-length .ensures)))
 
 compare-requires : tie.Need-compare-requires
-compare-requires c κs =
-    let second = c .before .before .before .before .before .before .before in
-    let first = second .before .before .before in
-    let start = first .before .before .before .before .before .before .before .before .before .before in
-    let a = start .args in
-    let said = first .read-commitment .ensures in
-    let other = second .read-commitment2 .ensures in
-    subst₂ (λ (v v′ : View). Views (a .p) v v′ (a .out .now))
-    (sym (read-view (a .p) (a .first) (a .m5 .now) (a .states .now) (a .rows .now) (inside start) (said .1) (said .0)))
-    (sym (read-view (a .p) (a .second) (a .other5 .now) (a .others .now) (a .other-rows .now) (inside′ start) (other .1) (other .0)))
-    (start .pre .views)
+compare-requires c κs = let all : tie.After-opened-length = search in let place : tie.After-aux-place = search in let s : tie.Start = search in
+    openings-lent _ _ _ _ _ _ _ _ _ (place .aux-place .ensures) (all .opened-length .ensures) (s .pre .views)
 
 returns : tie.Need-returns
-returns c =
-    let compared = c .before .before in
-    let second = compared .before .before .before .before .before .before .before .before in
-    let first = second .before .before .before in
-    let start = first .before .before .before .before .before .before .before .before .before .before in
-    let a = start .args in
-    let said = first .read-commitment .ensures in
-    let other = second .read-commitment2 .ensures in
-    subst₂ (λ (v v′ : View). Found (comparison (a .p) (take 32 (a .m1 .now)) v v′) (a .out .now) (compared .compare .result) (compared .compare .last .1 .1 .1 .1 .1 .1 .1 .1 .1 .1 .1 .1 .0))
-    (read-view (a .p) (a .first) (a .m5 .now) (a .states .now) (a .rows .now) (inside start) (said .1) (said .0))
-    (read-view (a .p) (a .second) (a .other5 .now) (a .others .now) (a .other-rows .now) (inside′ start) (other .1) (other .0))
-    (compared .compare .ensures)
+returns c = let compared : tie.After-compare = search in let all : tie.After-opened-length = search in let place : tie.After-aux-place = search in
+    let s : tie.Start = search in
+    found-lent _ _ _ _ _ _ (s .args .out .now) _ _ (place .aux-place .ensures) (all .opened-length .ensures) _ _ _ (compared .compare .ensures)
 
 pub compare-openings-spec : {M : Type 1} → statement M
-compare-openings-spec =
-    tie.close
-    (tie.spec
-    (λ c. search needs)
-    read-commitment-requires
-    sub-aux
-    (λ c. search needs)
-    read-commitment-requires-2
-    sub-other-aux
-    slice-aggregate-compare
-    (λ c. search needs)
-    (λ c. search needs)
-    (λ c. search needs)
-    (λ c. search needs)
-    (λ c. search needs)
-    (λ c. search needs)
-    (λ c. search needs)
-    (λ c. search needs)
-    compare-requires
-    (λ c. search needs)
-    returns)
+compare-openings-spec = tie.close (tie.spec (λ c κs. search needs) (λ c κs. search needs)
+    (λ c. let s : tie.Start = search in sym (length-take-le 32 (s .args .message1 .now) (s .pre .salt))) (λ c. search needs) (λ c. search needs)
+    (λ c. search needs) slice-aggregate-compare-2 (λ c. search needs) (λ c. search needs) (λ c. search needs) slice-aggregate-compare-3
+    compare-requires (λ c. search needs) returns)

@@ -15,24 +15,17 @@ use Rattle.interpolants.proofs.powersums.add_powers.Statement.{statemen
 use Rattle.interpolants.proofs.powersums.add_powers.Tie as tie
 
 abbrev Inv-loop : tie.InvT-loop
-Inv-loop acc₀ table s e pow k₀ j₀ acc k j =
+Inv-loop acc₀ table s e tables k₀ j₀ acc k j =
     (j ≤ length acc₀) × (k < 255) × (power k ≡ power (s + e * j)) × (length acc ≡ length acc₀)
     × ((v : ℕ) → table ≡ multiples v → Added j (progression v s e) acc₀ acc)
 
 abbrev μ-loop : tie.MeasureT-loop
-μ-loop acc₀ table s e pow k₀ j₀ acc k j = length acc₀ - j
-
-loop-holds : tie.Need-loop-holds Inv-loop μ-loop
-loop-holds c = (search needs, search needs, ap power (omega arith), refl, λ v t. added-none _ _)
+μ-loop acc₀ table s e tables k₀ j₀ acc k j = length acc₀ - j
 
 loop-again : tie.Need-loop-again Inv-loop μ-loop
 unfolding _⊕_
-loop-again c =
-    let w : tie.After-wrapped Inv-loop μ-loop = search in
-    let t : tie.After-times Inv-loop μ-loop = search in
-    let f : tie.After-power-of Inv-loop μ-loop = search in
-    let p : tie.At-loop Inv-loop μ-loop = search in
-    let i = p .loop .inv in (
+loop-again c = let w : tie.After-wrapped Inv-loop μ-loop = search in let t : tie.After-times Inv-loop μ-loop = search in
+    let f : tie.After-power-of Inv-loop μ-loop = search in let p : tie.At-loop Inv-loop μ-loop = search in let i = p .loop .inv in (
       omega arith,
       w .wrapped .ensures .0,
       power-next _ _ _ _ _ (i .2) (w .wrapped .ensures .1),
@@ -41,13 +34,10 @@ loop-again c =
     )
 
 returns : tie.Need-returns Inv-loop μ-loop
-returns c =
-    let p : tie.At-loop Inv-loop μ-loop = search in
-    let s : tie.Start Inv-loop μ-loop = search in
-    let n : p .loop .j ≡ length (s .args .acc .now) = omega arith in
-    λ v t. rw n at (p .loop .inv .4 v t)
+returns c = let p : tie.At-loop Inv-loop μ-loop = search in let s : tie.Start Inv-loop μ-loop = search in
+    let n : p .loop .j ≡ length (s .args .acc .now) = omega arith in λ v t. rw n at (p .loop .inv .4 v t)
 
 pub add-powers-spec : {M : Type 1} → statement M
-add-powers-spec = tie.close (tie.spec Inv-loop μ-loop loop-holds (λ c. search needs) (λ c. search needs)
-    (λ c κs. search needs) (λ c κs. search needs) (λ c. search needs) (λ c. search needs) (λ c. search needs)
+add-powers-spec = tie.close (tie.spec Inv-loop μ-loop (λ c. (search needs, search needs, ap power (omega arith), refl, λ v t. added-none _ _))
+    (λ c. search needs) (λ c. search needs) (λ c κs. search needs) (λ c κs. search needs) (λ c. search needs) (λ c. search needs) (λ c. search needs)
     (λ c κs. search needs) (λ c. search needs) (λ c. search needs) loop-again (λ c. search needs) returns)

@@ -6,34 +6,26 @@ use borrow.Author.Needs.{needs}
 use lib.ListN.{length, take}
 use Rattle.interpolants.specs.Sums.{total}
 use Rattle.interpolants.specs.Added.{Added, added-first, added-next}
-use Rattle.interpolants.specs.Classes.{weighed, progression, classSum}
+use Rattle.interpolants.specs.Classes.{scaledBy, progression, classSum}
 use Rattle.interpolants.proofs.powersums.gather.Statement.{statement}
 use Rattle.interpolants.proofs.powersums.gather.Tie as tie
 
 abbrev Inv-loop : tie.InvT-loop
-Inv-loop c₀ a m weights class log pow q₀ c q =
+Inv-loop c₀ a m scales class tables q₀ c q =
     (q ≤ 17) × (length c ≡ length c₀)
-    × Added 17 (λ o. total (λ q. progression (weighed (take m a) weights (class + 15 * q)) 0 (class + 15 * q) o) q) c₀ c
+    × Added 17 (λ o. total (λ q. progression (scaledBy (take m a) scales (class + 15 * q)) 0 (class + 15 * q) o) q) c₀ c
 
 abbrev μ-loop : tie.MeasureT-loop
-μ-loop c₀ a m weights class log pow q₀ c q = 17 - q
-
-loop-holds : tie.Need-loop-holds Inv-loop μ-loop
-loop-holds c = (search needs, refl, added-first 17 _ _)
+μ-loop c₀ a m scales class tables q₀ c q = 17 - q
 
 loop-again : tie.Need-loop-again Inv-loop μ-loop
-loop-again c =
-    let r : tie.After-add-entry Inv-loop μ-loop = search in
-    let p : tie.At-loop Inv-loop μ-loop = search in
+loop-again c = let r : tie.After-add-entry Inv-loop μ-loop = search in let p : tie.At-loop Inv-loop μ-loop = search in
     (omega arith, omega (arith, r .add-entry), added-next 17 _ (p .loop .inv .2) (r .add-entry .ensures))
 
 returns : tie.Need-returns Inv-loop μ-loop
 unfolding classSum
-returns c =
-    let p : tie.At-loop Inv-loop μ-loop = search in
-    let n : p .loop .q ≡ 17 = omega arith in
-    rw n at (p .loop .inv .2)
+returns c = let p : tie.At-loop Inv-loop μ-loop = search in let n : p .loop .q ≡ 17 = omega arith in rw n at (p .loop .inv .2)
 
 pub gather-spec : {M : Type 1} → statement M
-gather-spec = tie.close (tie.spec Inv-loop μ-loop loop-holds (λ c. search needs) (λ c. search needs)
+gather-spec = tie.close (tie.spec Inv-loop μ-loop (λ c. (search needs, refl, added-first 17 _ _)) (λ c. search needs) (λ c. search needs)
     (λ c κs. search needs) (λ c. search needs) (λ c. search needs) loop-again (λ c. search needs) returns)

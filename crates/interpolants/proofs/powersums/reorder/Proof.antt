@@ -15,26 +15,15 @@ Inv-loop a₀ b j₀ a j = (j ≤ 255) × Filled j (λ k. getD b (place (254 - k
 abbrev μ-loop : tie.MeasureT-loop
 μ-loop a₀ b j₀ a j = 255 - j
 
-loop-holds : tie.Need-loop-holds Inv-loop μ-loop
-loop-holds c = (search needs, λ k h. absurd (omega arith), refl)
-
 loop-again : tie.Need-loop-again Inv-loop μ-loop
-loop-again c =
-    let r : tie.After-place Inv-loop μ-loop = search in
-    let p : tie.At-loop Inv-loop μ-loop = search in
-    let s : tie.Start Inv-loop μ-loop = search in
-    let b = s .args .b .now in (
+loop-again c = let r : tie.After-place Inv-loop μ-loop = search in let p : tie.At-loop Inv-loop μ-loop = search in
+    let s : tie.Start Inv-loop μ-loop = search in let b = s .args .b .now in (
       omega arith,
       filled-more (p .loop .a) (λ k. getD b (place (254 - k)) 0) (p .loop .inv .1) (omega arith) (ap (λ (n : ℕ). getD b n 0) (r .place .ensures)),
       simp length-set (p .loop .inv .2),
     )
 
-returns : tie.Need-returns Inv-loop μ-loop
-returns c =
-    let p : tie.At-loop Inv-loop μ-loop = search in
-    λ k h. p .loop .inv .1 k (omega arith)
-
 pub reorder-spec : {M : Type 1} → statement M
-reorder-spec = tie.close (tie.spec Inv-loop μ-loop loop-holds (λ c. search needs) (λ c κs. search needs)
-    (λ c. search needs) (λ c. search needs) (λ c. search needs) (λ c. search needs) (λ c. search needs)
-    (λ c. search needs) loop-again (λ c. search needs) returns)
+reorder-spec = tie.close (tie.spec Inv-loop μ-loop (λ c. (search needs, λ k h. absurd (omega arith), refl)) (λ c. search needs) (λ c κs. search needs)
+    (λ c. search needs) (λ c. search needs) (λ c. search needs) (λ c. search needs) (λ c. search needs) (λ c. search needs) loop-again
+    (λ c. search needs) (λ c. let p : tie.At-loop Inv-loop μ-loop = search in λ k h. p .loop .inv .1 k (omega arith)))

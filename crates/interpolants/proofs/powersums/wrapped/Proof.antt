@@ -5,8 +5,5 @@ use Rattle.bytefield.specs.Powers.{wrap}
 use Rattle.interpolants.proofs.powersums.wrapped.Statement.{statement}
 use Rattle.interpolants.proofs.powersums.wrapped.Tie as tie
 
-returns-2 : tie.Need-returns-2
-returns-2 c = (omega arith, wrap _ (omega arith))
-
 pub wrapped-spec : {M : Type 1} → statement M
-wrapped-spec = tie.close (tie.spec (λ c. search needs) returns-2)
+wrapped-spec = tie.close (tie.spec (λ c. search needs) (λ c. (omega arith, wrap _ (omega arith))))

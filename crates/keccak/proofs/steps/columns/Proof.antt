@@ -4,14 +4,8 @@ use borrow.Author.Needs.{needs}
 use Rattle.keccak.proofs.steps.columns.Statement.{statement}
 use Rattle.keccak.proofs.steps.columns.Tie as tie
 
-returns : tie.Need-returns
-returns c = refl
-
 pub columns-spec : {M : Type 1} → statement M
-columns-spec =
-    tie.close
-    (tie.spec
+columns-spec = tie.close (tie.spec (λ c. search needs) (λ c. search needs) (λ c. search needs) (λ c. search needs) (λ c. search needs)
     (λ c. search needs) (λ c. search needs) (λ c. search needs) (λ c. search needs) (λ c. search needs) (λ c. search needs) (λ c. search needs)
     (λ c. search needs) (λ c. search needs) (λ c. search needs) (λ c. search needs) (λ c. search needs) (λ c. search needs) (λ c. search needs)
-    (λ c. search needs) (λ c. search needs) (λ c. search needs) (λ c. search needs) (λ c. search needs) (λ c. search needs) (λ c. search needs)
-    (λ c. search needs) (λ c. search needs) (λ c. search needs) (λ c. search needs) returns)
+    (λ c. search needs) (λ c. search needs) (λ c. search needs) (λ c. search needs) (λ c. search needs) (λ c. search needs) (λ c. refl))

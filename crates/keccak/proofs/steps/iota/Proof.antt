@@ -5,9 +5,6 @@ use Rattle.fips.specs.Steps.{ι}
 use Rattle.keccak.proofs.steps.iota.Statement.{statement}
 use Rattle.keccak.proofs.steps.iota.Tie as tie
 
-returns : tie.Need-returns
-unfolding ι
-returns c = refl
-
 pub iota-spec : {M : Type 1} → statement M
-iota-spec = tie.close (tie.spec (λ c. search needs) (λ c. search needs) returns)
+unfolding ι
+iota-spec = tie.close (tie.spec (λ c. search needs) (λ c. search needs) (λ c. refl))

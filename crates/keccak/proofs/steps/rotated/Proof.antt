@@ -6,13 +6,8 @@ use Rattle.keccak.proofs.Rotation.{or-rotl, rotl-zero}
 use Rattle.keccak.proofs.steps.rotated.Statement.{statement}
 use Rattle.keccak.proofs.steps.rotated.Tie as tie
 
-returns : tie.Need-returns
-unfolding rotl
-returns c = rw (c .if1 .taken) (rotl-zero _ _ (c .before .fits .x .fits))
-
-returns-2 : tie.Need-returns-2
-unfolding rotl
-returns-2 c = or-rotl (c .before .args .x) (c .before .args .r) 64 (omega arith) (c .before .fits .x .fits)
-
 pub rotated-spec : {M : Type 1} → statement M
-rotated-spec = tie.close (tie.spec (λ c. search needs) (λ c. search needs) (λ c. search needs) (λ c. search needs) returns returns-2)
+unfolding rotl
+rotated-spec = tie.close (tie.spec (λ c. search needs) (λ c. search needs) (λ c. search needs) (λ c. search needs)
+    (λ c. rw (c .if1 .taken) (rotl-zero _ _ (c .before .fits .x .fits)))
+    (λ c. or-rotl (c .before .args .x) (c .before .args .r) 64 (omega arith) (c .before .fits .x .fits)))

@@ -18,26 +18,16 @@ turned cs = tab 5 (λ i. rotl (getD cs ((i + 1) % 5) 0) 1)
 returns : tie.Need-returns
 unfolding θ
 returns c =
-    let first = c .before .before .before .before .before in
-    let a = first .before .args .t1 in
+    let r : tie.After-rotated = search in let first : tie.After-columns = search in let start : tie.Start = search in let a = start .args .t1 in
     let cs = first .columns .result in
-    (λ i. by a cs
-    (c .before .before .before .before .rotated .ensures i
-    ∷ c .before .before .before .rotated2 .ensures i
-    ∷ c .before .before .rotated3 .ensures i
-    ∷ c .before .rotated4 .ensures i
-    ∷ c .rotated5 .ensures i
-    ∷ []))
-    ∙ ap (λ (l : List ℕ). by a l (turned l)) (first .columns .ensures)
+    (λ i. by a cs (r .rotated .ensures i ∷ c .before .before .before .rotated2 .ensures i ∷ c .before .before .rotated3 .ensures i ∷
+    c .before .rotated4 .ensures i ∷ c .rotated5 .ensures i ∷ [])) ∙ ap (λ (l : List ℕ). by a l (turned l)) (first .columns .ensures)
 
 pub theta-spec : {M : Type 1} → statement M
-theta-spec =
-    tie.close
-    (tie.spec
-    (λ c κs. search needs) (λ c. search needs) (λ c. search needs) (λ c κs. search needs) (λ c. search needs) (λ c. search needs)
-    (λ c κs. search needs) (λ c. search needs) (λ c. search needs) (λ c κs. search needs) (λ c. search needs) (λ c. search needs)
-    (λ c κs. search needs) (λ c. search needs) (λ c. search needs) (λ c κs. search needs) (λ c. search needs) (λ c. search needs)
-    (λ c. search needs) (λ c. search needs) (λ c. search needs) (λ c. search needs) (λ c. search needs) (λ c. search needs)
-    (λ c. search needs) (λ c. search needs) (λ c. search needs) (λ c. search needs) (λ c. search needs) (λ c. search needs)
-    (λ c. search needs) (λ c. search needs) (λ c. search needs) (λ c. search needs) (λ c. search needs) (λ c. search needs)
-    (λ c. search needs) (λ c. search needs) (λ c. search needs) (λ c. search needs) (λ c. search needs) returns)
+theta-spec = tie.close (tie.spec (λ c κs. search needs) (λ c. search needs) (λ c. search needs) (λ c κs. search needs) (λ c. search needs)
+    (λ c. search needs) (λ c κs. search needs) (λ c. search needs) (λ c. search needs) (λ c κs. search needs) (λ c. search needs) (λ c. search needs)
+    (λ c κs. search needs) (λ c. search needs) (λ c. search needs) (λ c κs. search needs) (λ c. search needs) (λ c. search needs) (λ c. search needs)
+    (λ c. search needs) (λ c. search needs) (λ c. search needs) (λ c. search needs) (λ c. search needs) (λ c. search needs) (λ c. search needs)
+    (λ c. search needs) (λ c. search needs) (λ c. search needs) (λ c. search needs) (λ c. search needs) (λ c. search needs) (λ c. search needs)
+    (λ c. search needs) (λ c. search needs) (λ c. search needs) (λ c. search needs) (λ c. search needs) (λ c. search needs) (λ c. search needs)
+    (λ c. search needs) returns)

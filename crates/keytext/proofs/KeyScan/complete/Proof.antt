@@ -3,9 +3,6 @@ use Rattle.keytext.specs.Scan.{complete}
 use Rattle.keytext.proofs.KeyScan.complete.Statement.{statement}
 use Rattle.keytext.proofs.KeyScan.complete.Tie as tie
 
-returns : tie.Need-returns
-unfolding complete
-returns c = cc
-
 pub complete-spec : {M : Type 1} → statement M
-complete-spec = tie.close (tie.spec (λ c κs. tt) (λ c κs. tt) returns)
+unfolding complete
+complete-spec = tie.close (tie.spec (λ c κs. tt) (λ c κs. tt) (λ c. cc))

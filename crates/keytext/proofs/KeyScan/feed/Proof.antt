@@ -21,65 +21,18 @@ Inv-loop piece matrix₀ y₀ x-a₀ scan₀ i₀ matrix y x-a scan i =
 abbrev μ-loop : tie.MeasureT-loop
 μ-loop piece matrix₀ y₀ x-a₀ scan₀ i₀ matrix y x-a scan i = length piece - i
 
-loop-holds : tie.Need-loop-holds Inv-loop μ-loop
-loop-holds c = (omega arith, refl, (refl, refl, refl))
-
-shared-slice-read-step : tie.Need-shared-slice-read-step Inv-loop μ-loop
-shared-slice-read-step c = omega arith
-
-step-requires : tie.Need-step-requires Inv-loop μ-loop
-step-requires c κs = search needs
-
-add-i : tie.Need-add-i Inv-loop μ-loop
-add-i c = let in-loop : tie.In-loop Inv-loop μ-loop = search in omega (arith, in-loop)
-
-loop-less : tie.Need-loop-less Inv-loop μ-loop
-loop-less c = let in-loop : tie.In-loop Inv-loop μ-loop = search in omega (arith, in-loop)
-
 loop-again : tie.Need-loop-again Inv-loop μ-loop
-loop-again c =
-    let s : tie.After-step Inv-loop μ-loop = search in
-    let in-loop : tie.In-loop Inv-loop μ-loop = search in
-    let p : tie.At-loop Inv-loop μ-loop = search in
-    let start : tie.Start Inv-loop μ-loop = search in
-    let l = p .loop in
-    let k = l .inv .2 in (
-      omega (arith, in-loop),
-      fold-more (start .args .piece .now) (l .i) (held (l .scan) (l .matrix) (l .y) (l .x-a)) (omega (arith, in-loop)) (s .step .ensures) ∙ l .inv .1,
-      (s .step .kept .1 .1 .0 ∙ k .0, s .step .kept .1 .1 .1 .0 ∙ k .1, s .step .kept .1 .1 .1 .1 .0 ∙ k .2),
-    )
-
-same-length : tie.Need-same-length Inv-loop μ-loop
-same-length c = c .before .loop .inv .2 .0
-
-same-length-2 : tie.Need-same-length-2 Inv-loop μ-loop
-same-length-2 c = c .before .loop .inv .2 .1
-
-same-length-3 : tie.Need-same-length-3 Inv-loop μ-loop
-same-length-3 c = c .before .loop .inv .2 .2
+loop-again c = let s : tie.After-step Inv-loop μ-loop = search in let lo : tie.In-loop Inv-loop μ-loop = search in
+    let p : tie.At-loop Inv-loop μ-loop = search in let start : tie.Start Inv-loop μ-loop = search in let l = p .loop in let k = l .inv .2 in
+    let a = fold-more (start .args .piece .now) (l .i) (held (l .scan) (l .matrix) (l .y) (l .x-a)) (omega (arith, lo)) (s .step .ensures) ∙ l .inv .1 in
+    (omega (arith, lo), a, (s .step .kept .1 .1 .0 ∙ k .0, s .step .kept .1 .1 .1 .0 ∙ k .1, s .step .kept .1 .1 .1 .1 .0 ∙ k .2))
 
 returns : tie.Need-returns Inv-loop μ-loop
-returns c =
-    let start : tie.Start Inv-loop μ-loop = search in
-    let p = c .before in
-    let t = start .args .piece .now in
-    let l = p .loop in
+returns c = let start : tie.Start Inv-loop μ-loop = search in let p = c .before in let t = start .args .piece .now in let l = p .loop in
     let e : drop (l .i) t ≡ [] = drop-of-length-le t {i = l .i} (omega arith) in
     ap (λ (r : List ℕ). fold step (held (l .scan) (l .matrix) (l .y) (l .x-a)) r) (sym e) ∙ l .inv .1
 
 pub feed-spec : {M : Type 1} → statement M
-feed-spec =
-    tie.close
-    (tie.spec
-    Inv-loop
-    μ-loop
-    loop-holds
-    shared-slice-read-step
-    step-requires
-    add-i
-    loop-less
-    loop-again
-    same-length
-    same-length-2
-    same-length-3
-    returns)
+feed-spec = tie.close (tie.spec Inv-loop μ-loop (λ c. (omega arith, refl, (refl, refl, refl))) (λ c. omega arith) (λ c κs. search needs)
+    (λ c. let l : tie.In-loop Inv-loop μ-loop = search in omega (arith, l)) (λ c. search needs) loop-again (λ c. search needs) (λ c. search needs)
+    (λ c. search needs) returns)

@@ -5,47 +5,17 @@ use Rattle.keytext.specs.Scan.{fieldEnd}
 use Rattle.keytext.proofs.KeyScan.field_end.Statement.{statement}
 use Rattle.keytext.proofs.KeyScan.field_end.Tie as tie
 
-broken-requires : tie.Need-broken-requires
-broken-requires c κs = search needs
-
-returns : tie.Need-returns
-unfolding fieldEnd
-returns c = rw (lt-leb _ _ (c .before .if1 .taken)) (c .broken .ensures)
-
-last-field-requires : tie.Need-last-field-requires
-last-field-requires c κs = search needs
-
-broken-requires-2 : tie.Need-broken-requires-2
-broken-requires-2 c κs = search needs
-
 returns-2 : tie.Need-returns-2
 unfolding fieldEnd
-returns-2 c =
-    let else1 : tie.Else1 = search in
+returns-2 c = let else1 : tie.Else1 = search in
     rw (le-leb _ _ (else1 .if1 .left), ← c .before .before .before .last-field .ensures, le-ltb _ _ (c .before .if2 .taken)) (c .broken2 .ensures)
-
-add-closed : tie.Need-add-closed
-add-closed c = search needs
-
-closed-requires : tie.Need-closed-requires
-closed-requires c κs = search needs
 
 returns-3 : tie.Need-returns-3
 unfolding fieldEnd
-returns-3 c =
-    let after-last-field : tie.After-last-field = search in
-    let else1 : tie.Else1 = search in
-    rw (le-leb _ _ (else1 .if1 .left), ← after-last-field .last-field .ensures, lt-ltb _ _ (c .before .before .if2 .left)) (c .closed .ensures)
+returns-3 c = let l : tie.After-last-field = search in let else1 : tie.Else1 = search in
+    rw (le-leb _ _ (else1 .if1 .left), ← l .last-field .ensures, lt-ltb _ _ (c .before .before .if2 .left)) (c .closed .ensures)
 
 pub field-end-spec : {M : Type 1} → statement M
-field-end-spec =
-    tie.close
-    (tie.spec
-    broken-requires
-    returns
-    last-field-requires
-    broken-requires-2
-    returns-2
-    add-closed
-    closed-requires
-    returns-3)
+unfolding fieldEnd
+field-end-spec = tie.close (tie.spec (λ c κs. search needs) (λ c. rw (lt-leb _ _ (c .before .if1 .taken)) (c .broken .ensures)) (λ c κs. search needs)
+    (λ c κs. search needs) returns-2 (λ c. search needs) (λ c κs. search needs) returns-3)

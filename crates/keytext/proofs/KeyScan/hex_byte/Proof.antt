@@ -6,17 +6,9 @@ use Rattle.keytext.specs.Scan.{withHex}
 use Rattle.keytext.proofs.KeyScan.hex_byte.Statement.{statement}
 use Rattle.keytext.proofs.KeyScan.hex_byte.Tie as tie
 
-push-requires : tie.Need-push-requires
-push-requires c κs = search needs
-
-same-length : tie.Need-same-length
-same-length c = search needs
-
 returns : tie.Need-returns
-returns c =
-    let start : tie.Start = search in
-    let p = c .before .before in
+returns c = let start : tie.Start = search in let p = c .before .before in
     ap (λ (g : HexHeld). (withHex (start .args .self) (g .scan), g .out)) (p .push .ensures)
 
 pub hex-byte-spec : {M : Type 1} → statement M
-hex-byte-spec = tie.close (tie.spec push-requires same-length returns)
+hex-byte-spec = tie.close (tie.spec (λ c κs. search needs) (λ c. search needs) returns)

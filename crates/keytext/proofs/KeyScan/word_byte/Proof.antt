@@ -5,11 +5,5 @@ use Rattle.keytext.specs.Scan.{withWord}
 use Rattle.keytext.proofs.KeyScan.word_byte.Statement.{statement}
 use Rattle.keytext.proofs.KeyScan.word_byte.Tie as tie
 
-push-word-requires : tie.Need-push-word-requires
-push-word-requires c κs = search needs
-
-returns : tie.Need-returns
-returns c = ap (withWord (c .before .before .args .self)) (c .push-word .ensures)
-
 pub word-byte-spec : {M : Type 1} → statement M
-word-byte-spec = tie.close (tie.spec push-word-requires returns)
+word-byte-spec = tie.close (tie.spec (λ c κs. search needs) (λ c. ap (withWord (c .before .before .args .self)) (c .push-word .ensures)))

@@ -7,69 +7,24 @@ use Rattle.keytext.specs.Finish.Laws.{weighed-light, weighed-heavy}
 use Rattle.keytext.proofs.listing.weighed.Statement.{statement}
 use Rattle.keytext.proofs.listing.weighed.Tie as tie
 
-vector-requires : tie.Need-vector-requires
-vector-requires c κs = search needs
-
-within-weight-requires : tie.Need-within-weight-requires
-within-weight-requires c κs = search needs
-
-refused-requires : tie.Need-refused-requires
-refused-requires c κs = search needs
-
-same-length : tie.Need-same-length
-same-length c = search needs
-
-same-length-2 : tie.Need-same-length-2
-same-length-2 c = search needs
-
 returns : tie.Need-returns
-returns c =
-    let then1 : tie.Then1 = search in
-    let after-within-weight : tie.After-within-weight = search in
-    let after-vector : tie.After-vector = search in
-    let start : tie.Start = search in
-    let v = after-vector .vector .ensures in
-    let a = start .args in
-    let e = sym (after-within-weight .within-weight .ensures) ∙ not-true _ (then1 .if1 .taken) in
+returns c = let then1 : tie.Then1 = search in let wi : tie.After-within-weight = search in let ve : tie.After-vector = search in
+    let start : tie.Start = search in let v = ve .vector .ensures in let a = start .args in
+    let e = sym (wi .within-weight .ensures) ∙ not-true _ (then1 .if1 .taken) in
     rw (weighed-heavy (a .w) _ (rw v at e)) (c .before .before .refused .ensures)
 
 lines-of-requires : tie.Need-lines-of-requires
 lines-of-requires c κs =
-    let after-vector : tie.After-vector = search in
-    let start : tie.Start = search in
-    let p = start .pre in
-    let k = after-vector .vector .kept .1 .1 .1 .0 in
+    let v : tie.After-vector = search in let start : tie.Start = search in let p = start .pre in let k = v .vector .kept .1 .1 .1 .0 in
     let e = sym (c .before .before .before .within-weight .ensures) ∙ not-false _ (c .before .before .if1 .left) in
     (record { least = p .1 .0; most = omega (arith, k, p .1 .1); light = leb-true _ _ e; short = omega (arith, k, p .1 .2) }, p .0)
 
-same-length-3 : tie.Need-same-length-3
-same-length-3 c = search needs
-
-same-length-4 : tie.Need-same-length-4
-same-length-4 c = search needs
-
 returns-2 : tie.Need-returns-2
-returns-2 c =
-    let else1 : tie.Else1 = search in
-    let after-within-weight : tie.After-within-weight = search in
-    let after-vector : tie.After-vector = search in
-    let start : tie.Start = search in
-    let v = after-vector .vector .ensures in
-    let a = start .args in
-    let e = sym (after-within-weight .within-weight .ensures) ∙ not-false _ (else1 .if1 .left) in
+returns-2 c = let else1 : tie.Else1 = search in let wi : tie.After-within-weight = search in let ve : tie.After-vector = search in
+    let start : tie.Start = search in let v = ve .vector .ensures in let a = start .args in
+    let e = sym (wi .within-weight .ensures) ∙ not-false _ (else1 .if1 .left) in
     rw (weighed-light (a .w) _ (rw v at e)) (rw v at (c .before .before .lines-of .ensures))
 
 pub weighed-spec : {M : Type 1} → statement M
-weighed-spec =
-    tie.close
-    (tie.spec
-    vector-requires
-    within-weight-requires
-    refused-requires
-    same-length
-    same-length-2
-    returns
-    lines-of-requires
-    same-length-3
-    same-length-4
-    returns-2)
+weighed-spec = tie.close (tie.spec (λ c κs. search needs) (λ c κs. search needs) (λ c κs. search needs) (λ c. search needs) (λ c. search needs)
+    returns lines-of-requires (λ c. search needs) (λ c. search needs) returns-2)

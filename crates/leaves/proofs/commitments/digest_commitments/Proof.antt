@@ -25,64 +25,35 @@ abbrev μ-loop : tie.MeasureT-loop
 μ-loop p prefix states hidden given aux out start all₀ n i₀ all i = n - i
 
 loop-holds : tie.Need-loop-holds Inv-loop μ-loop
-loop-holds c =
-    let start : tie.Start Inv-loop μ-loop = search in
+loop-holds c = let start : tie.Start Inv-loop μ-loop = search in
     let args = start .args in (
       omega arith,
-      c .before .begin2 .ensures
-          ∙ committed-none (args .prefix .now)
-          (commitmentsOf (args .p) (args .prefix .now) (args .states .now) (args .hidden) (args .given .now) (args .aux .now)),
+      c .before .begin2 .ensures ∙ committed-none (args .prefix .now)
+          (commitmentsOf (args .p) (args .prefix .now) (args .states .now) (args .hidden-leaf) (args .given .now) (args .aux .now)),
     )
 
 absorb-commitment-requires : tie.Need-absorb-commitment-requires Inv-loop μ-loop
-absorb-commitment-requires c κs =
-    let start : tie.Start Inv-loop μ-loop = search in
-    let count = c .before .before .leaf-count .ensures in
+absorb-commitment-requires c κs = let start : tie.Start Inv-loop μ-loop = search in let count = c .before .before .leaf-count .ensures in
     record {
       of = record { within = start .pre .within; number = omega (arith, leaves-most (start .args .p) (start .pre .within)) };
       state = omega (arith, start .pre .states);
     }
 
 loop-again : tie.Need-loop-again Inv-loop μ-loop
-loop-again c =
-    let first : tie.After-begin Inv-loop μ-loop = search in
-    let start : tie.Start Inv-loop μ-loop = search in
-    let head = c .before .before in
-    let counted = head .before in
-    let args = start .args in
-    let i = head .loop .i in
-    let f = commitmentsOf (args .p) (args .prefix .now) (args .states .now) (args .hidden) (args .given .now) (args .aux .now) in
-    let is = commitments-begun (args .p) (args .prefix .now) (args .states .now) (args .hidden) (args .given .now) (args .aux .now) i (first .begin .result) (first .begin .ensures) in
+loop-again c = let first : tie.After-begin Inv-loop μ-loop = search in let start : tie.Start Inv-loop μ-loop = search in
+    let head = c .before .before in let counted = head .before in let args = start .args in let i = head .loop .i in
+    let f = commitmentsOf (args .p) (args .prefix .now) (args .states .now) (args .hidden-leaf) (args .given .now) (args .aux .now) in
+    let is = commitments-begun (args .p) (args .prefix .now) (args .states .now) (args .hidden-leaf) (args .given .now) (args .aux .now) i (first .begin .result) (first .begin .ensures) in
     (omega arith, c .absorb-commitment .ensures ∙ ap₂ absorbed (head .loop .inv .1) is ∙ committed-more (args .prefix .now) f i)
 
 returns : tie.Need-returns Inv-loop μ-loop
-returns c =
-    let filled = c .before .before .digest in
-    let head = c .before .before .before .before .before in
-    let counted = head .before in
+returns c = let filled = c .before .before .digest in let head = c .before .before .before .before .before in let counted = head .before in
     let args = counted .before .before .before .before .before .before .before .before .args in
-    let f = commitmentsOf (args .p) (args .prefix .now) (args .states .now) (args .hidden) (args .given .now) (args .aux .now) in
-    let size = length (args .out .now) in
-    let last : head .loop .i ≡ counted .leaf-count .result = omega arith in
-    filled .ensures
-    ∙ ap (λ (s : Sponge). hashed s [] size) (head .loop .inv .1)
-    ∙ committed-digest (args .prefix .now) f (head .loop .i) size
+    let f = commitmentsOf (args .p) (args .prefix .now) (args .states .now) (args .hidden-leaf) (args .given .now) (args .aux .now) in
+    let size = length (args .out .now) in let last : head .loop .i ≡ counted .leaf-count .result = omega arith in
+    filled .ensures ∙ ap (λ (s : Sponge). hashed s [] size) (head .loop .inv .1) ∙ committed-digest (args .prefix .now) f (head .loop .i) size
     ∙ ap (λ (n : ℕ). SHAKE256 (string5 (args .prefix .now) f n) size) (last ∙ counted .leaf-count .ensures)
 
 pub digest-commitments-spec : {M : Type 1} → statement M
-digest-commitments-spec =
-    tie.close
-    (tie.spec
-    Inv-loop
-    μ-loop
-    (λ c κs. search needs)
-    (λ c κs. search needs)
-    (λ c κs. search needs)
-    loop-holds
-    absorb-commitment-requires
-    (λ c. omega arith)
-    (λ c. omega arith)
-    loop-again
-    (λ c κs. search needs)
-    (λ c. search needs)
-    returns)
+digest-commitments-spec = tie.close (tie.spec Inv-loop μ-loop (λ c κs. search needs) (λ c κs. search needs) (λ c κs. search needs) loop-holds
+    absorb-commitment-requires (λ c. omega arith) (λ c. omega arith) loop-again (λ c κs. search needs) (λ c. search needs) returns)

@@ -24,12 +24,8 @@ loop-holds : tie.Need-loop-holds Inv-loop μ-loop
 loop-holds c = let s : tie.Start Inv-loop μ-loop = search in (omega arith, (refl, written-none (s .args .prefix .now) (s .args .states .now) (s .args .n)))
 
 loop-again : tie.Need-loop-again Inv-loop μ-loop
-loop-again c =
-    let made : tie.After-put-state Inv-loop μ-loop = search in
-    let head : tie.At-loop Inv-loop μ-loop = search in
-    let begun : tie.After-begin Inv-loop μ-loop = search in
-    let s : tie.Start Inv-loop μ-loop = search in
-    let prefix = s .args .prefix .now in
+loop-again c = let made : tie.After-put-state Inv-loop μ-loop = search in let head : tie.At-loop Inv-loop μ-loop = search in
+    let begun : tie.After-begin Inv-loop μ-loop = search in let s : tie.Start Inv-loop μ-loop = search in let prefix = s .args .prefix .now in
     let n = s .args .n in
     let i = head .loop .i in (
       omega arith,
@@ -43,15 +39,10 @@ loop-again c =
     )
 
 returns : tie.Need-returns Inv-loop μ-loop
-returns c =
-    let head : tie.At-loop Inv-loop μ-loop = search in
-    let s : tie.Start Inv-loop μ-loop = search in
-    let last : head .loop .i ≡ s .args .n = omega arith in
-    let states = s .args .states .now in
+returns c = let head : tie.At-loop Inv-loop μ-loop = search in let s : tie.Start Inv-loop μ-loop = search in
+    let last : head .loop .i ≡ s .args .n = omega arith in let states = s .args .states .now in
     head .loop .inv .1 .1 ∙ ap (written (s .args .prefix .now) states (s .args .n)) last ∙ written-all (s .args .prefix .now) states (s .args .n) (s .pre .room)
 
 pub leaf-states-spec : {M : Type 1} → statement M
-leaf-states-spec =
-    tie.close
-    (tie.spec Inv-loop μ-loop (λ c κs. search needs) loop-holds (λ c κs. search needs) (λ c. search needs) (λ c. search needs) loop-again
-    (λ c. search needs) returns)
+leaf-states-spec = tie.close (tie.spec Inv-loop μ-loop (λ c κs. search needs) loop-holds (λ c κs. search needs) (λ c. search needs)
+    (λ c. search needs) loop-again (λ c. search needs) returns)

@@ -14,23 +14,15 @@ use Rattle.messages.proofs.auxiliary.products.Statement.{statement}
 use Rattle.messages.proofs.auxiliary.products.Tie as tie
 
 abbrev Inv-loop : tie.InvT-loop
-Inv-loop p drawn out₀ log pow b l₀ out l = (l ≤ p .t) × (out ≡ putAt out₀ 0 (encode (productsOf p drawn) l)) × (length out ≡ length out₀)
+Inv-loop p drawn out₀ tables b l₀ out l = (l ≤ p .t) × (out ≡ putAt out₀ 0 (encode (productsOf p drawn) l)) × (length out ≡ length out₀)
 
 abbrev μ-loop : tie.MeasureT-loop
-μ-loop p drawn out₀ log pow b l₀ out l = p .t - l
-
-loop-holds : tie.Need-loop-holds Inv-loop μ-loop
-loop-holds c = (omega arith, write-none _ _, refl)
+μ-loop p drawn out₀ tables b l₀ out l = p .t - l
 
 loop-again : tie.Need-loop-again Inv-loop μ-loop
-loop-again c =
-    let after-product : tie.After-product Inv-loop μ-loop = search in
-    let after-point-at2 : tie.After-point-at2 Inv-loop μ-loop = search in
-    let after-point-at : tie.After-point-at Inv-loop μ-loop = search in
-    let at-loop : tie.At-loop Inv-loop μ-loop = search in
-    let b : tie.After-factor-length Inv-loop μ-loop = search in
-    let s : tie.Start Inv-loop μ-loop = search in
-    let h = at-loop .loop in
+loop-again c = let after-product : tie.After-product Inv-loop μ-loop = search in let after-point-at2 : tie.After-point-at2 Inv-loop μ-loop = search in
+    let after-point-at : tie.After-point-at Inv-loop μ-loop = search in let at-loop : tie.At-loop Inv-loop μ-loop = search in
+    let b : tie.After-factor-length Inv-loop μ-loop = search in let s : tie.Start Inv-loop μ-loop = search in let h = at-loop .loop in
     let n : 4 * h .l + 4 ≤ length (s .args .out .now) = omega arith in (
       omega arith,
       c .before .before .put-point .ensures
@@ -40,27 +32,10 @@ loop-again c =
     )
 
 returns : tie.Need-returns Inv-loop μ-loop
-returns c =
-    let s : tie.Start Inv-loop μ-loop = search in
-    let h = c .before .before .loop in
-    let e : h .l ≡ s .args .p .t = omega arith in
+returns c = let s : tie.Start Inv-loop μ-loop = search in let h = c .before .before .loop in let e : h .l ≡ s .args .p .t = omega arith in
     write-end (productsOf (s .args .p) (s .args .drawn .now)) (s .args .out .now) _ (h .l) (s .args .p .t) e (sym (s .pre .0 .sized-out)) (h .inv .1)
 
--- where the code has b
-add-point-at : tie.Need-add-point-at Inv-loop μ-loop
-add-point-at c =
-    let b : tie.After-factor-length Inv-loop μ-loop = search in
-    let s : tie.Start Inv-loop μ-loop = search in
-    omega (arith, b .factor-length .ensures, s .pre .0 .within .t-most)
-
-point-at-requires-2 : tie.Need-point-at-requires-2 Inv-loop μ-loop
-point-at-requires-2 c κs =
-    let b : tie.After-factor-length Inv-loop μ-loop = search in
-    let s : tie.Start Inv-loop μ-loop = search in
-    omega (arith, b .factor-length .ensures, s .pre .0 .sized-drawn)
-
 pub products-spec : {M : Type 1} → statement M
-products-spec = tie.close (tie.spec Inv-loop μ-loop (λ c κs. search needs) loop-holds (λ c. omega arith) (λ c κs. omega arith)
-    (λ c. omega arith) add-point-at point-at-requires-2 (λ c κs. search needs)
-    (λ c. omega arith) (λ c κs. omega arith) (λ c. omega arith) (λ c. omega arith) loop-again (λ c. search needs)
-    returns)
+products-spec = tie.close (tie.spec Inv-loop μ-loop (λ c κs. search needs) (λ c. (omega arith, write-none _ _, refl)) (λ c. omega arith)
+    (λ c κs. omega arith) (λ c. omega arith) (λ c. search needs) (λ c κs. search needs) (λ c κs. search needs) (λ c. omega arith)
+    (λ c κs. omega arith) (λ c. omega arith) (λ c. omega arith) loop-again (λ c. search needs) returns)

@@ -7,23 +7,15 @@ use Rattle.messages.proofs.opening.put_aux.Statement.{statement}
 use Rattle.messages.proofs.opening.put_aux.Tie as tie
 
 returns : tie.Need-returns
-returns c =
-    let s : tie.Start = search in
-    let a = s .args in
+returns c = let s : tie.Start = search in let a = s .args in
     aux-none (isLast (a .p) (a .leaf)) (a .at) (a .aux .now) (a .out .now) (s .pre .1) (sym (c .before .is-last .ensures) ∙ c .if1 .taken)
 
 put-at-requires : tie.Need-put-at-requires
-put-at-requires c κs =
-    let s : tie.Start = search in
-    let a = s .args in
+put-at-requires c κs = let s : tie.Start = search in let a = s .args in
     aux-fits (isLast (a .p) (a .leaf)) (a .at) (a .aux .now) (a .out .now) (s .pre .1) (sym (c .before .before .is-last .ensures) ∙ c .before .if1 .left)
 
 returns-2 : tie.Need-returns-2
-returns-2 c =
-    let else1 : tie.Else1 = search in
-    let after-is-last : tie.After-is-last = search in
-    let s : tie.Start = search in
-    let a = s .args in
+returns-2 c = let else1 : tie.Else1 = search in let after-is-last : tie.After-is-last = search in let s : tie.Start = search in let a = s .args in
     aux-put (isLast (a .p) (a .leaf)) (a .at) (a .aux .now) (a .out .now) (s .pre .1) _ (sym (after-is-last .is-last .ensures) ∙ else1 .if1 .left) (c .before .before .put-at .ensures)
 
 pub put-aux-spec : {M : Type 1} → statement M

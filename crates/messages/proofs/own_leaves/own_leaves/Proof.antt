@@ -1,69 +1,71 @@
--- The sum is made at the front of the area, and then all of the area is zeroed.
-use mathlib.Core.Path.{_≡_, sym, ap, _∙_}
-use mathlib.Core.List.{List, _++_}
+-- The sum of all shares is made at the front of the work area and aux from it; then the named length is zeroed.
+use mathlib.Core.Path.{sym, ap, ap₂, _∙_}
+use mathlib.Core.List.{List}
 use Prim.Native.Nat.{ℕ, _≤_}
-use lib.ListN.{length, drop}
 use native.Mathlib.Omega.{arith}
+use lib.ListN.{length, take}
 use borrow.Author.Needs.{needs}
-use Rattle.points.specs.Written.{front-length, front-kept}
-use Rattle.layout.specs.Layout.{workLength}
-use Rattle.exchange.specs.Run.{runOf}
+use Rattle.lists.specs.Part.Laws.{tail-part}
+use Rattle.lists.specs.Zeroed.{zeroed}
+use Rattle.points.specs.Written.{front-length}
 use Rattle.messages.specs.Auxiliary.{auxFor}
+use Rattle.messages.specs.Fronts.{x-fits, x-length, x-light, front-zeroed, Front, front-back}
 use Rattle.messages.specs.Own.{sumOf}
-use Rattle.messages.specs.Own.Laws.{share-fits, aux-made, zeroed-whole}
+use Rattle.messages.specs.Own.Laws.{share-fits, aux-made}
+use Rattle.messages.specs.Run.{runIn, root-length}
 use Rattle.messages.proofs.own_leaves.own_leaves.Statement.{statement}
 use Rattle.messages.proofs.own_leaves.own_leaves.Tie as tie
 
-slice-relend-prefix-aux-by : tie.Need-slice-relend-prefix-aux-by
-slice-relend-prefix-aux-by c =
-    let s : tie.Start = search in
-    omega (arith, c .before .share-length .ensures, s .pre .0 .area-is, share-fits (s .args .p) (s .pre .0 .within))
+abbrev start : tie.After-work-length → tie.Start
+start n = search
 
-slice-aggregate-aux-by : tie.Need-slice-aggregate-aux-by
-slice-aggregate-aux-by c =
-    let s : tie.Start = search in
-    front-length _ _ (omega (arith, c .before .before .share-length .ensures, s .pre .0 .area-is, share-fits (s .args .p) (s .pre .0 .within)))
+abbrev sized : tie.After-share-sum → tie.After-work-length
+sized c = search
 
-aux-by-requires : tie.Need-aux-by-requires
-aux-by-requires c κs =
-    let after-own-states : tie.After-own-states = search in
-    let s : tie.Start = search in
-    let h = s .pre .0 in
-    let e = c .before .before .before .share-length .ensures in (
-      record {
-        within = h .within;
-        light = h .light;
-        x-is = h .x-is;
-        states-are = after-own-states .own-states .kept .1 .1 .1 .0 ∙ s .pre .1;
-        sum-is = sym (front-length _ _ (omega (arith, e, h .area-is, share-fits (s .args .p) (h .within)))) ∙ e;
-        aux-is = s .pre .2;
-      },
-      s .pre .3,
-      s .pre .4,
-    )
+-- a share fits into the named length, and that into the work area
+short : (n : tie.After-work-length) → n .before .share-length .result ≤ n .work-length .result
+short n = let s = start n in omega (arith, n .before .share-length .ensures, n .work-length .ensures, share-fits (s .args .p) (s .pre .0 .within))
+
+fits : (n : tie.After-work-length) → n .before .share-length .result ≤ length (start n .args .work .now)
+fits n = omega (arith, short n, n .work-length .ensures, start n .pre .0 .work-fits)
+
+back : (c : tie.After-share-sum) → Front (sized c .before .share-length .result) (c .share-sum .last .1 .1 .1 .0) (start (sized c) .args .work .now)
+back c = front-back _ _ _ (c .share-sum .kept .1 .1 .1 .0) (fits (sized c))
+
+share-sum-requires : tie.Need-share-sum-requires
+share-sum-requires c κs = let made : tie.After-own-states = search in let n : tie.After-work-length = search in let s = start n in record {
+  within = s .pre .0 .within;
+  states = made .own-states .kept .1 .1 .0 ∙ s .pre .1;
+  room = sym (front-length _ _ (fits n)) ∙ n .before .share-length .ensures;
+}
+
+aux-requires : tie.Need-aux-requires
+aux-requires c κs = let sum : tie.After-share-sum = search in let n = sized sum in let s = start n in let h = s .pre .0 in record {
+  within = h .within;
+  light = x-light _ _ _ _ h;
+  sized-x = x-length _ _ _ _ h;
+  sized-drawn = sym (back sum .lent) ∙ n .before .share-length .ensures;
+  sized-out = s .pre .2;
+}
 
 returns : tie.Need-returns
-returns c =
-    let sum : tie.After-aux-by = search in
-    let after-share-length : tie.After-share-length = search in
-    let after-own-states : tie.After-own-states = search in
-    let s : tie.Start = search in
-    let h = s .pre .0 in
-    let p = s .args .p in
-    let made = after-own-states .own-states .ensures in
-    let e = after-share-length .share-length .ensures in
-    let size : ℕ = after-share-length .share-length .result in
-    let fits : size ≤ length (s .args .area .now) = omega (arith, e, h .area-is, share-fits p (h .within)) in
-    let left : List ℕ = sum .aux-by .last .1 .1 .1 .1 .0 ++ drop size (s .args .area .now) in
-    let kept : length left ≡ workLength p
-    = front-kept size (sum .aux-by .last .1 .1 .1 .1 .0) (s .args .area .now) (sum .aux-by .kept .1 .1 .1 .1 .0 ∙ sym (front-length _ _ fits)) fits ∙ h .area-is in (
-      made,
-      sum .aux-by .ensures ∙ ap (λ (st : List ℕ). auxFor p (s .args .x .now) (sumOf p (s .args .prefix .now) st)) made
-          ∙ aux-made p (s .args .x .now) (runOf (s .args .prefix .now) (s .args .root .now)) (h .root-is),
-      zeroed-whole _ left (workLength p) (c .before .before .zero-front .ensures) kept,
+returns c = let zeros : tie.After-zero-front = search in let made-aux : tie.After-aux = search in let sum : tie.After-share-sum = search in
+    let own : tie.After-own-states = search in let n = sized sum in let s = start n in let a = s .args in let h = s .pre .0 in
+    let x : List ℕ = take (a .p .m) (a .x .now) in (
+      own .own-states .ensures,
+      made-aux .aux .ensures ∙ ap (auxFor (a .p) x) (back sum .again ∙ sum .share-sum .ensures)
+          ∙ ap₂ (λ (q st : List ℕ). auxFor (a .p) x (sumOf (a .p) q st)) (tail-part (a .run .now) 16) (own .own-states .ensures)
+          ∙ aux-made (a .p) x (runIn (a .run .now)) (root-length (a .run .now) (h .run-fits)),
+      zeros .zero-front .ensures
+          ∙ front-zeroed _ _ (sum .share-sum .last .1 .1 .1 .0) (a .work .now) (back sum .size) (short n)
+          ∙ ap (λ (k : ℕ). zeroed k (a .work .now)) (n .work-length .ensures),
     )
 
 pub own-leaves-spec : {M : Type 1} → statement M
-own-leaves-spec = tie.close (tie.spec (λ c κs. search needs) (λ c κs. search needs) slice-relend-prefix-aux-by
-    slice-aggregate-aux-by aux-by-requires (λ c κs. search needs) (λ c. search needs) (λ c. search needs)
-    (λ c. search needs) returns)
+own-leaves-spec = tie.close (tie.spec (λ c κs. search needs) (λ c κs. search needs) (λ c κs. search needs) (λ c. search needs) (λ c. search needs)
+    (λ c. search needs) (λ c. let n : tie.After-work-length = search in fits n)
+    (λ c. let n : tie.After-work-length = search in front-length _ _ (fits n)) share-sum-requires
+    (λ c. let sum : tie.After-share-sum = search in front-length _ _ (x-fits _ _ _ _ (start (sized sum) .pre .0)))
+    (λ c. let sum : tie.After-share-sum = search in back sum .there) (λ c. let sum : tie.After-share-sum = search in back sum .lent) aux-requires
+    (λ c κs. let sum : tie.After-share-sum = search in omega (arith, back sum .rest, sized sum .work-length .ensures, start (sized sum) .pre .0 .work-fits))
+    (λ c. search needs) (λ c. search needs) (λ c. search needs) returns)

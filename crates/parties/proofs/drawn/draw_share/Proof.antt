@@ -9,11 +9,11 @@ use lib.Seq.{length-take-le, take-at}
 use Rattle.lists.specs.Part.{part}
 use Rattle.lists.specs.Part.Laws.{length-part}
 use Rattle.shake256.specs.Fips.{SHAKE256}
+use Rattle.layout.specs.Layout.Bounds.{leaves-most}
 use Rattle.exchange.specs.Strings.{string3}
 use Rattle.leaves.specs.After.Laws.{draw-begun}
 use Rattle.leaves.specs.States.{stateAt}
-use Rattle.parties.specs.Drawn.{drawnLength, drawnShare}
-use Rattle.parties.specs.Drawn.Laws.{leaves-small, drawnLength-le, drawnShare-is}
+use Rattle.parties.specs.Drawn.Laws.{drawnLength-le, drawnShare-is}
 use Rattle.parties.proofs.drawn.draw_share.Statement.{statement}
 use Rattle.parties.proofs.drawn.draw_share.Tie as tie
 
@@ -24,30 +24,20 @@ lent st i = let e : 32 * i + 32 - 32 * i ≡ 32 = omega arith in ap (λ (n : ℕ
 
 -- the front is there
 room : (c : tie.After-drawn-length) → c .drawn-length .result ≤ length (c .before .before .before .args .out .now)
-room c =
-    let start = c .before .before .before in
+room c = let start = c .before .before .before in
     omega (arith, c .drawn-length .ensures, drawnLength-le (start .args .p) (start .args .leaf), start .pre .room)
 
 front : (c : tie.After-drawn-length) → length (take (c .drawn-length .result) (c .before .before .before .args .out .now)) ≡ c .drawn-length .result
 front c = length-take-le (c .drawn-length .result) (c .before .before .before .args .out .now) (room c)
 
 share-bytes-requires : tie.Need-share-bytes-requires
-share-bytes-requires c κs =
-    let start = c .before .before .before .before .before in
-    let st = start .args .states .now in
-    let i = start .args .leaf in
-    record {
-      number = omega (arith, leaves-small (start .args .p) (start .pre .within), start .pre .leaf);
-      seed = omega (arith, ap length (lent st i), length-part st (32 * i) 32 (omega (arith, start .pre .states, start .pre .leaf)));
-    }
+share-bytes-requires c κs = let start : tie.Start = search in let st = start .args .states .now in let i = start .args .leaf in
+    let number = leaves-most (start .args .p) (start .pre .within) in let seed = ap length (lent st i) in
+    let seed′ = length-part st (32 * i) 32 (omega (arith, start .pre .states, start .pre .leaf)) in search needs
 
 returns : tie.Need-returns
-returns c =
-    let filled = c .before .before .share-bytes in
-    let drawn = c .before .before .before .before .before in
-    let args = drawn .before .before .before .args in
-    let size = drawn .drawn-length .result in
-    let ys = filled .last .1 .1 .1 .0 in (
+returns c = let drawn : tie.After-drawn-length = search in let start : tie.Start = search in let filled = c .before .before .share-bytes in
+    let args = start .args in let size = drawn .drawn-length .result in let ys = filled .last .1 .1 .1 .0 in (
       drawn .drawn-length .ensures,
       λ prefix b.
           take-at ys (drop size (args .out .now)) size (filled .kept .1 .1 .1 .0 ∙ front drawn)
@@ -57,17 +47,5 @@ returns c =
     )
 
 pub draw-share-spec : {M : Type 1} → statement M
-draw-share-spec =
-    tie.close
-    (tie.spec
-    (λ c κs. search needs)
-    (λ c. search needs)
-    (λ c. search needs)
-    (λ c. search needs)
-    (λ c. search needs)
-    (λ c. search needs)
-    (λ c. room (c .before))
-    (λ c. sym (front (c .before .before)))
-    share-bytes-requires
-    (λ c. search needs)
-    returns)
+draw-share-spec = tie.close (tie.spec (λ c κs. search needs) (λ c. search needs) (λ c. search needs) (λ c. search needs) (λ c. search needs)
+    (λ c. search needs) (λ c. room (c .before)) (λ c. sym (front (c .before .before))) share-bytes-requires (λ c. search needs) returns)

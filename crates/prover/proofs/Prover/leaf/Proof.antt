@@ -19,34 +19,23 @@ answers : (c : tie.After-leaf-checks) → (let a = start c .args in c .leaf-chec
     ≡ leafChecks SHAKE256 (held (a .self)) (a .leaf) (keyOf (a .matrix .now) (a .y .now)) (a .work .now) (a .out .now))
 answers c = let s = start c .args .self in c .leaf-checks .ensures (s .salt) (s .root) (s .message2)
 
-leaf-checks-requires : tie.Need-leaf-checks-requires
-leaf-checks-requires c κs = let s : tie.Start = search in x-length (s .args .self) (s .good .0)
-
 returns : tie.Need-returns
-returns c =
-    let called : tie.After-leaf-checks = search in
-    let a = start called .args in
+returns c = let called : tie.After-leaf-checks = search in let a = start called .args in
     leaf-refused SHAKE256 (held (a .self)) (a .work .now) (a .out .now) (keyOf (a .matrix .now) (a .y .now)) _ (a .leaf) (answers called)
     (failed (c .before .is-done .ensures) (c .if1 .taken))
 
 opened-requires : tie.Need-opened-requires
-opened-requires c κs =
-    let e : tie.Else1 = search in
-    let called : tie.After-leaf-checks = search in
-    let a = start called .args in
+opened-requires c κs = let e : tie.Else1 = search in let called : tie.After-leaf-checks = search in let a = start called .args in
     leaf-facts SHAKE256 (held (a .self)) (a .work .now) (a .out .now) (keyOf (a .matrix .now) (a .y .now)) (a .leaf) _ (answers called)
     (passed (e .before .is-done .ensures) (e .if1 .left))
 
 returns-2 : tie.Need-returns-2
-returns-2 c =
-    let made : tie.After-opened = search in
-    let e : tie.Else1 = search in
-    let called : tie.After-leaf-checks = search in
+returns-2 c = let made : tie.After-opened = search in let e : tie.Else1 = search in let called : tie.After-leaf-checks = search in
     let a = start called .args in
     made .opened .ensures
     ∙ leaf-done SHAKE256 (held (a .self)) (a .work .now) (a .out .now) (keyOf (a .matrix .now) (a .y .now)) _ (a .leaf) (answers called)
     (passed (e .before .is-done .ensures) (e .if1 .left))
 
 pub leaf-spec : {M : Type 1} → statement M
-leaf-spec = tie.close (tie.spec (λ c. search needs) leaf-checks-requires (λ c κs. search needs) (λ c. search needs)
-    (λ c. search needs) returns opened-requires (λ c. search needs) (λ c. search needs) returns-2)
+leaf-spec = tie.close (tie.spec (λ c. search needs) (λ c κs. let s : tie.Start = search in x-length (s .args .self) (s .good .0))
+    (λ c κs. search needs) (λ c. search needs) (λ c. search needs) returns opened-requires (λ c. search needs) (λ c. search needs) returns-2)

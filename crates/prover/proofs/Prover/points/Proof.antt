@@ -19,35 +19,23 @@ answers : (c : tie.After-points-checks) → (let a = start c .args in c .points-
     ≡ pointsChecks SHAKE256 (held (a .self)) (a .message2 .now) (keyOf (a .matrix .now) (a .y .now)) (a .work .now) (a .out .now))
 answers c = let s = start c .args .self in c .points-checks .ensures (s .salt) (s .root) (s .message2)
 
-points-checks-requires : tie.Need-points-checks-requires
-points-checks-requires c κs = let s : tie.Start = search in x-length (s .args .self) (s .good .0)
-
 returns : tie.Need-returns
-returns c =
-    let called : tie.After-points-checks = search in
-    let a = start called .args in
+returns c = let called : tie.After-points-checks = search in let a = start called .args in
     points-refused SHAKE256 (held (a .self)) (a .work .now) (a .out .now) (keyOf (a .matrix .now) (a .y .now)) _ (a .message2 .now) (answers called)
     (failed (c .before .is-done .ensures) (c .if1 .taken))
 
 answered-requires : tie.Need-answered-requires
-answered-requires c κs =
-    let e : tie.Else1 = search in
-    let called : tie.After-points-checks = search in
-    let a = start called .args in
+answered-requires c κs = let e : tie.Else1 = search in let called : tie.After-points-checks = search in let a = start called .args in
     points-facts SHAKE256 (held (a .self)) (a .work .now) (a .out .now) (keyOf (a .matrix .now) (a .y .now)) (a .message2 .now) _ (answers called)
     (passed (e .before .is-done .ensures) (e .if1 .left))
 
 returns-2 : tie.Need-returns-2
-returns-2 c =
-    let made : tie.After-answered = search in
-    let e : tie.Else1 = search in
-    let called : tie.After-points-checks = search in
+returns-2 c = let made : tie.After-answered = search in let e : tie.Else1 = search in let called : tie.After-points-checks = search in
     let a = start called .args in
     made .answered .ensures
     ∙ points-done SHAKE256 (held (a .self)) (a .work .now) (a .out .now) (keyOf (a .matrix .now) (a .y .now)) _ (a .message2 .now) (answers called)
     (passed (e .before .is-done .ensures) (e .if1 .left))
 
 pub points-spec : {M : Type 1} → statement M
-points-spec = tie.close (tie.spec (λ c. search needs) points-checks-requires (λ c κs. search needs)
-    (λ c. search needs) (λ c. search needs) returns answered-requires (λ c. search needs) (λ c. search needs)
-    returns-2)
+points-spec = tie.close (tie.spec (λ c. search needs) (λ c κs. let s : tie.Start = search in x-length (s .args .self) (s .good .0))
+    (λ c κs. search needs) (λ c. search needs) (λ c. search needs) returns answered-requires (λ c. search needs) (λ c. search needs) returns-2)

@@ -12,5 +12,4 @@ unfolding lent
 returns c = c .both .ensures ∙ ap₂ _&&_ (ap (eqb (c .before .before .before .args .out)) (c .before .before .message5-length .ensures)) (c .before .lent .ensures)
 
 pub leaf-lengths-spec : {M : Type 1} → statement M
-leaf-lengths-spec =
-    tie.close (tie.spec (λ c κs. search needs) (λ c κs. search needs) (λ c κs. search needs) returns)
+leaf-lengths-spec = tie.close (tie.spec (λ c κs. search needs) (λ c κs. search needs) (λ c κs. search needs) returns)

@@ -26,12 +26,10 @@ returns : tie.Need-returns
 unfolding intact
 returns c = λ f salt root m2. rw (failed (c .before .within-limits .ensures) (c .if1 .taken))
 
-slice-aggregate-within-weight : tie.Need-slice-aggregate-within-weight
-slice-aggregate-within-weight c = let e : tie.Else1 = search in sym (length-take-le _ _ (x-fits e))
-
 returns-2 : tie.Need-returns-2
 unfolding intact heldX
 returns-2 c = let e : tie.Else1 = search in λ f salt root m2. rw (limits e) (c .within-weight .ensures)
 
 pub intact-spec : {M : Type 1} → statement M
-intact-spec = tie.close (tie.spec (λ c κs. search needs) returns slice-aggregate-within-weight (λ c κs. search needs) returns-2)
+intact-spec = tie.close (tie.spec (λ c κs. search needs) returns (λ c. let e : tie.Else1 = search in sym (length-take-le _ _ (x-fits e)))
+    (λ c κs. search needs) returns-2)

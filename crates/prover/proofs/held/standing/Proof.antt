@@ -11,17 +11,13 @@ returns c = λ salt root m2. rw (sym (c .before .is-fresh .ensures) ∙ c .if1 .
 
 returns-2 : tie.Need-returns-2
 unfolding standing
-returns-2 c =
-    let e = c .before .before in
-    let s : tie.Start = search in
+returns-2 c = let e = c .before .before in let s : tie.Start = search in
     λ salt root m2.
     rw (sym (e .before .is-fresh .ensures) ∙ e .if1 .left, sym (c .before .intact .ensures (s .args .phase) salt root m2) ∙ c .if2 .taken)
 
 returns-3 : tie.Need-returns-3
 unfolding standing
-returns-3 c =
-    let e = c .before .before in
-    let s : tie.Start = search in
+returns-3 c = let e = c .before .before in let s : tie.Start = search in
     λ salt root m2.
     rw (sym (e .before .is-fresh .ensures) ∙ e .if1 .left, sym (c .before .intact .ensures (s .args .phase) salt root m2) ∙ c .if2 .left)
 

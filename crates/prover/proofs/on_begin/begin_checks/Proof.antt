@@ -1,48 +1,58 @@
--- The arguments' checks first; past them 13 decides, and x holds the vector.
-use mathlib.Core.Path.{sym, _∙_}
+-- Each early return has the value of its test; where all tests pass, x holds the vector.
+use mathlib.Core.Path.{_≡_, refl, sym}
 use mathlib.Core.Bool.{true, false}
 use borrow.Author.Needs.{needs}
-use Rattle.shake256.specs.Fips.{SHAKE256}
 use Rattle.answers.specs.Checks.Laws.{Done≢Refused}
-use Rattle.exchange.specs.Values.{keyOf}
-use Rattle.prover.specs.Checks.{begin-late, begin-row}
-use Rattle.prover.specs.Held.{session}
+use Rattle.parameters.specs.Limits.{withinLimits}
+use Rattle.parameters.specs.Limits.Laws.{test-within}
+use Rattle.prover.specs.Arguments.Laws.{passed, failed, begin-row, begin-sized}
 use Rattle.prover.proofs.on_begin.begin_checks.Statement.{statement}
 use Rattle.prover.proofs.on_begin.begin_checks.Tie as tie
 
+abbrev start : tie.Else1 → tie.Start
+start c = search
+
+limits : (c : tie.Else1) → withinLimits (start c .args .p) ≡ true
+limits c = passed (c .before .within-limits .ensures) (c .if1 .left)
+
 returns : tie.Need-returns
-returns c =
-    let told = c .enum-told2 .given in
-    let first : tie.After-begin-arguments = search in
-    let s : tie.Start = search in
-    let a = s .args in (
-      λ p x m2. begin-late SHAKE256 (session (a .phase) p x (a .held-salt .now) (a .held-root .now) m2) (a .work .now) (a .out .now) (a .p) (a .x-a .now) (a .salt .now)
-          (a .root .now) (keyOf (a .matrix .now) (a .y .now)) _ _ (first .begin-arguments .ensures .0) (told .1),
-      λ e. absurd (Done≢Refused (sym e ∙ told .1)),
-    )
+returns c = (begin-row _ _ _ _ _ _ false _ _ _ (failed (c .before .within-limits .ensures) (c .if1 .taken)) refl refl refl, λ e. absurd (Done≢Refused (sym e)))
 
 returns-2 : tie.Need-returns-2
-returns-2 c =
-    let first : tie.After-begin-arguments = search in
-    let s : tie.Start = search in
-    let a = s .args in (
-      λ p x m2. begin-row SHAKE256 (session (a .phase) p x (a .held-salt .now) (a .held-root .now) m2) (a .work .now) (a .out .now) (a .p) (a .x-a .now) (a .salt .now)
-          (a .root .now) (keyOf (a .matrix .now) (a .y .now)) _ true
-          (first .begin-arguments .ensures .0) (c .before .before .enum-told .given .1) (sym (c .before .repeated .ensures p x m2) ∙ c .if1 .taken),
+returns-2 c = (
+  begin-row _ _ _ _ _ _ true false _ _ (limits (c .before .before)) (failed (c .before .begin-lengths .ensures) (c .if2 .taken)) refl refl,
+  λ e. absurd (Done≢Refused (sym e)),
+)
+
+weigh-requires : tie.Need-weigh-requires
+weigh-requires c κs = let e : tie.Else2 = search in let s = start (e .before .before) in let a = s .args in
+    let h = begin-sized (a .p) (a .x-a .now) (a .matrix .now) (a .y .now) (a .others) (passed (e .before .begin-lengths .ensures) (e .if2 .left)) in
+    record { within = test-within _ (limits (e .before .before)); xA-is = h .xA-is; matrix-is = h .lent .matrix-is; y-is = h .lent .y-is; zeros = s .pre }
+
+returns-3 : tie.Need-returns-3
+returns-3 c = let weighed : tie.After-weigh = search in
+    let e : tie.Else2 = search in (
+      begin-row _ _ _ _ _ _ true true false _ (limits (e .before .before)) (passed (e .before .begin-lengths .ensures) (e .if2 .left))
+          (failed (weighed .weigh .ensures .1) (c .if3 .taken)) refl,
       λ e. absurd (Done≢Refused (sym e)),
     )
 
-returns-3 : tie.Need-returns-3
-returns-3 c =
-    let done = c .before .before .enum-told .given .1 in
-    let first : tie.After-begin-arguments = search in
-    let s : tie.Start = search in
-    let a = s .args in (
-      λ p x m2. begin-row SHAKE256 (session (a .phase) p x (a .held-salt .now) (a .held-root .now) m2) (a .work .now) (a .out .now) (a .p) (a .x-a .now) (a .salt .now)
-          (a .root .now) (keyOf (a .matrix .now) (a .y .now)) _ false (first .begin-arguments .ensures .0) done (sym (c .before .repeated .ensures p x m2) ∙ c .if1 .left),
-      λ e. first .begin-arguments .ensures .1 done,
+returns-4 : tie.Need-returns-4
+returns-4 c = let light : tie.Else3 = search in let weighed : tie.After-weigh = search in
+    let e : tie.Else2 = search in (
+      begin-row _ _ _ _ _ _ true true true true (limits (e .before .before)) (passed (e .before .begin-lengths .ensures) (e .if2 .left))
+          (passed (weighed .weigh .ensures .1) (light .if3 .left)) (c .if4 .taken),
+      λ e. absurd (Done≢Refused (sym e)),
+    )
+
+returns-5 : tie.Need-returns-5
+returns-5 c = let light : tie.Else3 = search in let weighed : tie.After-weigh = search in
+    let e : tie.Else2 = search in (
+      begin-row _ _ _ _ _ _ true true true false (limits (e .before .before)) (passed (e .before .begin-lengths .ensures) (e .if2 .left))
+          (passed (weighed .weigh .ensures .1) (light .if3 .left)) (c .if4 .left),
+      λ d. weighed .weigh .ensures .0,
     )
 
 pub begin-checks-spec : {M : Type 1} → statement M
-begin-checks-spec = tie.close (tie.spec (λ c κs. search needs) (λ c. search needs) (λ c. search needs)
-    (λ c. search needs) returns (λ c κs. search needs) (λ c. search needs) returns-2 (λ c. search needs) returns-3)
+begin-checks-spec = tie.close (tie.spec (λ c κs. search needs) returns (λ c κs. test-within _ (limits c)) returns-2 weigh-requires
+    (λ c. search needs) returns-3 (λ c. search needs) returns-4 (λ c. search needs) returns-5)

@@ -8,13 +8,10 @@ use Rattle.prover.proofs.on_begin.repeated.Tie as tie
 
 returns : tie.Need-returns
 unfolding repeated
-returns c =
-    let together : tie.After-both = search in
-    let salt : tie.After-equal = search in
-    λ p x m2.
-    c .both2 .ensures
+returns c = let together : tie.After-both = search in let salt : tie.After-equal = search in
+    λ p x m2. c .both2 .ensures
     ∙ ap₂ _&&_ (ap not (c .before .is-fresh .ensures)) (together .both .ensures ∙ ap₂ _&&_ (salt .equal .ensures) (together .before .equal2 .ensures))
 
 pub repeated-spec : {M : Type 1} → statement M
-repeated-spec = tie.close (tie.spec (λ c κs. search needs) (λ c κs. search needs) (λ c κs. search needs)
-    (λ c κs. search needs) (λ c κs. search needs) returns)
+repeated-spec = tie.close (tie.spec (λ c κs. search needs) (λ c κs. search needs) (λ c κs. search needs) (λ c κs. search needs)
+    (λ c κs. search needs) returns)

@@ -3,8 +3,5 @@ use borrow.Author.Needs.{needs}
 use Rattle.prover.proofs.on_leaf.ended.Statement.{statement}
 use Rattle.prover.proofs.on_leaf.ended.Tie as tie
 
-returns : tie.Need-returns
-returns c = rw (c .leaf .ensures)
-
 pub ended-spec : {M : Type 1} → statement M
-ended-spec = tie.close (tie.spec (λ c κs. search needs) returns)
+ended-spec = tie.close (tie.spec (λ c κs. search needs) (λ c. rw (c .leaf .ensures)))

@@ -9,18 +9,8 @@ use Rattle.prover.proofs.vector.light_vector.Statement.{statement}
 use Rattle.prover.proofs.vector.light_vector.Tie as tie
 
 returns : tie.Need-returns
-returns c =
-    let vector = c .before .before .before .before in
-    let a = vector .before .before .before .before .before .before .before .before .before .before .args in
-    (vector .vector .ensures, c .within-weight .ensures ∙ ap (λ (x : List ℕ). leb (weightOf x) (a .w)) (vector .vector .ensures))
+returns c = let made : tie.After-vector = search in let s : tie.Start = search in
+    (made .vector .ensures, c .within-weight .ensures ∙ ap (λ (x : List ℕ). leb (weightOf x) (s .args .w)) (made .vector .ensures))
 
 pub light-vector-spec : {M : Type 1} → statement M
-light-vector-spec =
-    tie.close
-    (tie.spec
-    (λ c κs. search needs)
-    (λ c κs. search needs)
-    (λ c κs. search needs)
-    (λ c κs. search needs)
-    (λ c. search needs)
-    returns)
+light-vector-spec = tie.close (tie.spec (λ c κs. search needs) (λ c κs. search needs) (λ c κs. search needs) (λ c. search needs) returns)

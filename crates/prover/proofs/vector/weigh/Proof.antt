@@ -14,33 +14,18 @@ use Rattle.prover.proofs.vector.weigh.Statement.{statement}
 use Rattle.prover.proofs.vector.weigh.Tie as tie
 
 fits : (c : tie.Start) → c .args .p .m ≤ length (c .args .x .now)
-fits c =
-    let zeros : List ℕ = replicate 255 0 in
-    let n : length zeros ≡ 255 = length-replicate {A = ℕ} 255 0 in
-    let e = ap length (c .pre .zeros) in
-    let h = c .pre .within in
-    omega arith
+fits c = let zeros : List ℕ = replicate 255 0 in let n : length zeros ≡ 255 = length-replicate {A = ℕ} 255 0 in let e = ap length (c .pre .zeros) in
+    let h = c .pre .within in omega arith
 
 whole : (c : tie.Start) → length (c .args .x-a .now) + length (c .args .y .now) ≡ c .args .p .m
 whole c = let h = c .pre .within in omega (arith, c .pre .xA-is, c .pre .y-is)
 
-slice-relend-prefix-light-vector : tie.Need-slice-relend-prefix-light-vector
-slice-relend-prefix-light-vector c = fits (c .before .before .before .before)
-
-slice-aggregate-light-vector : tie.Need-slice-aggregate-light-vector
-slice-aggregate-light-vector c = sym (length-take-le _ _ (fits (c .before .before .before .before .before)))
-
 light-vector-requires : tie.Need-light-vector-requires
-light-vector-requires c κs =
-    let start = c .before .before .before .before .before in
-    let h = start .pre in
+light-vector-requires c κs = let start : tie.Start = search in let h = start .pre in
     (length-take-le _ _ (fits start) ∙ sym (whole start), le-of-eq (ap₂ _*_ (h .y-is) (h .xA-is) ∙ sym (h .matrix-is)))
 
 returns : tie.Need-returns
-returns c =
-    let called = c .before .before in
-    let start = called .before .before .before .before .before .before in
-    let a = start .args in
+returns c = let called : tie.After-light-vector = search in let start : tie.Start = search in let a = start .args in
     let v = vectorOf (a .matrix .now) (a .y .now) (a .x-a .now) in (
       ap (λ (x : List ℕ). x ++ drop (a .p .m) (a .x .now)) (called .light-vector .ensures .0)
           ∙ padded-back (a .p .m) v (a .x .now) (length-vector (a .matrix .now) (a .y .now) (a .x-a .now) ∙ whole start) (start .pre .zeros),
@@ -48,11 +33,5 @@ returns c =
     )
 
 pub weigh-spec : {M : Type 1} → statement M
-weigh-spec =
-    tie.close
-    (tie.spec
-    slice-relend-prefix-light-vector
-    slice-aggregate-light-vector
-    light-vector-requires
-    (λ c. search needs)
-    returns)
+weigh-spec = tie.close (tie.spec (λ c. let s : tie.Start = search in fits s) (λ c. let s : tie.Start = search in sym (length-take-le _ _ (fits s)))
+    light-vector-requires (λ c. search needs) returns)

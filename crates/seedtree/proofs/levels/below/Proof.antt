@@ -17,19 +17,11 @@ use Rattle.seedtree.proofs.levels.below.Tie as tie
 room : (start : tie.Start) → 0 + length (start .args .seed .now) ≤ length (start .args .seeds .now)
 room start = omega (arith, start .pre .below .size, start .pre .sixteen, pow-pos (start .args .l))
 
-put-at-requires : tie.Need-put-at-requires
-put-at-requires c κs = room (c .before .before .before)
-
 returns : tie.Need-returns
-returns c prefix b =
-    let written : tie.After-put-at = search in
-    let start : tie.Start = search in
-    let seed = start .args .seed .now in
-    let d = start .args .seeds .now in
-    let size : 16 ≡ 0 + length seed = omega (arith, start .pre .sixteen) in
-    c .before .before .descend .ensures prefix b
-    ∙ ap (λ (s : List ℕ). laid (leafSeeds SHAKE256 prefix (start .args .l) (start .args .v) s))
+returns c prefix b = let written : tie.After-put-at = search in let start : tie.Start = search in let seed = start .args .seed .now in
+    let d = start .args .seeds .now in let size : 16 ≡ 0 + length seed = omega (arith, start .pre .sixteen) in
+    c .before .before .descend .ensures prefix b ∙ ap (λ (s : List ℕ). laid (leafSeeds SHAKE256 prefix (start .args .l) (start .args .v) s))
     (ap (take 16) (written .put-at .ensures) ∙ ap (λ (n : ℕ). take n (putAt d 0 seed)) size ∙ take-putAt-end d 0 seed (room start))
 
 pub below-spec : {M : Type 1} → statement M
-below-spec = tie.close (tie.spec put-at-requires (λ c κs. search needs) (λ c. search needs) returns)
+below-spec = tie.close (tie.spec (λ c κs. room (c .before .before .before)) (λ c κs. search needs) (λ c. search needs) returns)

@@ -1,5 +1,6 @@
 -- The loop's invariant: the buffer is `reached v seeds₀ i`, there are 2^i seeds and the first is that of node 2^i·v. A turn
 -- grows them by a level (`reached-more`).
+use borrow.Author.Needs.{needs}
 use mathlib.Core.Path.{_≡_, refl, sym, ap, ap₂, _∙_}
 use mathlib.Core.List.{List}
 use Prim.Native.Nat.{ℕ, _+_, _-_, _*_, _^_, _≤_}
@@ -35,42 +36,22 @@ one-seed : (start : tie.Start Inv-loop μ-loop) → 16 ≤ length (start .args .
 one-seed start = omega (arith, start .pre .size, pow-pos (start .args .l))
 
 loop-holds : tie.Need-loop-holds Inv-loop μ-loop
-loop-holds c =
-    let args = c .before .args in (
-      record { within = omega arith; counted = refl; numbered = sym (one-mul (args .v)); long = refl },
-      λ prefix b. reached-none SHAKE256 prefix (args .v) (args .seeds .now) (one-seed (c .before)),
-    )
+loop-holds c = let args = c .before .args in (
+  record { within = omega arith; counted = refl; numbered = sym (one-mul (args .v)); long = refl },
+  λ prefix b. reached-none SHAKE256 prefix (args .v) (args .seeds .now) (one-seed (c .before)),
+)
 
 room : (c : tie.In-loop Inv-loop μ-loop) → Grow (c .before .loop .count) (c .before .loop .first) (c .before .loop .seeds)
-room c =
-    let head = c .before .loop in
-    let start = c .before .before .before in
-    let inv = head .inv .0 in
-    let shape = start .pre in
+room c = let head = c .before .loop in let start = c .before .before .before in let inv = head .inv .0 in let shape = start .pre in
     record {
       nodes = omega (arith, node-room (head .i) (start .args .v) (omega arith) (shape .node));
       room = omega (arith, level-room (head .i) (start .args .l) (omega arith), shape .size);
     }
 
-grow-requires : tie.Need-grow-requires Inv-loop μ-loop
-grow-requires c κs = room (c .before)
-
-mul-count : tie.Need-mul-count Inv-loop μ-loop
-mul-count c = let in-loop : tie.In-loop Inv-loop μ-loop = search in omega (arith, room in-loop)
-
-mul-first : tie.Need-mul-first Inv-loop μ-loop
-mul-first c = let in-loop : tie.In-loop Inv-loop μ-loop = search in omega (arith, room in-loop)
-
 loop-again : tie.Need-loop-again Inv-loop μ-loop
-loop-again c =
-    let head : tie.At-loop Inv-loop μ-loop = search in
-    let start : tie.Start Inv-loop μ-loop = search in
-    let made = c .before .before .grow in
-    let args = start .args in
-    let i = head .loop .i in
-    let inv = head .loop .inv in
-    let double : 2 ^ (i + 1) ≡ 2 * 2 ^ i = ap (_^_ 2) (add-one i) ∙ pow-succ' 2 i in
-    let count-is : head .loop .count ≡ 2 ^ i = inv .0 .counted in
+loop-again c = let head : tie.At-loop Inv-loop μ-loop = search in let start : tie.Start Inv-loop μ-loop = search in
+    let made = c .before .before .grow in let args = start .args in let i = head .loop .i in let inv = head .loop .inv in
+    let double : 2 ^ (i + 1) ≡ 2 * 2 ^ i = ap (_^_ 2) (add-one i) ∙ pow-succ' 2 i in let count-is : head .loop .count ≡ 2 ^ i = inv .0 .counted in
     let first-is : head .loop .first ≡ 2 ^ i * args .v = inv .0 .numbered in (
       record {
         within = omega arith;
@@ -84,29 +65,13 @@ loop-again c =
           ∙ reached-more SHAKE256 prefix length-SHAKE256 i (args .v) (args .seeds .now) (one-seed start),
     )
 
-same-length : tie.Need-same-length Inv-loop μ-loop
-same-length c = c .before .loop .inv .0 .long
-
 returns : tie.Need-returns Inv-loop μ-loop
-returns c prefix b =
-    let head = c .before .loop in
-    let start = c .before .before .before in
-    let d = start .args .seeds .now in
+returns c prefix b = let head = c .before .loop in let start = c .before .before .before in let d = start .args .seeds .now in
     let last : head .i ≡ start .args .l = omega (arith, head .inv .0 .within) in
     head .inv .1 prefix b ∙ ap (reached SHAKE256 prefix (start .args .v) d) last ∙ reached-all SHAKE256 prefix (start .args .l) (start .args .v) d (start .pre .size)
 
 pub descend-spec : {M : Type 1} → statement M
-descend-spec =
-    tie.close
-    (tie.spec
-    Inv-loop
-    μ-loop
-    loop-holds
-    grow-requires
-    mul-count
-    mul-first
-    (λ c. omega arith)
-    (λ c. omega arith)
-    loop-again
-    same-length
-    returns)
+descend-spec = tie.close (tie.spec Inv-loop μ-loop loop-holds (λ c κs. room (c .before))
+    (λ c. let in-loop : tie.In-loop Inv-loop μ-loop = search in omega (arith, room in-loop))
+    (λ c. let in-loop : tie.In-loop Inv-loop μ-loop = search in omega (arith, room in-loop)) (λ c. omega arith) (λ c. omega arith) loop-again
+    (λ c. search needs) returns)

@@ -1,4 +1,5 @@
 -- The loop's invariant: the buffer is `growing c v seeds₀ j`. A turn writes the children of one seed more (`growing-more`).
+use borrow.Author.Needs.{needs}
 use mathlib.Core.Path.{_≡_, refl, ap, _∙_}
 use mathlib.Core.List.{List}
 use Prim.Native.Nat.{ℕ, _+_, _-_, _*_, _≤_, _<_}
@@ -20,19 +21,9 @@ Inv-loop nodes c v seeds₀ j₀ seeds j =
 abbrev μ-loop : tie.MeasureT-loop
 μ-loop nodes c v seeds₀ j₀ seeds j = j
 
-loop-holds : tie.Need-loop-holds Inv-loop μ-loop
-loop-holds c =
-    let args = c .before .args in
-    (omega arith, (refl, λ prefix b. growing-none SHAKE256 prefix (args .c) (args .v) (args .seeds .now)))
-
 loop-again : tie.Need-loop-again Inv-loop μ-loop
-loop-again c =
-    let head : tie.At-loop Inv-loop μ-loop = search in
-    let start : tie.Start Inv-loop μ-loop = search in
-    let made = c .before .before .expand in
-    let args = start .args in
-    let d = args .seeds .now in
-    let j = head .loop .j - 1 in
+loop-again c = let head : tie.At-loop Inv-loop μ-loop = search in let start : tie.Start Inv-loop μ-loop = search in
+    let made = c .before .before .expand in let args = start .args in let d = args .seeds .now in let j = head .loop .j - 1 in
     let one-more : head .loop .j ≡ j + 1 = omega arith in
     let within : j < args .c = omega arith in (
       omega arith,
@@ -45,29 +36,12 @@ loop-again c =
       ),
     )
 
-same-length : tie.Need-same-length Inv-loop μ-loop
-same-length c = c .before .loop .inv .1 .0
-
 returns : tie.Need-returns Inv-loop μ-loop
-returns c prefix b =
-    let args = c .before .before .before .args in
-    let d = args .seeds .now in
-    let last : c .before .loop .j ≡ 0 = omega arith in
+returns c prefix b = let args = c .before .before .before .args in let d = args .seeds .now in let last : c .before .loop .j ≡ 0 = omega arith in
     c .before .loop .inv .1 .1 prefix b ∙ ap (growing SHAKE256 prefix (args .c) (args .v) d) last ∙ growing-all SHAKE256 prefix (args .c) (args .v) d
 
 pub grow-spec : {M : Type 1} → statement M
-grow-spec =
-    tie.close
-    (tie.spec
-    Inv-loop
-    μ-loop
-    loop-holds
-    (λ c. omega arith)
-    (λ c. omega arith)
-    (λ c. omega arith)
-    (λ c. omega arith)
-    (λ c κs. omega arith)
-    (λ c. omega arith)
-    loop-again
-    same-length
-    returns)
+grow-spec = tie.close (tie.spec Inv-loop μ-loop
+    (λ c. let args = c .before .args in (omega arith, (refl, λ prefix b. growing-none SHAKE256 prefix (args .c) (args .v) (args .seeds .now))))
+    (λ c. omega arith) (λ c. omega arith) (λ c. omega arith) (λ c. omega arith) (λ c κs. omega arith) (λ c. omega arith) loop-again
+    (λ c. search needs) returns)

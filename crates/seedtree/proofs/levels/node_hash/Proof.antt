@@ -11,16 +11,11 @@ use Rattle.seedtree.proofs.levels.node_hash.Statement.{statement}
 use Rattle.seedtree.proofs.levels.node_hash.Tie as tie
 
 returns : tie.Need-returns
-returns c =
-    let made : tie.After-hash = search in
-    let number : tie.After-node-bytes = search in
-    let s : tie.Start = search in
-    let seed = s .args .seed .now in
-    let n = length (s .args .out .now) in
-    made .hash .ensures
-    ∙ ap (λ (l : List ℕ). hashed (s .args .nodes) (l ++ (seed ++ [])) n) (number .node-bytes .ensures)
+returns c = let made : tie.After-hash = search in let number : tie.After-node-bytes = search in let s : tie.Start = search in
+    let seed = s .args .seed .now in let n = length (s .args .out .now) in
+    made .hash .ensures ∙ ap (λ (l : List ℕ). hashed (s .args .nodes) (l ++ (seed ++ [])) n) (number .node-bytes .ensures)
     ∙ hashed-no-tail (s .args .nodes) (nodeBytes (s .args .v)) seed n
 
 pub node-hash-spec : {M : Type 1} → statement M
-node-hash-spec =
-    tie.close (tie.spec (λ c κs. search needs) (λ c. search needs) (λ c. search needs) (λ c κs. search needs) (λ c. search needs) returns)
+node-hash-spec = tie.close (tie.spec (λ c κs. search needs) (λ c. search needs) (λ c. search needs) (λ c κs. search needs) (λ c. search needs)
+    returns)

@@ -14,18 +14,14 @@ use Rattle.shake256.proofs.Sponge.finish.Tie as tie
 
 at-join : (c : tie.Joined1) → (c .if1 .t ≡ ready (c .before .args .self)) × (c .if1 .t .at < rate)
 at-join c =
-    made-ready (c .before .args .self) (c .if1 .t) (λ w. (omega (arith, w .0 .taken), w .2 ∙ w .1 .ensures)) (λ w. (omega (arith, w .0 .left), w .1)) (c .if1 .came)
-
-xor-byte-requires : tie.Need-xor-byte-requires
-xor-byte-requires c κs = omega (arith, at-join (c .before) .1)
+    made-ready (c .before .args .self) (c .if1 .t) (λ w. (omega (arith, w .0 .taken), w .2 ∙ w .1 .ensures)) (λ w. (omega (arith, w .0 .left), w .1))
+    (c .if1 .came)
 
 returns : tie.Need-returns
 unfolding finished
-returns c =
-    let join = c .before .before .before .before in
-    (λ t. mk (c .xor-byte2 .ensures t) rate)
-    ∙ ap (λ (l : List ℕ). mk (xorAt l (rate - 1) final) rate)
+returns c = let join = c .before .before .before .before in
+    (λ t. mk (c .xor-byte2 .ensures t) rate) ∙ ap (λ (l : List ℕ). mk (xorAt l (rate - 1) final) rate)
     (c .before .before .xor-byte .ensures ∙ ap (λ (z : Sponge). xorAt (z .lanes) (z .at) domain) (at-join join .0))
 
 pub finish-spec : {M : Type 1} → statement M
-finish-spec = tie.close (tie.spec (λ c κs. tt) xor-byte-requires (λ c. search needs) (λ c κs. search needs) returns)
+finish-spec = tie.close (tie.spec (λ c κs. tt) (λ c κs. omega (arith, at-join (c .before) .1)) (λ c. search needs) (λ c κs. search needs) returns)

@@ -4,9 +4,6 @@ use Rattle.shake256.specs.Stream.{start}
 use Rattle.shake256.proofs.Sponge.new.Statement.{statement}
 use Rattle.shake256.proofs.Sponge.new.Tie as tie
 
-returns : tie.Need-returns
-unfolding start
-returns c = refl
-
 pub new-spec : {M : Type 1} → statement M
-new-spec = tie.close (tie.spec returns)
+unfolding start
+new-spec = tie.close (tie.spec (λ c. refl))

@@ -6,8 +6,5 @@ use Rattle.shake256.proofs.Sponges.{mk}
 use Rattle.shake256.proofs.Sponge.permuted.Statement.{statement}
 use Rattle.shake256.proofs.Sponge.permuted.Tie as tie
 
-returns : tie.Need-returns
-returns c = ap (λ (l : List ℕ). mk l 0) (c .permute .ensures)
-
 pub permuted-spec : {M : Type 1} → statement M
-permuted-spec = tie.close (tie.spec (λ c κs. tt) returns)
+permuted-spec = tie.close (tie.spec (λ c κs. tt) (λ c. ap (λ (l : List ℕ). mk l 0) (c .permute .ensures)))

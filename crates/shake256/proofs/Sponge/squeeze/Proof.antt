@@ -20,87 +20,38 @@ Inv-loop out₀ t₀ i₀ out t i =
 abbrev μ-loop : tie.MeasureT-loop
 μ-loop out₀ t₀ i₀ out t i = length out₀ - i
 
-loop-holds : tie.Need-loop-holds Inv-loop μ-loop
-unfolding squeezed after
-loop-holds c = (omega arith, (refl, (refl, refl)))
-
 at-join : (c : tie.Joined1 Inv-loop μ-loop) → (c .if1 .t ≡ ready (c .before .before .loop .t)) × (c .if1 .t .at < rate)
-at-join c =
-    made-ready (c .before .before .loop .t) (c .if1 .t) (λ w. (omega (arith, w .0 .taken), w .2 ∙ w .1 .ensures)) (λ w. (omega (arith, w .0 .left), w .1))
-    (c .if1 .came)
-
-give-some-requires : tie.Need-give-some-requires Inv-loop μ-loop
-give-some-requires c κs =
-    let join = c .before .before .before in
-    (at-join join .1, omega (arith, join .before .before .loop .inv .1 .1 .0))
-
--- the place after the turn, and how it goes on
-add-t : tie.Need-add-t Inv-loop μ-loop
-add-t c = omega (arith, c .before .before .give-some .ensures .room)
+at-join c = made-ready (c .before .before .loop .t) (c .if1 .t) (λ w. (omega (arith, w .0 .taken), w .2 ∙ w .1 .ensures))
+    (λ w. (omega (arith, w .0 .left), w .1)) (c .if1 .came)
 
 add-i : tie.Need-add-i Inv-loop μ-loop
-add-i c =
-    let g = c .before .before .give-some in
-    let head = c .before .before .before .before .before .before .before .before in
+add-i c = let g = c .before .before .give-some in let head = c .before .before .before .before .before .before .before .before in
     omega (arith, g .ensures .within, head .loop .inv .1 .1 .0)
 
 loop-less : tie.Need-loop-less Inv-loop μ-loop
-loop-less c =
-    let g = c .before .before .give-some in
-    let head = c .before .before .before .before .before .before .before .before in
+loop-less c = let g = c .before .before .give-some in let head = c .before .before .before .before .before .before .before .before in
     omega (arith, g .ensures .within, g .ensures .some, head .loop .inv .1 .1 .0)
 
 loop-again : tie.Need-loop-again Inv-loop μ-loop
 loop-again c =
-    let g = c .before .before .give-some in
-    let join = c .before .before .before .before .before .before in
-    let head = join .before .before in
-    let start = head .before .before in
-    let self = start .args .self in
-    let d = start .args .out .now in
-    let inv = head .loop .inv .1 in
+    let g = c .before .before .give-some in let join = c .before .before .before .before .before .before in let head = join .before .before in
+    let start = head .before .before in let self = start .args .self in let d = start .args .out .now in let inv = head .loop .inv .1 in
     let long : length (head .loop .out) ≡ length d = inv .1 .0 in
-    let within : head .loop .i + g .result ≤ length d = omega (arith, g .ensures .within) in (
-      within,
-      (
-        after-more self (head .loop .t) (join .if1 .t .lanes) (join .if1 .t .at) (head .loop .i) (g .result) (inv .0) (at-join join .0) (g .ensures .room) (g .ensures .some),
-        (
-          g .kept .1 .1 .0 ∙ long,
-          g .ensures .is
-              ∙ written-more self (head .loop .t) (join .if1 .t .lanes) (join .if1 .t .at) (head .loop .i) (g .result) (inv .0) (at-join join .0) (g .ensures .room) (g .ensures .some)
-              (head .loop .out) d within long (inv .1 .1),
-        ),
-      ),
-    )
-
-same-length : tie.Need-same-length Inv-loop μ-loop
-same-length c = c .before .loop .inv .1 .1 .0
+    let within : head .loop .i + g .result ≤ length d = omega (arith, g .ensures .within) in
+    let more = after-more self (head .loop .t) (join .if1 .t .lanes) (join .if1 .t .at) (head .loop .i) (g .result) (inv .0) (at-join join .0)
+    (g .ensures .room) (g .ensures .some) in
+    let written = written-more self (head .loop .t) (join .if1 .t .lanes) (join .if1 .t .at) (head .loop .i) (g .result) (inv .0) (at-join join .0)
+    (g .ensures .room) (g .ensures .some) (head .loop .out) d within long (inv .1 .1) in
+    (within, (more, (g .kept .1 .1 .0 ∙ long, g .ensures .is ∙ written)))
 
 returns : tie.Need-returns Inv-loop μ-loop
-returns c =
-    let head = c .before in
-    let start = head .before .before in
-    let self = start .args .self in
-    let d = start .args .out .now in
-    let inv = head .loop .inv .1 in
-    let i-is : head .loop .i ≡ length d = omega (arith, inv .1 .0) in
-    let rest : drop (head .loop .i) d ≡ [] = ap (λ (n : ℕ). drop n d) i-is ∙ drop-length d in (
-      inv .1 .1 ∙ ap (λ (l : List ℕ). squeezed self (head .loop .i) ++ l) rest ∙ append-nil (squeezed self (head .loop .i)) ∙ ap (squeezed self) i-is,
-      inv .0 ∙ ap (after self) i-is,
-    )
+returns c = let head = c .before in let start = head .before .before in let self = start .args .self in let d = start .args .out .now in
+    let inv = head .loop .inv .1 in let i-is : head .loop .i ≡ length d = omega (arith, inv .1 .0) in
+    let rest : drop (head .loop .i) d ≡ [] = ap (λ (n : ℕ). drop n d) i-is ∙ drop-length d in let given = squeezed self (head .loop .i) in
+    (inv .1 .1 ∙ ap (λ (l : List ℕ). given ++ l) rest ∙ append-nil given ∙ ap (squeezed self) i-is, inv .0 ∙ ap (after self) i-is)
 
 pub squeeze-spec : {M : Type 1} → statement M
-squeeze-spec =
-    tie.close
-    (tie.spec
-    Inv-loop
-    μ-loop
-    loop-holds
-    (λ c κs. tt)
-    give-some-requires
-    add-t
-    add-i
-    loop-less
-    loop-again
-    same-length
-    returns)
+unfolding squeezed after
+squeeze-spec = tie.close (tie.spec Inv-loop μ-loop (λ c. (omega arith, (refl, (refl, refl)))) (λ c κs. tt)
+    (λ c κs. let join = c .before .before .before in (at-join join .1, omega (arith, join .before .before .loop .inv .1 .1 .0)))
+    (λ c. omega (arith, c .before .before .give-some .ensures .room)) add-i loop-less loop-again (λ c. c .before .loop .inv .1 .1 .0) returns)

@@ -10,32 +10,16 @@ use Rattle.shake256.proofs.bytes.store.Statement.{statement}
 use Rattle.shake256.proofs.bytes.store.Tie as tie
 
 returns : tie.Need-returns
-returns c =
-    let start = c .before .before .before .before .before .before .before .before .before in
-    let o = start .args .out .now in
+returns c = let start = c .before .before .before .before .before .before .before .before .before in let o = start .args .out .now in
     let i = start .args .i in
-    sets-eight o i _ _ _ _ _ _ _ _
-    ∙ (λ t. sets o i
-    (c .before .before .before .before .before .before .before .byte-of .ensures t
-    ∷ c .before .before .before .before .before .before .byte-of2 .ensures t
-    ∷ c .before .before .before .before .before .byte-of3 .ensures t
-    ∷ c .before .before .before .before .byte-of4 .ensures t
-    ∷ c .before .before .before .byte-of5 .ensures t
-    ∷ c .before .before .byte-of6 .ensures t
-    ∷ c .before .byte-of7 .ensures t
-    ∷ c .byte-of8 .ensures t
-    ∷ []))
+    sets-eight o i _ _ _ _ _ _ _ _ ∙ (λ t. sets o i (c .before .before .before .before .before .before .before .byte-of .ensures t ∷
+    c .before .before .before .before .before .before .byte-of2 .ensures t ∷ c .before .before .before .before .before .byte-of3 .ensures t ∷
+    c .before .before .before .before .byte-of4 .ensures t ∷ c .before .before .before .byte-of5 .ensures t ∷ c .before .before .byte-of6 .ensures t ∷
+    c .before .byte-of7 .ensures t ∷ c .byte-of8 .ensures t ∷ []))
 
 pub store-spec : {M : Type 1} → statement M
-store-spec =
-    tie.close
-    (tie.spec
-    (λ c κs. search needs) (λ c. search needs)
-    (λ c κs. search needs) (λ c. search needs) (λ c. simp length-set (omega arith))
-    (λ c κs. search needs) (λ c. search needs) (λ c. simp length-set (omega arith))
-    (λ c κs. search needs) (λ c. search needs) (λ c. simp length-set (omega arith))
-    (λ c κs. search needs) (λ c. search needs) (λ c. simp length-set (omega arith))
-    (λ c κs. search needs) (λ c. search needs) (λ c. simp length-set (omega arith))
-    (λ c κs. search needs) (λ c. search needs) (λ c. simp length-set (omega arith))
-    (λ c κs. search needs) (λ c. search needs) (λ c. simp length-set (omega arith))
-    (λ c. search needs) returns)
+store-spec = tie.close (tie.spec (λ c κs. search needs) (λ c. search needs) (λ c κs. search needs) (λ c. search needs)
+    (λ c. simp length-set (omega arith)) (λ c κs. search needs) (λ c. search needs) (λ c. simp length-set (omega arith)) (λ c κs. search needs)
+    (λ c. search needs) (λ c. simp length-set (omega arith)) (λ c κs. search needs) (λ c. search needs) (λ c. simp length-set (omega arith))
+    (λ c κs. search needs) (λ c. search needs) (λ c. simp length-set (omega arith)) (λ c κs. search needs) (λ c. search needs)
+    (λ c. simp length-set (omega arith)) (λ c κs. search needs) (λ c. search needs) (λ c. simp length-set (omega arith)) (λ c. search needs) returns)

@@ -24,13 +24,9 @@ cast-t24 : tie.Need-cast-t24
 cast-t24 c = let n : tie.After-numbers-of = search in let (m, (k, (w, (d, (t, small))))) = n .before .pre in omega (arith, ap (λ (l : List ℕ). getD l 4 0) (n .numbers-of .ensures))
 
 returns : tie.Need-returns
-returns c =
-    let n : tie.After-numbers-of = search in
-    let phase = n .before .args .phase in
+returns c = let n : tie.After-numbers-of = search in let phase = n .before .args .phase in
     ap (λ (l : List ℕ). phase ∷ getD l 0 0 ∷ getD l 1 0 ∷ getD l 2 0 ∷ getD l 3 0 ∷ getD l 4 0 ∷ []) (n .numbers-of .ensures)
 
 pub head-spec : {M : Type 1} → statement M
-head-spec =
-    tie.close
-    (tie.spec (λ c κs. search needs) (λ c. search needs) cast-t8 (λ c. search needs) cast-t12 (λ c. search needs) cast-t16
+head-spec = tie.close (tie.spec (λ c κs. search needs) (λ c. search needs) cast-t8 (λ c. search needs) cast-t12 (λ c. search needs) cast-t16
     (λ c. search needs) cast-t20 (λ c. search needs) cast-t24 returns)

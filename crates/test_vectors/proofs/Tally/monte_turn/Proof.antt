@@ -6,12 +6,8 @@ use borrow.Author.Needs.{needs}
 use Rattle.test_vectors.proofs.Tally.monte_turn.Statement.{statement}
 use Rattle.test_vectors.proofs.Tally.monte_turn.Tie as tie
 
-slice-aggregate-shake256-2 : tie.Need-slice-aggregate-shake256-2
-slice-aggregate-shake256-2 c = sym (length-take-le _ _ (omega arith))
-
 pub monte-turn-spec : {M : Type 1} → statement M
-monte-turn-spec =
-    tie.close (tie.spec (λ c. search needs) (λ c. search needs) (λ c. search needs) (λ c κs. search needs) (λ c κs. search needs)
-    (λ c. search needs) (λ c. search needs) slice-aggregate-shake256-2 (λ c κs. search needs) (λ c. search needs)
-    (λ c κs. search needs) (λ c. search needs) (λ c. search needs) (λ c. search needs) (λ c κs. search needs)
-    (λ c. search needs) (λ c κs. search needs) (λ c. search needs) (λ c. search needs))
+monte-turn-spec = tie.close (tie.spec (λ c. search needs) (λ c. search needs) (λ c. search needs) (λ c κs. search needs) (λ c κs. search needs)
+    (λ c. search needs) (λ c. search needs) (λ c. sym (length-take-le _ _ (omega arith))) (λ c κs. search needs) (λ c. search needs)
+    (λ c κs. search needs) (λ c. search needs) (λ c. search needs) (λ c. search needs) (λ c κs. search needs) (λ c. search needs)
+    (λ c κs. search needs) (λ c. search needs) (λ c. search needs))

@@ -5,9 +5,6 @@ use Rattle.text.specs.Scanner.Hex.{counted}
 use Rattle.text.proofs.hex.count_on.Statement.{statement}
 use Rattle.text.proofs.hex.count_on.Tie as tie
 
-add-result : tie.Need-add-result
-add-result c = omega arith
-
 returns : tie.Need-returns
 unfolding counted
 returns c = rw (le-leb _ _ (c .if1 .taken))
@@ -17,4 +14,4 @@ unfolding counted
 returns-2 c = rw (lt-leb _ _ (c .if1 .left))
 
 pub count-on-spec : {M : Type 1} → statement M
-count-on-spec = tie.close (tie.spec add-result returns returns-2)
+count-on-spec = tie.close (tie.spec (λ c. omega arith) returns returns-2)

@@ -6,76 +6,22 @@ use Rattle.text.specs.Decimal.Laws.{put-one, put-two, put-three}
 use Rattle.text.proofs.print.put_decimal.Statement.{statement}
 use Rattle.text.proofs.print.put_decimal.Tie as tie
 
-digit-requires : tie.Need-digit-requires
-digit-requires c κs = search needs
-
-slice-write-out : tie.Need-slice-write-out
-slice-write-out c = search needs
-
-add-result : tie.Need-add-result
-add-result c = search needs
-
-same-length : tie.Need-same-length
-same-length c = search needs
-
 returns : tie.Need-returns
 returns c = put-one _ _ _ (c .before .before .before .pre .1) (c .digit .ensures) (c .before .if1 .taken)
 
-digit-requires-2 : tie.Need-digit-requires-2
-digit-requires-2 c κs = search needs
-
-slice-write-out-2 : tie.Need-slice-write-out-2
-slice-write-out-2 c = search needs
-
-digit-requires-3 : tie.Need-digit-requires-3
-digit-requires-3 c κs = search needs
-
-add-out : tie.Need-add-out
-add-out c = search needs
-
 slice-write-out-3 : tie.Need-slice-write-out-3
 slice-write-out-3 c = simp length-set (omega arith)
-
-add-result-2 : tie.Need-add-result-2
-add-result-2 c = search needs
-
-same-length-2 : tie.Need-same-length-2
-same-length-2 c = simp length-set
 
 returns-2 : tie.Need-returns-2
 returns-2 c =
     let p = c .before .before in
     put-two _ _ _ (p .before .before .before .pre .1) (c .before .digit2 .ensures) (c .digit3 .ensures) (p .before .if1 .left) (p .if2 .taken)
 
-digit-requires-4 : tie.Need-digit-requires-4
-digit-requires-4 c κs = search needs
-
-slice-write-out-4 : tie.Need-slice-write-out-4
-slice-write-out-4 c = search needs
-
-digit-requires-5 : tie.Need-digit-requires-5
-digit-requires-5 c κs = search needs
-
-add-out-2 : tie.Need-add-out-2
-add-out-2 c = search needs
-
 slice-write-out-5 : tie.Need-slice-write-out-5
 slice-write-out-5 c = simp length-set (omega arith)
 
-digit-requires-6 : tie.Need-digit-requires-6
-digit-requires-6 c κs = search needs
-
-add-out-3 : tie.Need-add-out-3
-add-out-3 c = search needs
-
 slice-write-out-6 : tie.Need-slice-write-out-6
 slice-write-out-6 c = simp length-set (omega arith)
-
-add-result-3 : tie.Need-add-result-3
-add-result-3 c = search needs
-
-same-length-3 : tie.Need-same-length-3
-same-length-3 c = simp length-set
 
 returns-3 : tie.Need-returns-3
 returns-3 c =
@@ -83,30 +29,8 @@ returns-3 c =
     put-three _ _ _ (p .before .before .before .pre .1) (c .before .before .digit4 .ensures) (c .before .digit5 .ensures) (c .digit6 .ensures) (p .if2 .left)
 
 pub put-decimal-spec : {M : Type 1} → statement M
-put-decimal-spec =
-    tie.close
-    (tie.spec
-    digit-requires
-    slice-write-out
-    add-result
-    same-length
-    returns
-    digit-requires-2
-    slice-write-out-2
-    digit-requires-3
-    add-out
-    slice-write-out-3
-    add-result-2
-    same-length-2
-    returns-2
-    digit-requires-4
-    slice-write-out-4
-    digit-requires-5
-    add-out-2
-    slice-write-out-5
-    digit-requires-6
-    add-out-3
-    slice-write-out-6
-    add-result-3
-    same-length-3
-    returns-3)
+put-decimal-spec = tie.close (tie.spec (λ c κs. search needs) (λ c. search needs) (λ c. search needs)
+    (λ c. search needs) returns (λ c κs. search needs) (λ c. search needs) (λ c κs. search needs) (λ c. search needs)
+    slice-write-out-3 (λ c. search needs) (λ c. simp length-set) returns-2 (λ c κs. search needs) (λ c. search needs)
+    (λ c κs. search needs) (λ c. search needs) slice-write-out-5 (λ c κs. search needs) (λ c. search needs)
+    slice-write-out-6 (λ c. search needs) (λ c. simp length-set) returns-3)

@@ -21,40 +21,17 @@ loop-holds : tie.Need-loop-holds Inv-loop μ-loop
 unfolding hexText
 loop-holds c = (omega arith, refl, refl)
 
-shared-slice-read-b : tie.Need-shared-slice-read-b Inv-loop μ-loop
-shared-slice-read-b c = omega arith
-
-mul-place : tie.Need-mul-place Inv-loop μ-loop
-mul-place c = omega arith
-
-add-place : tie.Need-add-place Inv-loop μ-loop
-add-place c = omega arith
-
 hex-digit-requires : tie.Need-hex-digit-requires Inv-loop μ-loop
 hex-digit-requires c κs = omega (arith, c .shared-slice-known2 .given (c .before .before .loop .i))
-
-slice-write-out : tie.Need-slice-write-out Inv-loop μ-loop
-slice-write-out c = omega arith
-
-hex-digit-requires-2 : tie.Need-hex-digit-requires-2 Inv-loop μ-loop
-hex-digit-requires-2 c κs = omega arith
-
-add-out : tie.Need-add-out Inv-loop μ-loop
-add-out c = omega arith
 
 slice-write-out-2 : tie.Need-slice-write-out-2 Inv-loop μ-loop
 slice-write-out-2 c = simp length-set (omega arith)
 
-add-i : tie.Need-add-i Inv-loop μ-loop
-add-i c = omega arith
-
-loop-less : tie.Need-loop-less Inv-loop μ-loop
-loop-less c = omega arith
-
 loop-again : tie.Need-loop-again Inv-loop μ-loop
 loop-again c =
-    let p = c .before .before .before .before in
-    let a = p .before .before .before .args in
+    let p : tie.At-loop Inv-loop μ-loop = search in
+    let start : tie.Start Inv-loop μ-loop = search in
+    let a = start .args in
     let n : ℕ = getD (a .s .now) (p .loop .i) 0 in (
       omega arith,
       ap (λ (l : List ℕ). set (set l (a .at + 2 * p .loop .i) (c .before .hex-digit .result)) (a .at + 2 * p .loop .i + 1) (c .hex-digit2 .result)) (p .loop .inv .1)
@@ -67,29 +44,14 @@ same-length c = c .before .loop .inv .2
 
 returns : tie.Need-returns Inv-loop μ-loop
 returns c =
+    let start : tie.Start Inv-loop μ-loop = search in
     let p = c .before in
-    let a = p .before .before .before .args in
+    let a = start .args in
     let e : take (p .loop .i) (a .s .now) ≡ a .s .now = take-all (p .loop .i) (a .s .now) (omega arith) in
     p .loop .inv .1 ∙ ap (λ (l : List ℕ). sets (a .out .now) (a .at) (hexText l)) e
     ∙ putAt-sets (a .out .now) (a .at) (hexText (a .s .now)) (omega (arith, length-hexText (a .s .now)))
 
 pub put-hex-spec : {M : Type 1} → statement M
-put-hex-spec =
-    tie.close
-    (tie.spec
-    Inv-loop
-    μ-loop
-    loop-holds
-    shared-slice-read-b
-    mul-place
-    add-place
-    hex-digit-requires
-    slice-write-out
-    hex-digit-requires-2
-    add-out
-    slice-write-out-2
-    add-i
-    loop-less
-    loop-again
-    same-length
-    returns)
+put-hex-spec = tie.close (tie.spec Inv-loop μ-loop loop-holds (λ c. omega arith) (λ c. omega arith) (λ c. omega arith)
+    hex-digit-requires (λ c. omega arith) (λ c κs. omega arith) (λ c. omega arith) slice-write-out-2
+    (λ c. omega arith) (λ c. omega arith) loop-again same-length returns)

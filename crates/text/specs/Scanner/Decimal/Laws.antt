@@ -13,7 +13,7 @@ use mathlib.Core.List.{List, [], _∷_}
 use lib.Dec.{ltb, leb, eqb}
 use lib.ListN.{length}
 use borrow.Author.Tests.{lt-ltb, le-ltb, le-leb, lt-leb, ne-eqb, leb-true}
-use Rattle.lists.specs.Checks.{and-right}
+use Rattle.lists.specs.Checks.Laws.{and-right}
 use Rattle.text.specs.Fold.{fold}
 use Rattle.text.specs.Decimal.{isDigit, allDigits, isDecimal, grown, valueOf}
 use Rattle.text.specs.declared.decimal.DecimalScan.{DecimalScan}

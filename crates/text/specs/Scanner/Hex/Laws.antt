@@ -17,7 +17,7 @@ use lib.Dec.{leb}
 use lib.ListN.{length, set, length-set}
 use lib.Seq.{sets}
 use borrow.Author.Tests.{le-leb, lt-leb, leb-true}
-use Rattle.lists.specs.Checks.{and-left, and-right}
+use Rattle.lists.specs.Checks.Laws.{and-left, and-right}
 use Rattle.text.specs.Fold.{fold}
 use Rattle.text.specs.Hex.{isHexDigit, hexValue, isHex, bytesOf}
 use Rattle.text.specs.declared.hex.HexScan.{HexScan}

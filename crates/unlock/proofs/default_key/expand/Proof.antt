@@ -12,28 +12,12 @@ use Rattle.unlock.proofs.default_key.expand.Tie as tie
 returns : tie.Need-returns
 unfolding title
 returns c =
-    let s = c .before .before in
-    let f = s .before .before in
-    let a = f .before .before .before .before in
-    let at = a .before .before .before .args in
-    let label = at .label .now in
-    let n = length (at .out .now) in
-    s .squeeze .ensures .0
-    ∙ ap (λ (z : Sponge). squeezed z n)
-    (f .finish .ensures
-    ∙ ap finished (f .before .absorb2 .ensures
-    ∙ ap (λ (z : Sponge). absorbed z label) (f .before .before .absorb .ensures ∙ ap (λ (z : Sponge). absorbed z title) (a .new .ensures))))
-    ∙ expanded-pieces label n
+    let s = c .before .before in let f = s .before .before in let a = f .before .before .before .before in let at = a .before .before .before .args in
+    let label = at .label .now in let n = length (at .out .now) in
+    s .squeeze .ensures .0 ∙ ap (λ (z : Sponge). squeezed z n) (f .finish .ensures ∙ ap finished (f .before .absorb2 .ensures ∙ ap
+    (λ (z : Sponge). absorbed z label) (f .before .before .absorb .ensures ∙ ap (λ (z : Sponge). absorbed z title) (a .new .ensures)))) ∙
+    expanded-pieces label n
 
 pub expand-spec : {M : Type 1} → statement M
-expand-spec =
-    tie.close
-    (tie.spec
-    (λ c κs. search needs)
-    (λ c. search needs)
-    (λ c κs. search needs)
-    (λ c κs. search needs)
-    (λ c κs. search needs)
-    (λ c κs. search needs)
-    (λ c. search needs)
-    returns)
+expand-spec = tie.close (tie.spec (λ c κs. search needs) (λ c. search needs) (λ c κs. search needs) (λ c κs. search needs) (λ c κs. search needs)
+    (λ c κs. search needs) (λ c. search needs) returns)

@@ -10,26 +10,12 @@ use Rattle.unlock.specs.Expanded.{leafLabel}
 use Rattle.unlock.proofs.default_key.leaf.Statement.{statement}
 use Rattle.unlock.proofs.default_key.leaf.Tie as tie
 
-remainder-requires : tie.Need-remainder-requires
-remainder-requires c κs =
-    let p = c .before .before .before .before .before .args .p in
-    omega (arith, c .leaf-count .ensures, leaves-pos p)
-
 returns : tie.Need-returns
 unfolding leafLabel
-returns c =
-    let p = c .before .before .before .before .before .before .args .p in
-    c .remainder .ensures
-    ∙ ap₂ _%_ (ap (λ (s : List ℕ). getD s 0 0) (c .before .before .before .expand .ensures)) (c .before .leaf-count .ensures ∙ leaves-is p)
+returns c = let p = c .before .before .before .before .before .before .args .p in
+    c .remainder .ensures ∙ ap₂ _%_ (ap (λ (s : List ℕ). getD s 0 0) (c .before .before .before .expand .ensures))
+    (c .before .leaf-count .ensures ∙ leaves-is p)
 
 pub leaf-spec : {M : Type 1} → statement M
-leaf-spec =
-    tie.close
-    (tie.spec
-    (λ c. search needs)
-    (λ c. search needs)
-    (λ c κs. search needs)
-    (λ c. search needs)
-    (λ c κs. search needs)
-    remainder-requires
-    returns)
+leaf-spec = tie.close (tie.spec (λ c. search needs) (λ c. search needs) (λ c κs. search needs) (λ c. search needs) (λ c κs. search needs)
+    (λ c κs. let p = c .before .before .before .before .before .args .p in omega (arith, c .leaf-count .ensures, leaves-pos p)) returns)

@@ -4,9 +4,6 @@ use Rattle.unlock.specs.Expanded.{matrixLabel}
 use Rattle.unlock.proofs.default_key.matrix.Statement.{statement}
 use Rattle.unlock.proofs.default_key.matrix.Tie as tie
 
-returns : tie.Need-returns
-unfolding matrixLabel
-returns c = c .before .before .expand .ensures
-
 pub matrix-spec : {M : Type 1} → statement M
-matrix-spec = tie.close (tie.spec (λ c. search needs) (λ c κs. search needs) (λ c. search needs) returns)
+unfolding matrixLabel
+matrix-spec = tie.close (tie.spec (λ c. search needs) (λ c κs. search needs) (λ c. search needs) (λ c. c .before .before .expand .ensures))

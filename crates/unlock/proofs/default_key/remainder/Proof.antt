@@ -5,8 +5,5 @@ use borrow.Author.Needs.{needs}
 use Rattle.unlock.proofs.default_key.remainder.Statement.{statement}
 use Rattle.unlock.proofs.default_key.remainder.Tie as tie
 
-cast-result : tie.Need-cast-result
-cast-result c = omega (arith, mod-le (c .args .b) (c .args .n))
-
 pub remainder-spec : {M : Type 1} → statement M
-remainder-spec = tie.close (tie.spec (λ c. search needs) cast-result (λ c. search needs))
+remainder-spec = tie.close (tie.spec (λ c. search needs) (λ c. omega (arith, mod-le (c .args .b) (c .args .n))) (λ c. search needs))

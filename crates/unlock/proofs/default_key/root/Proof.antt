@@ -4,9 +4,6 @@ use Rattle.unlock.specs.Expanded.{rootLabel}
 use Rattle.unlock.proofs.default_key.root.Statement.{statement}
 use Rattle.unlock.proofs.default_key.root.Tie as tie
 
-returns : tie.Need-returns
-unfolding rootLabel
-returns c = c .before .expand .ensures
-
 pub root-spec : {M : Type 1} → statement M
-root-spec = tie.close (tie.spec (λ c. search needs) (λ c. search needs) (λ c κs. search needs) returns)
+unfolding rootLabel
+root-spec = tie.close (tie.spec (λ c. search needs) (λ c. search needs) (λ c κs. search needs) (λ c. c .before .expand .ensures))

@@ -4,9 +4,6 @@ use Rattle.unlock.specs.Expanded.{saltLabel}
 use Rattle.unlock.proofs.default_key.salt.Statement.{statement}
 use Rattle.unlock.proofs.default_key.salt.Tie as tie
 
-returns : tie.Need-returns
-unfolding saltLabel
-returns c = c .before .expand .ensures
-
 pub salt-spec : {M : Type 1} → statement M
-salt-spec = tie.close (tie.spec (λ c. search needs) (λ c. search needs) (λ c κs. search needs) returns)
+unfolding saltLabel
+salt-spec = tie.close (tie.spec (λ c. search needs) (λ c. search needs) (λ c κs. search needs) (λ c. c .before .expand .ensures))

@@ -4,9 +4,6 @@ use Rattle.unlock.specs.Key.{defaultY}
 use Rattle.unlock.proofs.default_key.syndrome.Statement.{statement}
 use Rattle.unlock.proofs.default_key.syndrome.Tie as tie
 
-returns : tie.Need-returns
-unfolding defaultY
-returns c = refl
-
 pub syndrome-spec : {M : Type 1} → statement M
-syndrome-spec = tie.close (tie.spec returns)
+unfolding defaultY
+syndrome-spec = tie.close (tie.spec (λ c. refl))

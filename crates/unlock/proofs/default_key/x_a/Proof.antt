@@ -4,9 +4,6 @@ use Rattle.unlock.specs.Key.{defaultXA}
 use Rattle.unlock.proofs.default_key.x_a.Statement.{statement}
 use Rattle.unlock.proofs.default_key.x_a.Tie as tie
 
-returns : tie.Need-returns
-unfolding defaultXA
-returns c = refl
-
 pub x-a-spec : {M : Type 1} → statement M
-x-a-spec = tie.close (tie.spec returns)
+unfolding defaultXA
+x-a-spec = tie.close (tie.spec (λ c. refl))

@@ -6,17 +6,8 @@ use Rattle.points.specs.Multiples.Laws.{own-table}
 use Rattle.values.proofs.evaluation.next_term.Statement.{statement}
 use Rattle.values.proofs.evaluation.next_term.Tie as tie
 
-next-power-requires : tie.Need-next-power-requires
-next-power-requires c κs =
-    let a : tie.After-add-terms = search in
-    let s : tie.Start = search in
-    (s .pre .1, omega (arith, a .add-terms .ensures .1, s .pre .0))
-
 returns : tie.Need-returns
-returns c =
-    let p : tie.After-next-power = search in
-    let a : tie.After-add-terms = search in
-    let m : tie.After-multiples = search in
+returns c = let p : tie.After-next-power = search in let a : tie.After-add-terms = search in let m : tie.After-multiples = search in
     let s : tie.Start = search in (
       a .add-terms .ensures .0 (point (s .args .power))
           (own-table (m .multiples .result) (s .args .power) _ (m .multiples .ensures) (m .before .word-of .ensures)),
@@ -25,5 +16,5 @@ returns c =
     )
 
 pub next-term-spec : {M : Type 1} → statement M
-next-term-spec = tie.close (tie.spec (λ c κs. search needs) (λ c κs. search needs) (λ c. search needs) (λ c κs. search needs) next-power-requires
+next-term-spec = tie.close (tie.spec (λ c κs. search needs) (λ c κs. search needs) (λ c. search needs) (λ c κs. search needs) (λ c κs. search needs)
     (λ c. search needs) returns)

@@ -11,7 +11,7 @@ use lib.ListN.{length, replicate}
 use Rattle.tower.specs.Field.{Point, point, bytesOf}
 use Rattle.points.specs.Multiples.{multiplesOf}
 use Rattle.values.specs.Evaluation.{pointPower, valuesOf}
-use Rattle.values.specs.Evaluation.Laws.{count-turn, count-small, count-twice, terms-ready, values-none, values-turn, power-none, power-point, power-turn}
+use Rattle.values.specs.Evaluation.Laws.{count-turn, count-twice, terms-ready, values-none, values-turn, power-none, power-point, power-turn}
 use Rattle.values.proofs.evaluation.values_at.Statement.{statement}
 use Rattle.values.proofs.evaluation.values_at.Tie as tie
 
@@ -21,22 +21,22 @@ Held s n stride from table values power count at j =
     × (length values ≡ n) × (at ≡ from + j) × (count ≡ j * (n + 1))
 
 abbrev Inv-loop : tie.InvT-loop
-Inv-loop s n stride from len values₀ made log pow table power₀ count₀ at₀ left₀ values power count at left =
+Inv-loop s n stride from len values₀ tables table power₀ count₀ at₀ left₀ values power count at left =
     (left ≤ len) × Held s n stride from table values power count at (len - left)
 
 abbrev μ-loop : tie.MeasureT-loop
-μ-loop s n stride from len values₀ made log pow table power₀ count₀ at₀ left₀ values power count at left = left
+μ-loop s n stride from len values₀ tables table power₀ count₀ at₀ left₀ values power count at left = left
 
 loop-holds : tie.Need-loop-holds Inv-loop μ-loop
-loop-holds c =
-    let k : tie.After-clear Inv-loop μ-loop = search in
-    let s : tie.Start Inv-loop μ-loop = search in
-    let n = s .pre .0 .sized in
-    let z = zero-mul (s .args .n + 1) in
-    let none : s .args .len - s .args .len ≡ 0 = omega arith in (
+loop-holds c = let k : tie.After-clear Inv-loop μ-loop = search in let s : tie.Start Inv-loop μ-loop = search in let n = s .pre .0 .sized in
+    let z = zero-mul (s .args .n + 1) in let none : s .args .len - s .args .len ≡ 0 = omega arith in (
       search needs,
       rw none (
-        λ x e. (values-none (s .args .s .now) (s .args .n) (s .args .stride) (s .args .from) x _ (k .clear .ensures ∙ ap (λ (m : ℕ). replicate m 0) n), power-none x),
+        λ x e. (
+          values-none (s .args .s .now) (s .args .n) (s .args .stride) (s .args .from) x _
+              (k .clear .ensures ∙ ap (λ (m : ℕ). replicate m 0) n),
+          power-none x,
+        ),
         omega (arith, k .clear, n),
         omega arith,
         omega arith,
@@ -45,21 +45,14 @@ loop-holds c =
 
 next-term-requires : tie.Need-next-term-requires Inv-loop μ-loop
 next-term-requires c κs =
-    let p : tie.At-loop Inv-loop μ-loop = search in
-    let m : tie.After-multiples-of Inv-loop μ-loop = search in
-    let s : tie.Start Inv-loop μ-loop = search in
-    let t : length (m .multiples-of .last .0) ≡ 128 = m .multiples-of .kept .0 in
-    let i = p .loop .inv .1 in
-    (terms-ready _ _ _ _ _ _ _ (s .args .len - p .loop .left) _ _ _ (s .pre .0) (omega arith) (i .2) (i .1) (i .3), omega arith)
+    let p : tie.At-loop Inv-loop μ-loop = search in let m : tie.After-multiples-of Inv-loop μ-loop = search in
+    let s : tie.Start Inv-loop μ-loop = search in let t : length (m .multiples-of .last .0) ≡ 128 = m .multiples-of .kept .0 in let i = p .loop .inv .1 in
+    let ready = terms-ready _ _ _ _ _ _ (s .args .len - p .loop .left) _ _ _ (s .pre .0) (omega arith) (i .2) (i .1) (i .3) in search needs
 
 loop-again : tie.Need-loop-again Inv-loop μ-loop
-loop-again c =
-    let t : tie.After-next-term Inv-loop μ-loop = search in
-    let p : tie.At-loop Inv-loop μ-loop = search in
-    let s : tie.Start Inv-loop μ-loop = search in
-    let j : ℕ = s .args .len - p .loop .left in
-    let k : s .args .len - (p .loop .left - 1) ≡ j + 1 = omega arith in
-    let i = p .loop .inv .1 in (
+loop-again c = let t : tie.After-next-term Inv-loop μ-loop = search in let p : tie.At-loop Inv-loop μ-loop = search in
+    let s : tie.Start Inv-loop μ-loop = search in let j : ℕ = s .args .len - p .loop .left in
+    let k : s .args .len - (p .loop .left - 1) ≡ j + 1 = omega arith in let i = p .loop .inv .1 in (
       omega arith,
       (
         λ x e. (
@@ -73,14 +66,9 @@ loop-again c =
     )
 
 returns : tie.Need-returns Inv-loop μ-loop
-returns c =
-    let p : tie.At-loop Inv-loop μ-loop = search in
-    let m : tie.After-multiples-of Inv-loop μ-loop = search in
-    let s : tie.Start Inv-loop μ-loop = search in
-    let x = point (s .args .r) in
-    let i = p .loop .inv .1 in
-    let b = i .0 x (m .multiples-of .ensures) in
-    let e : s .args .len - p .loop .left ≡ s .args .len = omega arith in
+returns c = let p : tie.At-loop Inv-loop μ-loop = search in let m : tie.After-multiples-of Inv-loop μ-loop = search in
+    let s : tie.Start Inv-loop μ-loop = search in let x = point (s .args .r) in let i = p .loop .inv .1 in
+    let b = i .0 x (m .multiples-of .ensures) in let e : s .args .len - p .loop .left ≡ s .args .len = omega arith in
     let n : p .loop .count ≡ s .args .len * (s .args .n + 1) = rw e at (i .3) in (
       rw e at (b .0),
       rw e at (b .1),
@@ -88,14 +76,6 @@ returns c =
       λ h. let b = count-twice (s .args .n) (s .args .len) h in omega arith,
     )
 
-count-fits : tie.Need-add-t28 Inv-loop μ-loop
-count-fits c =
-    let p : tie.At-loop Inv-loop μ-loop = search in
-    let s : tie.Start Inv-loop μ-loop = search in
-    let f = count-small (s .args .n) (s .args .len - p .loop .left) (s .pre .0 .few) (let h = s .pre .0 .short in omega arith) in
-    let i = p .loop .inv .1 .3 in
-    omega (arith, s .pre .0 .count)
-
 pub values-at-spec : {M : Type 1} → statement M
-values-at-spec = tie.close (tie.spec Inv-loop μ-loop (λ c κs. search needs) (λ c. search needs) (λ c κs. search needs) loop-holds (λ c. search needs) next-term-requires
-    (λ c. search needs) (λ c. search needs) (λ c. search needs) loop-again count-fits (λ c. search needs) returns)
+values-at-spec = tie.close (tie.spec Inv-loop μ-loop (λ c κs. search needs) (λ c. search needs) (λ c κs. search needs) loop-holds (λ c. search needs)
+    next-term-requires (λ c. search needs) (λ c. search needs) (λ c. search needs) loop-again (λ c. search needs) returns)

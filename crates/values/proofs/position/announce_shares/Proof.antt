@@ -20,14 +20,13 @@ use Rattle.values.proofs.position.announce_shares.Statement.{statement}
 use Rattle.values.proofs.position.announce_shares.Tie as tie
 
 abbrev Inv-loop : tie.InvT-loop
-Inv-loop p n shares l qs ss ps leading multiplier factor out₀ start size room made₀ a₀ b₀ i₀ out made a b i =
+Inv-loop p n shares l words leading factors out₀ size room behind made₀ a₀ b₀ i₀ out made a b i =
     (i ≤ n) × (a ≡ i * shareLength p) × (b ≡ i * rowLength p)
-    × ((key : Key) (m2 : List ℕ) (first : Bool) → Valued p key first shares n (pointOf p m2 l) qs ss ps leading → Factors p m2 l multiplier factor
-    → EachAnnounced p key m2 first shares l out₀ out i)
-    × Left p out₀ out i n × (length out ≡ length out₀) × (made ≡ start + 2 * i)
+    × ((key : Key) (message2 : List ℕ) (first : Bool) → Valued p key first shares n (pointOf p message2 l) words leading → Factors p message2 l factors
+    → EachAnnounced p key message2 first shares l out₀ out i) × Left p out₀ out i n × (length out ≡ length out₀) × (made ≡ 2 * i)
 
 abbrev μ-loop : tie.MeasureT-loop
-μ-loop p n shares l qs ss ps leading multiplier factor out₀ start size room made₀ a₀ b₀ i₀ out made a b i = n - i
+μ-loop p n shares l words leading factors out₀ size room behind made₀ a₀ b₀ i₀ out made a b i = n - i
 
 abbrev back-to-start : tie.At-loop Inv-loop μ-loop → tie.Start Inv-loop μ-loop
 back-to-start c = search
@@ -42,71 +41,47 @@ back-to-room c = search
 inside : (q : tie.In-loop Inv-loop μ-loop)
     → (q .before .loop .a + back-to-size (q .before) .share-length .result ≤ length (back-to-start (q .before) .args .shares .now))
     × (q .before .loop .b + back-to-room (q .before) .row-length .result ≤ length (q .before .loop .out))
-inside q =
-    let s = back-to-start (q .before) in
-    let f = s .pre .0 in
-    let i = q .before .loop .inv in
+inside q = let s = back-to-start (q .before) in let f = s .pre .0 in let i = q .before .loop .inv in
     let a = within-blocks (q .before .loop .i) (s .args .n) _ (q .before .loop .a) _ (q .loop-test .taken) (i .1) (f .sized-shares) in
     let b = within-blocks (q .before .loop .i) (s .args .n) _ (q .before .loop .b) _ (q .loop-test .taken) (i .2) (i .5 ∙ f .sized-out) in
     (omega (arith, back-to-size (q .before) .share-length .ensures), omega (arith, back-to-room (q .before) .row-length .ensures))
 
 loop-holds : tie.Need-loop-holds Inv-loop μ-loop
-loop-holds c =
-    let s : tie.Start Inv-loop μ-loop = search in
-    (omega arith, omega arith, omega arith, (λ key m2 first v f j l. absurd (omega arith)), (λ j a b. refl), refl, omega arith)
-
-announce-share-requires : tie.Need-announce-share-requires Inv-loop μ-loop
-announce-share-requires c κs =
-    let q : tie.In-loop Inv-loop μ-loop = search in
-    let s = back-to-start (q .before) in
-    let f = s .pre .0 in
-    let h = inside q in
-    let i = q .before .loop .inv in
-    let sized-s = length-block (q .before .loop .a) _ (s .args .shares .now) (h .0) ∙ back-to-size (q .before) .share-length .ensures in
-    let sized-out = length-block (q .before .loop .b) _ (q .before .loop .out) (h .1) ∙ back-to-room (q .before) .row-length .ensures in
-    (search, omega (arith, i .6, f .few, s .pre .1))
+loop-holds c = let s : tie.Start Inv-loop μ-loop = search in
+    (omega arith, omega arith, omega arith, (λ key message2 first v f j l. absurd (omega arith)), (λ j a b. refl), refl, omega arith)
 
 loop-again : tie.Need-loop-again Inv-loop μ-loop
 unfolding part _⊕_
 loop-again c =
-    let d : tie.After-announce-share Inv-loop μ-loop = search in
-    let q : tie.In-loop Inv-loop μ-loop = search in
-    let s = back-to-start (q .before) in
-    let a = s .args in
-    let f = s .pre .0 in
-    let g = q .before .loop in
-    let h = inside q in
-    let u = d .announce-share .last .1 .1 .1 .1 .1 .1 .1 .1 .0 in
-    let n : length (g .out) ≡ a .n * rowLength (a .p) = g .inv .5 ∙ f .sized-out in
-    let size = back-to-size (q .before) .share-length .result in
-    let room = back-to-room (q .before) .row-length .result in
-    let es : size ≡ shareLength (a .p) = back-to-size (q .before) .share-length .ensures in
+    let d : tie.After-announce-share Inv-loop μ-loop = search in let q : tie.In-loop Inv-loop μ-loop = search in let s = back-to-start (q .before) in
+    let a = s .args in let f = s .pre .0 in let g = q .before .loop in let h = inside q in let u = d .announce-share .last .1 .1 .1 .1 .1 .1 .1 .0 in
+    let n : length (g .out) ≡ a .n * rowLength (a .p) = g .inv .5 ∙ f .sized-out in let size = back-to-size (q .before) .share-length .result in
+    let room = back-to-room (q .before) .row-length .result in let es : size ≡ shareLength (a .p) = back-to-size (q .before) .share-length .ensures in
     let er : room ≡ rowLength (a .p) = back-to-room (q .before) .row-length .ensures in
-    let eu : length u ≡ rowLength (a .p) = d .announce-share .kept .1 .1 .1 .1 .1 .1 .1 .1 .0 ∙ length-block (g .b) room (g .out) (h .1) ∙ er in
+    let eu : length u ≡ rowLength (a .p) = d .announce-share .kept .1 .1 .1 .1 .1 .1 .1 .0 ∙ length-block (g .b) room (g .out) (h .1) ∙ er in
     let k : g .a + size - g .a ≡ shareLength (a .p) = omega arith in (
       omega arith,
       ap (_+_ (g .a)) es ∙ next-block (g .i) _ (g .a) (g .inv .1),
       ap (_+_ (g .b)) er ∙ next-block (g .i) _ (g .b) (g .inv .2),
-      λ key m2 first v w. each-turn (a .p) (a .out .now) (g .out) u _ (a .n) (g .i) (g .b) room er (q .loop-test .taken) n (g .inv .2) eu refl key m2 first (a .shares .now) (a .l)
-          (share-made (a .p) key m2 first (a .shares .now) (a .l) (a .n) (g .i) _ _ _ _ _ _ _ (q .loop-test .taken) v w
+      λ key message2 first v w. each-turn (a .p) (a .out .now) (g .out) u _ (a .n) (g .i) (g .b) room er (q .loop-test .taken) n
+          (g .inv .2) eu refl key message2 first (a .shares .now) (a .l)
+          (share-made (a .p) key message2 first (a .shares .now) (a .l) (a .n) (g .i) _ _ _ _ (q .loop-test .taken) v w
           (ap₂ (λ (m m′ : ℕ). take m (drop m′ (a .shares .now))) k (g .inv .1)) _ _ (d .announce-share .ensures .0))
-          (g .inv .4) (g .inv .3 key m2 first v w),
+          (g .inv .4) (g .inv .3 key message2 first v w),
       left-turn (a .p) (a .out .now) (g .out) u _ (a .n) (g .i) (g .b) room er (q .loop-test .taken) n (g .inv .2) eu refl (g .inv .4),
       middle-kept (g .b) (g .b + room - g .b) u (g .out) (eu ∙ omega arith) (omega (arith, h .1)) ∙ g .inv .5,
       omega (arith, d .announce-share .ensures .1, g .inv .6),
     )
 
 returns : tie.Need-returns Inv-loop μ-loop
-returns c =
-    let q : tie.At-loop Inv-loop μ-loop = search in
-    let s = back-to-start q in
-    let e : q .loop .i ≡ s .args .n = omega arith in
-    (λ key m2 first v w j l. q .loop .inv .3 key m2 first v w j (omega arith), omega arith)
+returns c = let q : tie.At-loop Inv-loop μ-loop = search in let s = back-to-start q in let e : q .loop .i ≡ s .args .n = omega arith in
+    (λ key message2 first v w j l. q .loop .inv .3 key message2 first v w j (omega arith), omega arith)
 
 pub announce-shares-spec : {M : Type 1} → statement M
-announce-shares-spec = tie.close (tie.spec Inv-loop μ-loop (λ c κs. search needs) (λ c κs. search needs) loop-holds (λ c. omega (arith, inside c .0))
-    (λ c. let q : tie.In-loop Inv-loop μ-loop = search in let s = back-to-start (q .before) in omega (arith, inside q .1, q .before .loop .inv .5, s .fits))
-    (λ c. search needs) (λ c. search needs) (λ c. let q : tie.In-loop Inv-loop μ-loop = search in omega (arith, inside q .0)) (λ c. search needs)
+announce-shares-spec = tie.close (tie.spec Inv-loop μ-loop (λ c κs. search needs) (λ c κs. search needs) (λ c. search needs) (λ c. search needs)
+    loop-holds (λ c. omega (arith, inside c .0)) (λ c. let q : tie.In-loop Inv-loop μ-loop = search in let s = back-to-start (q .before) in
+    omega (arith, inside q .1, q .before .loop .inv .5, s .fits)) (λ c. search needs) (λ c. search needs)
+    (λ c. let q : tie.In-loop Inv-loop μ-loop = search in omega (arith, inside q .0)) (λ c. search needs) (λ c. search needs) (λ c. search needs)
     (λ c. search needs) (λ c. search needs) (λ c. search needs) (λ c. search needs) (λ c. search needs) (λ c. search needs) (λ c. search needs)
-    (λ c. let q : tie.In-loop Inv-loop μ-loop = search in omega (arith, inside q .1)) announce-share-requires (λ c. search needs) (λ c. search needs)
-    loop-again (λ c. search needs) returns)
+    (λ c. let q : tie.In-loop Inv-loop μ-loop = search in omega (arith, inside q .1)) (λ c κs. search needs) (λ c. search needs) (λ c. search needs)
+    (λ c. search needs) loop-again (λ c. search needs) returns)

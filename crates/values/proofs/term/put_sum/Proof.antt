@@ -9,12 +9,8 @@ use Rattle.values.proofs.term.put_sum.Statement.{statement}
 use Rattle.values.proofs.term.put_sum.Tie as tie
 
 returns : tie.Need-returns
-returns c =
-    let w : tie.After-put-point = search in
-    let a : tie.After-sum = search in
-    let q : tie.After-point-of = search in
-    let s : tie.Start = search in
-    λ v y ev ex. w .put-point .ensures
+returns c = let w : tie.After-put-point = search in let a : tie.After-sum = search in let q : tie.After-point-of = search in
+    let s : tie.Start = search in λ v y ev ex. w .put-point .ensures
     ∙ ap (putAt (s .args .out .now) (s .args .at)) (sum-made _ _ _ v y (q .point-of .ensures ∙ ap (bytes 4) ev ∙ bytes-wordOf v) ex (a .sum .ensures))
 
 pub put-sum-spec : {M : Type 1} → statement M

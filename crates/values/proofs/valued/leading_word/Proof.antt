@@ -10,9 +10,7 @@ use Rattle.values.proofs.valued.leading_word.Statement.{statement}
 use Rattle.values.proofs.valued.leading_word.Tie as tie
 
 returns : tie.Need-returns
-returns c =
-    let t : tie.Then1 = search in
-    let s : tie.Start = search in
+returns c = let t : tie.Then1 = search in let s : tie.Start = search in
     c .word-of .ensures ∙ ap (λ (b : Bool). wordOf (cond b (point (s .args .power)) 𝟎)) (sym (t .if1 .taken))
 
 returns-2 : tie.Need-returns-2

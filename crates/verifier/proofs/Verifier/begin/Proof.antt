@@ -10,13 +10,10 @@ returns : tie.Need-returns
 unfolding begin
 returns c = refused-call _ _ _ _ (c .before .before .begin-checks .ensures) (c .enum-told2 .given .0 .0) (c .enum-told2 .given .1)
 
-array64-requires : tie.Need-array64-requires
-array64-requires c κs = begin-passed _ _ (sym (c .before .before .begin-checks .ensures) ∙ c .enum-told .given .1)
-
 returns-2 : tie.Need-returns-2
 unfolding begin begun
 returns-2 c = rw (c .array64 .ensures) (done-call _ _ _ _ (c .before .before .before .begin-checks .ensures) (c .before .enum-told .given .1))
 
 pub begin-spec : {M : Type 1} → statement M
-begin-spec =
-    tie.close (tie.spec (λ c κs. search needs) (λ c. search needs) (λ c. search needs) returns array64-requires returns-2)
+begin-spec = tie.close (tie.spec (λ c κs. search needs) (λ c. search needs) (λ c. search needs) returns
+    (λ c κs. begin-passed _ _ (sym (c .before .before .begin-checks .ensures) ∙ c .enum-told .given .1)) returns-2)

@@ -16,15 +16,12 @@ answers c = let s = start c .args .self in c .leaf-checks .ensures (s .message1)
 
 returns : tie.Need-returns
 unfolding leaf
-returns c =
-    let called : tie.After-leaf-checks = search in
+returns c = let called : tie.After-leaf-checks = search in
     refused-call _ _ _ _ (answers called) (c .enum-told2 .given .0 .0) (c .enum-told2 .given .1)
 
 returns-2 : tie.Need-returns-2
 unfolding leaf chosen
-returns-2 c =
-    let called : tie.After-leaf-checks = search in
-    let f = c .before .before .before in
+returns-2 c = let called : tie.After-leaf-checks = search in let f = c .before .before .before in
     done-call _ _ _ _ (answers called) (f .enum-told .given .1)
 
 pub leaf-spec : {M : Type 1} → statement M

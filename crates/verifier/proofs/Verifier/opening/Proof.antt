@@ -17,23 +17,17 @@ answers : (c : tie.After-opening-checks) → (let a = start c .args in c .openin
 answers c = let s = start c .args .self in c .opening-checks .ensures (s .message1) (s .message2) (s .message3)
 
 returns : tie.Need-returns
-returns c =
-    let called : tie.After-opening-checks = search in
+returns c = let called : tie.After-opening-checks = search in
     refused-opening _ _ _ _ _ _ (answers called) (c .enum-told2 .given .0 .0) (c .enum-told2 .given .1)
 
 judge-requires : tie.Need-judge-requires
-judge-requires c κs =
-    let called : tie.After-opening-checks = search in
-    let f = c .before in
+judge-requires c κs = let called : tie.After-opening-checks = search in let f = c .before in
     opening-passed _ _ _ _ _ (sym (answers called) ∙ f .enum-told .given .1)
 
 returns-2 : tie.Need-returns-2
-returns-2 c =
-    let called : tie.After-opening-checks = search in
-    let verdict = c .before .before .before in
-    let f = verdict .before .before in
+returns-2 c = let called : tie.After-opening-checks = search in let verdict = c .before .before .before in let f = verdict .before .before in
     judged-opening _ _ _ _ _ _ (answers called) _ _ _ (verdict .judge .ensures .0) (c .ended .ensures) (verdict .judge .ensures .1) (f .enum-told .given .1)
 
 pub opening-spec : {M : Type 1} → statement M
-opening-spec = tie.close (tie.spec (λ c κs. search needs) (λ c. search needs) (λ c. search needs) (λ c. search needs)
-    returns judge-requires (λ c κs. search needs) (λ c. search needs) returns-2)
+opening-spec = tie.close (tie.spec (λ c κs. search needs) (λ c. search needs) (λ c. search needs) (λ c. search needs) returns judge-requires
+    (λ c κs. search needs) (λ c. search needs) returns-2)

@@ -17,24 +17,17 @@ answers c = let s = start c .args .self in c .points-checks .ensures (s .message
 
 returns : tie.Need-returns
 unfolding points
-returns c =
-    let called : tie.After-points-checks = search in
+returns c = let called : tie.After-points-checks = search in
     refused-call _ _ _ _ (answers called) (c .enum-told2 .given .0 .0) (c .enum-told2 .given .1)
 
 padded64-requires : tie.Need-padded64-requires
-padded64-requires c κs =
-    let called : tie.After-points-checks = search in
-    let f = c .before in
-    let known = points-passed _ _ (sym (answers called) ∙ f .enum-told .given .1) in
-    omega (arith, known .within .t-most, known .size)
+padded64-requires c κs = let called : tie.After-points-checks = search in let f = c .before in
+    let known = points-passed _ _ (sym (answers called) ∙ f .enum-told .given .1) in omega (arith, known .within .t-most, known .size)
 
 returns-2 : tie.Need-returns-2
 unfolding points pointed
-returns-2 c =
-    let called : tie.After-points-checks = search in
-    let f = c .before .before .before in
+returns-2 c = let called : tie.After-points-checks = search in let f = c .before .before .before in
     rw (c .before .padded64 .ensures) (done-call _ _ _ _ (answers called) (f .enum-told .given .1))
 
 pub points-spec : {M : Type 1} → statement M
-points-spec =
-    tie.close (tie.spec (λ c κs. search needs) (λ c. search needs) (λ c. search needs) returns padded64-requires returns-2)
+points-spec = tie.close (tie.spec (λ c κs. search needs) (λ c. search needs) (λ c. search needs) returns padded64-requires returns-2)

@@ -16,23 +16,17 @@ answers c = let s = start c .args .self in c .response-checks .ensures (s .messa
 
 returns : tie.Need-returns
 unfolding response
-returns c =
-    let called : tie.After-response-checks = search in
+returns c = let called : tie.After-response-checks = search in
     refused-call _ _ _ _ (answers called) (c .enum-told2 .given .0 .0) (c .enum-told2 .given .1)
 
 array32-requires : tie.Need-array32-requires
-array32-requires c κs =
-    let called : tie.After-response-checks = search in
-    let f = c .before .before in
+array32-requires c κs = let called : tie.After-response-checks = search in let f = c .before .before in
     response-passed _ _ (sym (answers called) ∙ f .enum-told .given .1)
 
 returns-2 : tie.Need-returns-2
 unfolding response responded
-returns-2 c =
-    let called : tie.After-response-checks = search in
-    let f = c .before .before .before in
+returns-2 c = let called : tie.After-response-checks = search in let f = c .before .before .before in
     rw (c .array32 .ensures) (done-call _ _ _ _ (answers called) (f .enum-told .given .1))
 
 pub response-spec : {M : Type 1} → statement M
-response-spec =
-    tie.close (tie.spec (λ c κs. search needs) (λ c. search needs) (λ c. search needs) returns array32-requires returns-2)
+response-spec = tie.close (tie.spec (λ c κs. search needs) (λ c. search needs) (λ c. search needs) returns array32-requires returns-2)

@@ -8,20 +8,15 @@ use Rattle.seedtree.specs.Way.Laws.{side-le, skipped-least}
 use Rattle.seedtree.proofs.nodes.Way.next.Statement.{statement}
 use Rattle.seedtree.proofs.nodes.Way.next.Tie as tie
 
-add-t5 : tie.Need-add-t5
-add-t5 c = omega (arith, c .before .before .side .ensures, side-le (c .before .before .before .args .self))
-
-sub-t6 : tie.Need-sub-t6
-sub-t6 c = omega (arith, c .before .before .skipped .ensures, skipped-least (c .before .before .before .before .args .self))
-
 at : Way → ℕ → ℕ → Way
 at w side skipped = record { node = 2 * w .node + side; leaf = w .leaf - skipped; size = w .size / 2 }
 
 returns : tie.Need-returns
 unfolding next at
-returns c =
-    let made = c .before .before .before in
+returns c = let made = c .before .before .before in
     λ t. at (made .before .before .args .self) (made .before .side .ensures t) (made .skipped .ensures t)
 
 pub next-spec : {M : Type 1} → statement M
-next-spec = tie.close (tie.spec (λ c κs. search needs) (λ c κs. search needs) (λ c. search needs) add-t5 sub-t6 returns)
+next-spec = tie.close (tie.spec (λ c κs. search needs) (λ c κs. search needs) (λ c. search needs)
+    (λ c. omega (arith, c .before .before .side .ensures, side-le (c .before .before .before .args .self)))
+    (λ c. omega (arith, c .before .before .skipped .ensures, skipped-least (c .before .before .before .before .args .self))) returns)

@@ -9,19 +9,13 @@ returns : tie.Need-returns
 unfolding wordStep
 returns c = rw (le-ltb _ _ (c .if1 .taken))
 
-shared-slice-read-if2 : tie.Need-shared-slice-read-if2
-shared-slice-read-if2 c = search needs
-
 returns-2 : tie.Need-returns-2
 unfolding wordStep
 returns-2 c = rw (lt-ltb _ _ (c .before .before .if1 .left), ne-eqb _ _ (c .if2 .taken))
-
-add-t5 : tie.Need-add-t5
-add-t5 c = search needs
 
 returns-3 : tie.Need-returns-3
 unfolding wordStep
 returns-3 c = rw (lt-ltb _ _ (c .before .before .if1 .left), eq-eqb _ _ (c .if2 .left))
 
 pub push-spec : {M : Type 1} → statement M
-push-spec = tie.close (tie.spec returns shared-slice-read-if2 returns-2 add-t5 returns-3)
+push-spec = tie.close (tie.spec returns (λ c. search needs) returns-2 (λ c. search needs) returns-3)
