@@ -1,4 +1,4 @@
-//! The calls that the program `proving` makes at the shipped set: what it must print, by the second implementation.
+//! The calls that the program `test_prover` makes at the shipped set: what it must print, by the second implementation.
 
 use crate::count::Count;
 use reference::key::PublicKey;
@@ -88,8 +88,8 @@ pub fn compare(printed: &str, count: &mut Count) {
     for (place, line) in expected.lines().enumerate() {
         let found = printed.lines().nth(place).unwrap_or("no line");
         let outcome = if found == line { Ok(()) } else { Err(format!("'{found}' for '{line}'")) };
-        count.settle(&format!("proving, line {}", place + 1), outcome);
+        count.settle(&format!("test_prover, line {}", place + 1), outcome);
     }
     let same = printed.lines().count() == expected.lines().count();
-    count.settle("proving", if same { Ok(()) } else { Err("another number of lines".to_string()) });
+    count.settle("test_prover", if same { Ok(()) } else { Err("another number of lines".to_string()) });
 }

@@ -14,7 +14,7 @@ fn main() {
         }
     };
     let mut count = Count::default();
-    let printed = concat!(env!("CARGO_MANIFEST_DIR"), "/../../crates/proving/stdout");
+    let printed = concat!(env!("CARGO_MANIFEST_DIR"), "/../../crates/test_prover/stdout");
     fixed::compare(&std::fs::read_to_string(printed).unwrap_or_default(), &mut count);
     prover::extremes(seed, &mut count);
     prover::scripts(seed, 0..400, &mut count);
