@@ -3,7 +3,7 @@ the permutation, and how often it was called, parted by tabs."""
 import re
 import sys
 
-PERMUTATION = re.compile(r"keccak::permute|Sponge::permuted")
+PERMUTATION = re.compile(r"keccak::permute|shake256::permute_lanes")
 
 
 def read(path):

@@ -3,7 +3,6 @@
 --   Field2 K              a ring of characteristic 2 where 1 is not 0, equality with 0 is decided, and what is not 0 has an inverse
 use mathlib.Core.Path.{_≡_}
 use Rattle.algebra.specs.Ring.{Ring2}
-use Rattle.algebra.specs.Ring.Laws.{ring}
 pub mod Laws
 
 pub record Field2 (K : Type 0) : Type 0 where

@@ -3,7 +3,7 @@
 -- RowsAsked          all that the rows of all axes take: the sums of the work area, message 2, the key, α and β of the hidden leaf, room for the rows
 -- SomeAsked          some of the sums, message 2 and the key, and room for their blocks
 -- EvaluateAsked      the same of all sums
--- BlocksAsked        the sums with their blocks, α and β of the hidden leaf
+-- AllAsked           the sums, α and β of the hidden leaf, and room for the rows of all axes
 -- SumsAsked          the sums with their blocks, α̂ and β̂
 -- TotalAsked         the same with α and β of the hidden leaf, and room for the row of the sum of all disclosed leaves
 -- RowAsked           the share, its block, α̂ and β̂
@@ -13,17 +13,17 @@ use Prim.Native.Nat.{ℕ, _-_, _*_, _≤_}
 use lib.ListN.{length}
 use Rattle.parameters.specs.declared.Parameters.{Parameters}
 use Rattle.parameters.specs.Limits.{Within}
-use Rattle.layout.specs.Layout.{sumCount, valuesLength, rowLength, axisLength, shareLength, message2Length}
+use Rattle.layout.specs.Layout.{sumsLength, blocksLength, valuesLength, rowLength, shareLength, message2Length, rowsLength}
 pub mod Laws
 
 pub record RowsAsked (p : Parameters) (sums m2 matrix y hidden rows : List ℕ) : Type 0 where
   pub within : Within p
-  pub sized-parts : length sums ≡ sumCount p * shareLength p
+  pub sized-parts : length sums ≡ sumsLength p
   pub sized-m2 : length m2 ≡ message2Length p
   pub sized-matrix : length matrix ≡ (p .m - p .k) * p .k
   pub sized-y : length y ≡ p .m - p .k
   pub sized-hidden : length hidden ≡ valuesLength p
-  pub sized-rows : length rows ≡ p .axes * axisLength p
+  pub sized-rows : length rows ≡ rowsLength p
 
 pub record SomeAsked (p : Parameters) (n : ℕ) (sums m2 matrix y blocks : List ℕ) : Type 0 where
   pub within : Within p
@@ -36,22 +36,22 @@ pub record SomeAsked (p : Parameters) (n : ℕ) (sums m2 matrix y blocks : List 
 
 pub record EvaluateAsked (p : Parameters) (sums m2 matrix y blocks : List ℕ) : Type 0 where
   pub within : Within p
-  pub sized-parts : length sums ≡ sumCount p * shareLength p
+  pub sized-parts : length sums ≡ sumsLength p
   pub sized-m2 : length m2 ≡ message2Length p
   pub sized-matrix : length matrix ≡ (p .m - p .k) * p .k
   pub sized-y : length y ≡ p .m - p .k
-  pub sized-blocks : length blocks ≡ sumCount p * rowLength p
+  pub sized-blocks : length blocks ≡ blocksLength p
 
-pub record BlocksAsked (p : Parameters) (sums blocks hidden : List ℕ) : Type 0 where
+pub record AllAsked (p : Parameters) (sums hidden rows : List ℕ) : Type 0 where
   pub within : Within p
-  pub sized-parts : length sums ≡ sumCount p * shareLength p
-  pub sized-blocks : length blocks ≡ sumCount p * rowLength p
+  pub sized-parts : length sums ≡ sumsLength p
   pub sized-hidden : length hidden ≡ valuesLength p
+  pub sized-rows : length rows ≡ rowsLength p
 
 pub record SumsAsked (p : Parameters) (sums blocks hats : List ℕ) : Type 0 where
   pub within : Within p
-  pub sized-parts : length sums ≡ sumCount p * shareLength p
-  pub sized-blocks : length blocks ≡ sumCount p * rowLength p
+  pub sized-parts : length sums ≡ sumsLength p
+  pub sized-blocks : length blocks ≡ blocksLength p
   pub sized-hats : length hats ≡ valuesLength p
 
 pub record TotalAsked (p : Parameters) (sums blocks hidden hats total : List ℕ) : Type 0 where

@@ -10,7 +10,7 @@ use lib.ListN.{length}
 use Rattle.lists.specs.Part.{part}
 use Rattle.parameters.specs.declared.Parameters.{Parameters}
 use Rattle.parameters.specs.Limits.{Within}
-use Rattle.layout.specs.Layout.{axisLength}
+use Rattle.layout.specs.Layout.{axisLength, rowsLength}
 use Rattle.exchange.specs.Strings.{string, string7}
 
 abbrev pub rowString : Parameters → List ℕ → List ℕ → ℕ → List ℕ
@@ -21,4 +21,4 @@ rowsString hash p prefix rows = string7 prefix (λ j. hash (rowString p prefix r
 
 pub record ResponseAsked (p : Parameters) (rows : List ℕ) : Type 0 where
   pub within : Within p
-  pub sized-rows : length rows ≡ p .axes * axisLength p
+  pub sized-rows : length rows ≡ rowsLength p

@@ -27,7 +27,7 @@ use Rattle.lists.specs.Sum.{xorList, xorAt}
 use Rattle.lists.specs.Sum.Laws.{length-xorList}
 use Rattle.tower.specs.Field.{Point}
 use Rattle.parameters.specs.declared.Parameters.{Parameters}
-use Rattle.layout.specs.Layout.{side, others, sumCount, sumIndex, valuesLength, rowLength, axisLength, atV}
+use Rattle.layout.specs.Layout.{side, others, sumCount, blocksLength, sumIndex, valuesLength, rowLength, axisLength, atV}
 use Rattle.layout.specs.Layout.Laws.{side-others, index-lt}
 use Rattle.exchange.specs.Sequences.{joined}
 use Rattle.exchange.specs.Sequences.Laws.{joined-ext, length-joined, part-joined}
@@ -41,14 +41,13 @@ use Rattle.parties.specs.Sums.{less, withLast}
 use Rattle.parties.specs.Totals.{less-ext}
 use Rattle.axes.specs.Row.{frontBy, vAt, vBy, rowBy, hiddenParty, hidingBy, withHiding, axisBy}
 use Rattle.axes.specs.Axes.{partyRow, formulaRows, hatsOf, rowsBy}
-use Rattle.axes.specs.Asked.{BlocksAsked}
 
 sized-row : (p : Parameters) (b : List ℕ) (f : ℕ → Point) → length b ≡ rowLength p → length (take (valuesLength p) b ++ encode f (p .t)) ≡ rowLength p
 sized-row p b f e =
     length-append (take (valuesLength p) b) (encode f (p .t))
     ∙ ap₂ _+_ (length-take-le (valuesLength p) b (omega arith)) (length-encode f (p .t)) ∙ omega arith
 
-module _ (p : Parameters) (sums blocks hats : List ℕ) (sized : length blocks ≡ sumCount p * rowLength p) (j : ℕ) (inside : j < p .axes) where
+module _ (p : Parameters) (sums blocks hats : List ℕ) (sized : length blocks ≡ blocksLength p) (j : ℕ) (inside : j < p .axes) where
   pub length-partyRow : (c : ℕ) → c < others p → length (partyRow p sums blocks hats j c) ≡ rowLength p
   unfolding partyRow rowBy frontBy vBy
   length-partyRow c h =
@@ -104,7 +103,7 @@ put-behind u v d a e h =
     let k : length (u ++ drop a d) ≤ a + length v = omega (arith, length-append u (drop a d), length-drop a d) in
     ap₂ _++_ (take-at u (drop a d) a e) (ap (_++_ v) (drop-of-length-le (u ++ drop a d) k) ∙ append-nil v)
 
-module _ (p : Parameters) (sums blocks hats total : List ℕ) (sized : length blocks ≡ sumCount p * rowLength p) (sized-total : length total ≡ rowLength p) where
+module _ (p : Parameters) (sums blocks hats total : List ℕ) (sized : length blocks ≡ blocksLength p) (sized-total : length total ≡ rowLength p) where
   length-formula : (j : ℕ) → j < p .axes → length (formulaRows p sums blocks hats total j) ≡ axisLength p
   unfolding formulaRows
   length-formula j h = length-joined _ (side p) (rowLength p) (length-last p total (partyRow p sums blocks hats j) sized-total (length-partyRow p sums blocks hats sized j h))
@@ -123,16 +122,17 @@ unfolding hidingBy putAt
 hiding-put p hidden total e = let k : 0 + length hidden ≡ atV p = omega arith in ap (λ (n : ℕ). hidden ++ drop n total) k
 
 -- the hats h and the row w of all disclosed leaves, then the rows by the formula, then what the hidden leaf adds
-pub all-made : (p : Parameters) (sums blocks : List ℕ) (leaf : ℕ) (hidden : List ℕ) → BlocksAsked p sums blocks hidden → (h w hiding rows : List ℕ)
+pub all-made : (p : Parameters) (sums blocks : List ℕ) (leaf : ℕ) (hidden : List ℕ) → length blocks ≡ blocksLength p
+    → length hidden ≡ valuesLength p → (h w hiding rows : List ℕ)
     → h ≡ hatsOf p blocks leaf hidden → w ≡ rowBy p true (shareOf p sums (p .axes)) (blockOf p blocks (p .axes)) h → length w ≡ rowLength p
     → hiding ≡ putAt w 0 hidden → rows ≡ joined (formulaRows p sums blocks h w) (p .axes)
     → joined (λ j. withHiding p (hiddenParty p leaf j) hiding (part rows (j * axisLength p) (axisLength p))) (p .axes) ≡ rowsBy p sums blocks leaf hidden
 unfolding rowsBy
-all-made p sums blocks leaf hidden asked h w hiding rows eh ew sized e er =
-    let put = hiding-put p hidden w (asked .sized-hidden) in
-    let long : length (hidingBy p hidden w) ≡ rowLength p = ap length (sym put) ∙ length-putAt w 0 hidden (omega (arith, asked .sized-hidden)) ∙ sized in
+all-made p sums blocks leaf hidden sized-blocks sized-hidden h w hiding rows eh ew sized e er =
+    let put = hiding-put p hidden w sized-hidden in
+    let long : length (hidingBy p hidden w) ≡ rowLength p = ap length (sym put) ∙ length-putAt w 0 hidden (omega arith) ∙ sized in
     ap₂ (λ (d r : List ℕ). joined (λ j. withHiding p (hiddenParty p leaf j) d (part r (j * axisLength p) (axisLength p))) (p .axes)) (e ∙ put) er
-    ∙ rows-hidden p sums blocks h w (asked .sized-blocks) sized leaf (hidingBy p hidden w) long
+    ∙ rows-hidden p sums blocks h w sized-blocks sized leaf (hidingBy p hidden w) long
     ∙ ap₂ (λ (h w : List ℕ). joined (λ j. axisBy p w (partyRow p sums blocks h j) (hiddenParty p leaf j) (hidingBy p hidden w)) (p .axes)) eh
     (ew ∙ ap (rowBy p true (shareOf p sums (p .axes)) (blockOf p blocks (p .axes))) eh)
 

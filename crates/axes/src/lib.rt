@@ -9,9 +9,7 @@ mod total;
 use crate::rows::put_all;
 use crate::total::evaluate;
 use bytefield::field_tables;
-use layout::MOST_BLOCKS;
-use layout::row_length;
-use layout::sum_count;
+use layout::blocks_length;
 use parameters::Parameters;
 ghost use mathlib.Core.Path.{_≡_};
 ghost use Rattle.exchange.specs.Sequences.{joined};
@@ -38,17 +36,8 @@ pub fn axis_rows(
         «hidden_leaf» (now («hidden_values» .entry))) (p .axes)) × (c ≡ productsMade p) ⌝ }
 {
     let tables = field_tables();
-    let mut blocks = [0u8; MOST_BLOCKS];
-    let b = sum_count(p) * row_length(p);
-    let made = evaluate(p, sums, message2, matrix, y, &mut blocks[..b], &tables);
-    put_all(
-        p,
-        sums,
-        &blocks[..b],
-        hidden_leaf,
-        hidden_values,
-        rows,
-        &tables,
-    );
+    let b = blocks_length(p);
+    let made = evaluate(p, sums, message2, matrix, y, &mut rows[..b], &tables);
+    put_all(p, sums, hidden_leaf, hidden_values, rows, &tables);
     made
 }

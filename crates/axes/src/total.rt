@@ -2,6 +2,7 @@
 use crate::hidden::add_hidden;
 use crate::row::put_front;
 use crate::row::put_row;
+use layout::MOST_COEFFICIENTS;
 use layout::row_length;
 use layout::share_length;
 use layout::sum_count;
@@ -18,9 +19,6 @@ ghost use Rattle.axes.specs.Row.{rowBy, hatsBy};
 ghost use Rattle.axes.specs.Axes as spec;
 ghost use Rattle.axes.specs.Axes.{Evaluated, productsMade};
 ghost use Rattle.axes.specs.Asked.{EvaluateAsked, SomeAsked, TotalAsked};
-
-// S of nine shares, and F, at m 255.
-const LONGEST_BATCH: usize = 2550;
 
 // How many sums have the constants in their blocks, where `first`, or else none.
 fn batch(p: Parameters, first: bool) -> usize
@@ -49,7 +47,7 @@ fn evaluate_some(
     ensures { λ c. ⌜ Announcements p (keyOf (now (matrix .entry)) (now (y .entry))) (now (message2 .entry)) first (now (sums .entry)) (spec.batch p first)
         (now (blocks .exit)) × (c ≡ productsOf p (spec.batch p first)) ⌝ }
 {
-    let mut rows = [0u8; LONGEST_BATCH];
+    let mut rows = [0u8; MOST_COEFFICIENTS];
     let n = batch(p, first);
     let e = (n + 1) * p.m;
     coefficients::interpolate_each(p, n, sums, matrix, y, first, &mut rows[..e], tables);

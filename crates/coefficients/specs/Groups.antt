@@ -14,17 +14,20 @@ use mathlib.Core.List.{List, _++_}
 use Prim.Native.Nat.{ℕ, _+_, _-_, _*_, _≤_, _<_}
 use native.Mathlib.Nat.{add-mul, mul-le-mul-right}
 use native.Mathlib.Omega.{arith}
-use lib.ListN.{length, take, drop, replicate, length-take, length-drop}
+use lib.ListN.{length, getD, take, drop, replicate, length-take, length-drop}
 use lib.Seq.{take-at, drop-at, length-take-le}
 use Rattle.lists.specs.Part.{part}
 use Rattle.lists.specs.Part.Laws.{part-part, part-fits, tail-back}
 use Rattle.parameters.specs.declared.Parameters.{Parameters}
 use Rattle.polynomial.specs.Interpolant.{interpolantOf, vanishingOf}
 use Rattle.exchange.specs.Sequences.{joined}
-use Rattle.exchange.specs.Sequences.Laws.{joined-ext}
+use Rattle.exchange.specs.Sequences.Laws.{joined-ext, part-joined}
 use Rattle.layout.specs.Layout.{shareLength}
 use Rattle.exchange.specs.Values.{Key, xOf, SOf, F}
 use Rattle.packed.specs.Share.{share}
+use Rattle.packed.specs.Share.Laws.{length-share}
+use Rattle.interpolants.specs.Words.{wordsOf}
+use Rattle.interpolants.specs.Words.Laws.{share-words}
 use Rattle.interpolants.specs.Shares.{share-end}
 use Rattle.coefficients.specs.Shares.{shareOf}
 
@@ -55,17 +58,19 @@ share-group p shares i c a z j ea ez l =
 abbrev pub rowOf : Parameters → Key → Bool → List ℕ → ℕ → List ℕ
 rowOf p key first shares i = SOf p key first (shareOf p shares i)
 
--- v is what the front of the words becomes, and words what interpolates it
-pub rows-made : (p : Parameters) (key : Key) (first : Bool) (shares : List ℕ) (n m : ℕ) (v rest words out : List ℕ) → n ≤ 8 → length v ≡ m
-    → ((i : ℕ) → i < n → share i v ≡ xOf p key first (shareOf p shares i))
-    → ((i : ℕ) → i < 8 → share i words ≡ replicate (255 - m) 0 ++ interpolantOf (share i (take m (v ++ rest))))
+-- v is what the front of the words becomes, rows its shares one after another, and words what interpolates these
+pub rows-made : (p : Parameters) (key : Key) (first : Bool) (shares : List ℕ) (n m : ℕ) (v rest rows words out : List ℕ) → n ≤ 8 → length v ≡ m
+    → length rows ≡ n * m → ((k : ℕ) → getD rows k 0 < 256) → ((i : ℕ) → i < n → share i v ≡ xOf p key first (shareOf p shares i))
+    → rows ≡ joined (λ i. share i (take m (v ++ rest))) n
+    → ((i : ℕ) → i < 8 → share i words ≡ replicate (255 - m) 0 ++ interpolantOf (share i (wordsOf rows n m)))
     → out ≡ joined (λ i. share i (take (length words - (255 - m)) (drop (255 - m) words))) n
     → out ≡ joined (rowOf p key first shares) n
 unfolding SOf
-rows-made p key first shares n m v rest words out few lv ev ei eo =
+rows-made p key first shares n m v rest rows words out few lv lr bytes ev er ei eo =
+    let vector : (i : ℕ) → i < n → part rows (i * m) m ≡ share i v
+    = rw (er, take-at v rest m lv) (part-joined (λ i. share i v) m n (λ i h. length-share i v ∙ lv)) in
     eo ∙ joined-ext _ (rowOf p key first shares) n
-    (λ i h. share-end i m words _ (ei i (omega arith))
-    ∙ ap (λ (x : List ℕ). interpolantOf (share i x)) (take-at v rest m lv) ∙ ap interpolantOf (ev i h))
+    (λ i h. share-end i m words _ (ei i (omega arith)) ∙ ap interpolantOf (share-words rows n m lr bytes i h ∙ vector i h ∙ ev i h))
 
 -- rows is what the group that is lent from share i on leaves
 pub rows-from : (p : Parameters) (key : Key) (first : Bool) (shares rows : List ℕ) (i c a z : ℕ) → a ≡ i * shareLength p → z ≡ c * shareLength p

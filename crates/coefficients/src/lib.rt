@@ -55,10 +55,12 @@ fn interpolate_group(
 {
     let mut a = [0u64; 255];
     let m = p.m;
-    crate::sidebyside::vectors(p, group.n, shares, matrix, y, group.first, &mut a[..m]);
-    interpolants::interpolate(&mut a, m, factors, tables);
+    let n = group.n;
+    crate::sidebyside::vectors(p, n, shares, matrix, y, group.first, &mut a[..m]);
+    unpack(&a[..m], n, rows);
+    interpolants::interpolate(&mut a, rows, n, m, factors, tables);
     let d = 255 - m;
-    unpack(&a[d..], group.n, rows);
+    unpack(&a[d..], n, rows);
 }
 
 // How many shares the next group has, of those that are left.

@@ -10,18 +10,17 @@
 use mathlib.Core.Path.{_≡_}
 use mathlib.Core.Bool.{true, false}
 use mathlib.Core.List.{List}
-use Prim.Native.Nat.{ℕ, _*_, _≤_, _<_}
+use Prim.Native.Nat.{ℕ, _≤_, _<_}
 use lib.ListN.{length}
 use Rattle.parameters.specs.declared.Parameters.{Parameters}
 use Rattle.parameters.specs.Limits.{Within}
-use Rattle.layout.specs.Layout.{leaves, isLast, auxLength, outputLength, axisLength}
-use Rattle.layout.specs.Layout.{openedLength}
+use Rattle.layout.specs.Layout.{leaves, isLast, auxLength, outputLength, rowsLength, statesLength, openedLength}
 use Rattle.comparison.specs.declared.Hidden.{Hidden}
 
 pub record Rows (p : Parameters) (rows others : List ℕ) : Type 0 where
   pub within : Within p
-  pub first : p .axes * axisLength p ≤ length rows
-  pub second : p .axes * axisLength p ≤ length others
+  pub first : rowsLength p ≤ length rows
+  pub second : rowsLength p ≤ length others
 
 pub record Both (p : Parameters) (opened others : List ℕ) : Type 0 where
   pub within : Within p
@@ -37,7 +36,7 @@ pub record Committed (p : Parameters) (i : ℕ) (opened out : List ℕ) : Type 0
 pub record Placed (p : Parameters) (u : ℕ) (opened others out : List ℕ) : Type 0 where
   pub both : Both p opened others
   pub below : u < leaves p
-  pub room : 32 * leaves p ≤ length out
+  pub room : statesLength p ≤ length out
 
 pub record Output (p : Parameters) (u : ℕ) (aux opened other-aux others out : List ℕ) : Type 0 where
   pub both : Both p opened others

@@ -1,6 +1,6 @@
 // The output: every leaf's state, then aux, each from the opening that discloses it.
 use layout::is_last;
-use layout::leaf_count;
+use layout::states_length;
 use lists::put_at;
 use parameters::Parameters;
 ghost use mathlib.Core.Path.{_≡_};
@@ -15,7 +15,7 @@ fn put_states(p: Parameters, first: usize, opened: &[u8], other_opened: &[u8], o
     ensures { λ _. ⌜ now (out .exit)
         ≡ placed (leaves p) first (now (opened .entry)) (now («other_opened» .entry)) (now (out .entry)) ⌝ }
 {
-    let all = 32 * leaf_count(p);
+    let all = states_length(p);
     put_at(out, 0, &opened[..all]);
     let at = 32 * first;
     let end = at + 32;
@@ -37,7 +37,7 @@ pub fn write_output(
         (now («other_opened» .entry)) (now («other_aux» .entry)) ⌝ }
 {
     put_states(p, first, opened, other_opened, out);
-    let all = 32 * leaf_count(p);
+    let all = states_length(p);
     if is_last(p, first) {
         put_at(out, all, other_aux);
         return;

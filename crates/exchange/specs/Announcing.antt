@@ -7,7 +7,7 @@
 -- formulaV              v by the formula; 'α̂ and β̂ are the sums over the parties of the axis'
 -- partyV                the party that holds the hidden leaf 'takes the v that makes the axis sum zero'
 -- announcedBy           α, β and v of all parties; s c is the sum of the disclosed leaves of party c
-use mathlib.Core.Bool.{_&&_, not, cond}
+use mathlib.Core.Bool.{cond}
 use mathlib.Core.List.{List}
 use Prim.Native.Nat.{ℕ}
 use lib.Dec.{eqb}

@@ -21,8 +21,6 @@ use Rattle.exchange.specs.Values.{Key}
 use Rattle.exchange.specs.Parties.{axisString}
 use Rattle.exchange.specs.Opening.{Exchange, auxOf, openedState, leafString, commitmentString, announced, responseString}
 pub mod Laws
-pub mod Relation
-pub mod Extraction
 
 pub data Finding : Type 0 where
   unequal : ℕ → ℕ → Finding

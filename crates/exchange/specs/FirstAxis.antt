@@ -9,7 +9,7 @@ use mathlib.Core.Bool.{not}
 use mathlib.Core.Logic.{_⊎_, inl, inr, ⊎-elim, _↔_}
 use Prim.Native.Nat.{ℕ, zero, suc, _*_, _/_, _%_, _^_, _<_, _≤_}
 use native.Mathlib.Nat.{div-one, zero-div, pow-suc, lt-of-lt-of-le}
-use native.Mathlib.Decide.{ℕ-discrete, decLt}
+use native.Mathlib.Decide.{decLt}
 use native.Mathlib.Numerals.{one-add}
 use native.Mathlib.Omega.{arith}
 use borrow.Author.Tests.{eqb-true, eqb-false, not-true, not-false}
@@ -133,27 +133,17 @@ module _ (p : Parameters) (u u′ : ℕ) (inside : u < leaves p) (inside′ : u�
   equal-of-xor j q =
       digit-is j u ∙ bits-xor (bit u j) (bit u′ j) (bit-lt u j) (bit-lt u′ j) .0 (sym (bit-xor u u′ j) ∙ q) ∙ sym (digit-is j u′)
 
-  apart : digit p (firstAxis p u u′) u ≡ digit p (firstAxis p u u′) u′ → ⊥
-  apart = first-apart p u u′ inside inside′ other
-
   xor-some : bitXor u u′ ≡ 0 → ⊥
-  xor-some q = apart (equal-of-xor (firstAxis p u u′) (ap (λ (n : ℕ). bit n (firstAxis p u u′)) q ∙ bit-of-zero (firstAxis p u u′)))
+  xor-some q = first-apart p u u′ inside inside′ other (equal-of-xor (firstAxis p u u′) (ap (λ (n : ℕ). bit n (firstAxis p u u′)) q ∙ bit-of-zero (firstAxis p u u′)))
 
   -- k is the width in bits of the type in which the code counts
   pub first-trailing : (k : ℕ) → p .axes ≤ k → firstAxis p u u′ ≡ trailingZeros k (bitXor u u′)
-  first-trailing k h = go (ℕ-discrete (firstAxis p u u′) (trailingZeros k (bitXor u u′)))
+  first-trailing k h =
+      let below : firstAxis p u u′ < trailingZeros k (bitXor u u′) → ⊥ = λ l. first-apart p u u′ inside inside′ other (equal-of-xor _ (trailing-below k _ _ l)) in
+      let above : trailingZeros k (bitXor u u′) < firstAxis p u u′ → ⊥ = λ l. omega (arith, top, xor-of-equal _ (first-equal p u u′ _ l)) in omega arith
     where
       fits : (i : ℕ) → i < leaves p → i < 2 ^ k
       fits i l = lt-of-lt-of-le (rw leaves-is at l) (pow-mono h)
 
       top : bit (bitXor u u′) (trailingZeros k (bitXor u u′)) ≡ 1
       top = trailing-at k (bitXor u u′) (xor-lt k u u′ (fits u inside) (fits u′ inside′)) xor-some
-
-      go : Dec (firstAxis p u u′ ≡ trailingZeros k (bitXor u u′)) → firstAxis p u u′ ≡ trailingZeros k (bitXor u u′)
-      go (yes e) = e
-      go (no e) = unequal (decLt (firstAxis p u u′) (trailingZeros k (bitXor u u′)))
-        where
-          unequal : Dec (firstAxis p u u′ < trailingZeros k (bitXor u u′)) → firstAxis p u u′ ≡ trailingZeros k (bitXor u u′)
-          unequal (yes l) = absurd (apart (equal-of-xor (firstAxis p u u′) (trailing-below k (bitXor u u′) (firstAxis p u u′) l)))
-          unequal (no l) =
-              absurd (omega (arith, top, xor-of-equal (trailingZeros k (bitXor u u′)) (first-equal p u u′ (trailingZeros k (bitXor u u′)) (omega arith))))

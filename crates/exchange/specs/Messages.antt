@@ -14,7 +14,7 @@
 --                   'The hidden leaf's own α and β have none' of the constants
 use mathlib.Core.Bool.{true, false, cond}
 use mathlib.Core.List.{List, [], _++_}
-use Prim.Native.Nat.{ℕ, _*_}
+use Prim.Native.Nat.{ℕ}
 use lib.ListN.{getD, take, drop}
 use Rattle.lists.specs.Sum.{xorList}
 use Rattle.parameters.specs.declared.Parameters.{Parameters}

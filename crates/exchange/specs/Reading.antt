@@ -7,7 +7,7 @@
 -- value q r         the value at the point r of the polynomial with the byte coefficients q, lowest first
 -- _⊞_, _⊠_, 𝟎       sum, product and zero of the points field
 use mathlib.Core.List.{List, [], _∷_, map}
-use Prim.Native.Nat.{ℕ, zero, suc, _+_}
+use Prim.Native.Nat.{ℕ, zero, suc}
 use lib.ListN.{getD}
 use Rattle.algebra.specs.Field.{Field2}
 use Rattle.algebra.specs.Ring.{ops}

@@ -22,7 +22,7 @@ use Rattle.lists.specs.Equal.Laws.{eqList-true}
 use Rattle.answers.specs.declared.Answer.{Answer}
 use Rattle.answers.specs.declared.Answer.the-variants.{Done}
 use Rattle.answers.specs.declared.Refusal.the-variants.{Parameter, Length, Leaf, Exchange as Differs, SameLeaf}
-use Rattle.answers.specs.Checks.{check, checks}
+use Rattle.answers.specs.Checks.{checks}
 use Rattle.answers.specs.Checks.Laws.{check-true, check-rest}
 use Rattle.parameters.specs.declared.Parameters.{Parameters}
 use Rattle.parameters.specs.Limits.{withinLimits, Within}
@@ -126,43 +126,34 @@ module _ (hash : List ℕ → ℕ → List ℕ) (p : Parameters) (t t′ : Trans
   pub early-passed : earlyChecks hash p t t′ key work out ≡ Done → Early
   unfolding earlyChecks sameStatement allLengths
   early-passed e =
+      let same1 : Bool = eqList (t .message1) (t′ .message1) in
+      let same2 : Bool = eqList (t .message2) (t′ .message2) in
       let lengths : Bool = allTrue (extractLengths hash p t t′ key work out) in
       let inside : Bool = ltb (t .leaf) (leaves p) && ltb (t′ .leaf) (leaves p) in
-      let rest23 : Bool = eqList (t .message2) (t′ .message2) && eqList (t .message3) (t′ .message3) in
-      let same : Bool = eqList (t .message1) (t′ .message1) && rest23 in
+      let same : Bool = same1 && (same2 && eqList (t .message3) (t′ .message3)) in
       let apart : Bool = not (eqb (t .leaf) (t′ .leaf)) in
-      let a5 : Answer = check apart SameLeaf Done in
-      let a4 : Answer = check same Differs a5 in
-      let a3 : Answer = check inside Leaf a4 in
-      let a2 : Answer = check lengths Length a3 in
-      let e2 : a2 ≡ Done = check-rest (withinLimits p) Parameter a2 e in
-      let e3 : a3 ≡ Done = check-rest lengths Length a3 e2 in
-      let e4 : a4 ≡ Done = check-rest inside Leaf a4 e3 in
-      let e5 : a5 ≡ Done = check-rest same Differs a5 e4 in
-      let lents : Bool = lent p (length (key .matrix)) (length (key .y)) (length work) in
-      let room : Bool = eqb (length out) (outputLength p) in
       let ts : Bool = allTrue (lengthTests p (lengthsOf t)) in
       let ts′ : Bool = allTrue (lengthTests p (lengthsOf t′)) in
-      let sizes : (ts && (ts′ && (lents && room))) ≡ true = sym lengths-are ∙ check-true lengths Length a3 e2 in
-      let sizes′ = and-right ts (ts′ && (lents && room)) sizes in
-      let last = and-right ts′ (lents && room) sizes′ in
-      let leaves-in = check-true inside Leaf a4 e3 in
-      let agree = check-true same Differs a5 e4 in
-      let agree23 = and-right (eqList (t .message1) (t′ .message1)) rest23 agree in
+      let lents : Bool = lent p (length (key .matrix)) (length (key .y)) (length work) in
+      let e2 = check-rest (withinLimits p) Parameter _ e in
+      let e3 = check-rest lengths Length _ e2 in
+      let e4 = check-rest inside Leaf _ e3 in
+      let sizes = sym lengths-are ∙ check-true lengths Length _ e2 in
+      let sizes′ = and-right ts _ sizes in
+      let last = and-right ts′ _ sizes′ in
+      let below = check-true inside Leaf _ e3 in
+      let agree = check-true same Differs _ e4 in
+      let agree′ = and-right same1 _ agree in
       record {
-        within = test-within p (check-true (withinLimits p) Parameter a2 e);
-        first = sent p t (and-left ts (ts′ && (lents && room)) sizes);
-        second = sent p t′ (and-left ts′ (lents && room) sizes′);
-        lent = test-lent p (length (key .matrix)) (length (key .y)) (length work) (and-left lents room last);
-        room = eqb-true (length out) (outputLength p) (and-right lents room last);
-        below = ltb-true (t .leaf) (leaves p) (and-left (ltb (t .leaf) (leaves p)) (ltb (t′ .leaf) (leaves p)) leaves-in);
-        below′ = ltb-true (t′ .leaf) (leaves p) (and-right (ltb (t .leaf) (leaves p)) (ltb (t′ .leaf) (leaves p)) leaves-in);
-        message1 = eqList-true (t .message1) (t′ .message1) (and-left (eqList (t .message1) (t′ .message1)) rest23 agree);
-        message2 =
-            eqList-true (t .message2) (t′ .message2)
-            (and-left (eqList (t .message2) (t′ .message2)) (eqList (t .message3) (t′ .message3)) agree23);
-        message3 =
-            eqList-true (t .message3) (t′ .message3)
-            (and-right (eqList (t .message2) (t′ .message2)) (eqList (t .message3) (t′ .message3)) agree23);
-        other = eqb-false (t .leaf) (t′ .leaf) (not-true (eqb (t .leaf) (t′ .leaf)) (check-true apart SameLeaf Done e5));
+        within = test-within p (check-true (withinLimits p) Parameter _ e);
+        first = sent p t (and-left ts _ sizes);
+        second = sent p t′ (and-left ts′ _ sizes′);
+        lent = test-lent p (length (key .matrix)) (length (key .y)) (length work) (and-left lents _ last);
+        room = eqb-true (length out) (outputLength p) (and-right lents _ last);
+        below = ltb-true (t .leaf) (leaves p) (and-left (ltb (t .leaf) (leaves p)) _ below);
+        below′ = ltb-true (t′ .leaf) (leaves p) (and-right (ltb (t .leaf) (leaves p)) _ below);
+        message1 = eqList-true (t .message1) (t′ .message1) (and-left same1 _ agree);
+        message2 = eqList-true (t .message2) (t′ .message2) (and-left same2 _ agree′);
+        message3 = eqList-true (t .message3) (t′ .message3) (and-right same2 _ agree′);
+        other = eqb-false (t .leaf) (t′ .leaf) (not-true (eqb (t .leaf) (t′ .leaf)) (check-true apart SameLeaf Done (check-rest same Differs _ e4)));
       }

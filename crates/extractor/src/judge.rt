@@ -6,14 +6,13 @@ use layout::work_length;
 use openings::check_opening;
 use parameters::Parameters;
 ghost use lib.ListN.{take};
-ghost use Rattle.exchange.specs.Values.{keyOf};
-ghost use Rattle.layout.specs.Layout.{openedLength};
-ghost use Rattle.openings.specs.Statement.{exchangeIn};
 ghost use Rattle.layout.specs.Layout.{statementLength};
+ghost use Rattle.exchange.specs.Values.{keyOf};
+ghost use Rattle.openings.specs.Statement.{exchangeIn};
 ghost use Rattle.extractor.specs.Judged.{Judging, Judged};
 
 // Checks an opening against the front of `statement` in the front of the work area, which ends as zeros; the front of
-// `opened` then holds what it gives.
+// `opened` then holds what it gives, and the rest stays.
 pub fn judge(
     p: Parameters,
     statement: &[u8],
@@ -26,7 +25,7 @@ pub fn judge(
 ) -> Answer
     requires { ⌜ Judging p (now statement) leaf (now message5) (now matrix) (now y) (now work) (now opened) ⌝ }
     ensures { λ r. ⌜ Judged p (exchangeIn p (take (statementLength p) (now (statement .entry))) leaf (now (message5 .entry)))
-        (keyOf (now (matrix .entry)) (now (y .entry))) (now (work .entry)) r (now (work .exit)) (take (openedLength p) (now (opened .exit))) ⌝ }
+        (keyOf (now (matrix .entry)) (now (y .entry))) (now (work .entry)) (now (opened .entry)) r (now (work .exit)) (now (opened .exit)) ⌝ }
 {
     let size = statement_length(p);
     let area = work_length(p);

@@ -1,108 +1,82 @@
--- What a loop that adds to the entries of a list has come to.
+-- What is added to the entries of a list.
 --
---   Added j g c d      d is c with g k added to each entry k below j
---   added-none         nothing is added yet
---   added-more         one entry more
---   added-part         the entries from j to an end at once, where they were lent as a part
+--   Added n g c d      d is c with g k added to each entry k below n
+--   spaced l o step g n k
+--                      what entry k of l entries gets, where g 0, g 1 and so on, n of them, are added to the entries of the exponents o, o + step
+--                      and so on: the last entry is that of exponent 0
+--   added-none         nothing is added
+--   added-at           one entry is added to
 --   added-then         two additions one after the other are one
 --   added-ext          what is added may be put otherwise
---   added-to           and so may the number of entries
 --   added-zeros        what is added to zeros
 --   added-first, -next  the terms of a sum are added one after the other
-use mathlib.Core.Path.{_≡_, refl, sym, ap, ap₂, _∙_}
-use mathlib.Core.List.{List, _++_}
-use Prim.Native.Nat.{ℕ, _+_, _-_, _≤_, _<_}
-use mathlib.Core.Logic.{⊎-elim}
-use native.Mathlib.Nat.{eq-zero-or-pos}
+--   spaced-one         every exponent of 17 in turn
+--   spaced-rows        the exponents of 255 in 17 turns, each by steps of 17
+use mathlib.Core.Path.{_≡_, refl, sym, ap, _∙_}
+use mathlib.Core.Bool.{cond}
+use mathlib.Core.List.{List}
+use Prim.Native.Nat.{ℕ, _+_, _-_, _*_, _/_, _%_, _<_}
+use native.Mathlib.Decide.{ℕ-discrete}
 use native.Mathlib.Numerals.{add-one}
 use native.Mathlib.Omega.{arith}
-use lib.ListN.{length, take, drop, getD, set, length-set}
-use lib.Seq.{getD-set-other}
+use lib.Dec.{eqb}
+use lib.ListN.{length, getD, set, replicate, getD-replicate}
+use lib.Seq.{getD-set-same, getD-set-other}
 use Rattle.cube.specs.Sum.{sum}
+use Rattle.cube.specs.Sum.Laws.{cond-eq, cond-ne, sum-zero}
 use Rattle.lists.specs.Xor.{_⊕_}
 use Rattle.lists.specs.Xor.Laws.{⊕-assoc, ⊕-zero, zero-⊕}
-use Rattle.lists.specs.Part.{part, putAt}
-use Rattle.lists.specs.Part.Laws.{length-part, getD-part, length-putAt, lent-back, part-putAt-same, part-putAt-before, part-putAt-behind}
-use Rattle.interpolants.specs.Sums.{total}
-use Rattle.interpolants.specs.Filled.{Filled, filled-more}
+use Rattle.interpolants.specs.Sums.{xorGroup, total, total-one}
 
-pub record Added (j : ℕ) (g : ℕ → ℕ) (c d : List ℕ) : Type 0 where
-  pub same-length : length d ≡ length c
-  pub added : Filled j (λ k. getD c k 0 ⊕ g k) d
-  pub same : (k : ℕ) → j ≤ k → getD d k 0 ≡ getD c k 0
+pub record Added (n : ℕ) (g : ℕ → ℕ) (c d : List ℕ) : Type 0 where
+  pub added : (k : ℕ) → k < n → getD d k 0 ≡ getD c k 0 ⊕ g k
 
-pub added-none : (g : ℕ → ℕ) (c : List ℕ) → Added 0 g c c
-added-none g c = record { same-length = refl; added = λ k h. absurd (omega arith); same = λ k h. refl }
+abbrev pub spaced : ℕ → ℕ → ℕ → (ℕ → ℕ) → ℕ → ℕ → ℕ
+spaced l o step g n k = total (λ j. cond (eqb (l - 1 - (o + step * j)) k) (g j) 0) n
 
-pub added-more : {j : ℕ} {g : ℕ → ℕ} {c d : List ℕ} (x : ℕ) → Added j g c d → j < length c → x ≡ g j → Added (j + 1) g c (set d j (getD d j 0 ⊕ x))
-added-more {j} {g} {c} {d} x p h e =
-    record {
-      same-length = length-set d j (getD d j 0 ⊕ x) ∙ p .same-length;
-      added = filled-more d (λ k. getD c k 0 ⊕ g k) (p .added) (omega (arith, p .same-length)) (ap₂ _⊕_ (p .same j (omega arith)) e);
-      same = λ k l. getD-set-other d j k (getD d j 0 ⊕ x) 0 (λ q. omega arith) ∙ p .same k (omega arith);
-    }
+pub added-none : {n : ℕ} {g : ℕ → ℕ} (c : List ℕ) → ((k : ℕ) → g k ≡ 0) → Added n g c c
+added-none {n} {g} c z = record { added = λ k h. sym (ap (_⊕_ (getD c k 0)) (z k) ∙ ⊕-zero (getD c k 0)) }
+
+pub added-at : (n : ℕ) (c : List ℕ) (p x q y : ℕ) → p < length c → p ≡ q → x ≡ y → Added n (λ k. cond (eqb q k) y 0) c (set c p (getD c p 0 ⊕ x))
+added-at n c p x q y h ep ex = rw (← ep, ← ex) record { added = λ k l. go k (ℕ-discrete p k) }
+  where
+    go : (k : ℕ) → Dec (p ≡ k) → getD (set c p (getD c p 0 ⊕ x)) k 0 ≡ getD c k 0 ⊕ cond (eqb p k) x 0
+    go k (yes q) = rw (cond-eq p k x 0 q, ← q) (getD-set-same c p (getD c p 0 ⊕ x) 0 h)
+    go k (no q) = rw (cond-ne p k x 0 q, ⊕-zero (getD c k 0)) (getD-set-other c p k (getD c p 0 ⊕ x) 0 (λ e. q (sym e)))
 
 pub added-then : {n : ℕ} {g h : ℕ → ℕ} {c d e : List ℕ} → Added n g c d → Added n h d e → Added n (λ k. g k ⊕ h k) c e
-added-then {n} {g} {h} {c} {d} {e} p q = record {
-  same-length = q .same-length ∙ p .same-length;
-  added = λ k l. q .added k l ∙ ap (λ (x : ℕ). x ⊕ h k) (p .added k l) ∙ ⊕-assoc (getD c k 0) (g k) (h k);
-  same = λ k l. q .same k l ∙ p .same k l;
-}
+added-then {n} {g} {h} {c} {d} {e} p q =
+    record { added = λ k l. q .added k l ∙ ap (λ (x : ℕ). x ⊕ h k) (p .added k l) ∙ ⊕-assoc (getD c k 0) (g k) (h k) }
 
 pub added-ext : {n : ℕ} {g h : ℕ → ℕ} {c d : List ℕ} → ((k : ℕ) → k < n → g k ≡ h k) → Added n g c d → Added n h c d
-added-ext {n} {g} {h} {c} e p = record { same-length = p .same-length; added = λ k l. p .added k l ∙ ap (_⊕_ (getD c k 0)) (e k l); same = p .same }
+added-ext {n} {g} {h} {c} e p = record { added = λ k l. p .added k l ∙ ap (_⊕_ (getD c k 0)) (e k l) }
 
-pub added-to : {j n : ℕ} {g : ℕ → ℕ} {c d : List ℕ} → j ≡ n → Added j g c d → Added n g c d
-added-to e p = rw e at p
-
-pub added-zeros : {n : ℕ} {g : ℕ → ℕ} {c d : List ℕ} → Filled n (λ k. 0) c → Added n g c d → Filled n g d
-added-zeros {n} {g} z p k h = p .added k h ∙ ap (λ (x : ℕ). x ⊕ g k) (z k h) ∙ zero-⊕ (g k)
-
--- ---- a part that was lent
-
-module _ (d : List ℕ) (j : ℕ) (ys : List ℕ) (fits : j + length ys ≤ length d) where
-  same-at : (k : ℕ) → part (putAt d j ys) k 1 ≡ part d k 1 → getD (putAt d j ys) k 0 ≡ getD d k 0
-  same-at k e =
-      let z : k ≡ k + 0 = omega arith in
-      rw z (sym (getD-part (putAt d j ys) k 1 0 (omega arith)) ∙ ap (λ (l : List ℕ). getD l 0 0) e ∙ getD-part d k 1 0 (omega arith))
-
-  put-before : (k : ℕ) → k < j → getD (putAt d j ys) k 0 ≡ getD d k 0
-  put-before k h = same-at k (part-putAt-before d j ys fits k 1 (omega arith))
-
-  put-within : (i : ℕ) → i < length ys → getD (putAt d j ys) (j + i) 0 ≡ getD ys i 0
-  put-within i h = sym (getD-part (putAt d j ys) j (length ys) i h) ∙ ap (λ (l : List ℕ). getD l i 0) (part-putAt-same d j ys fits)
-
-  put-behind : (k : ℕ) → j + length ys ≤ k → getD (putAt d j ys) k 0 ≡ getD d k 0
-  put-behind k h = same-at k (part-putAt-behind d j ys fits k 1 h)
-
--- the last list is what the borrow checker has
-pub added-part : {j end : ℕ} {g h : ℕ → ℕ} {c d ys : List ℕ} → Added j g c d → j ≤ end → end ≤ length c
-    → Added (length (take (end - j) (drop j d))) h (take (end - j) (drop j d)) ys → ((k : ℕ) → k < end - j → h k ≡ g (j + k))
-    → Added end g c (take j d ++ (ys ++ drop (end - j) (drop j d)))
-unfolding part
-added-part {j} {end} {g} {h} {c} {d} {ys} p a b q e =
-    let s : length d ≡ length c = p .same-length in
-    let m : length (part d j (end - j)) ≡ end - j = length-part d j (end - j) (omega arith) in
-    let l : length ys ≡ end - j = q .same-length ∙ m in
-    let fits : j + length ys ≤ length d = omega arith in
-    let within : (i : ℕ) → i < end - j → getD (putAt d j ys) (j + i) 0 ≡ getD c (j + i) 0 ⊕ g (j + i)
-    = λ i b. put-within d j ys fits i (omega arith) ∙ q .added i (omega arith)
-    ∙ ap₂ _⊕_ (getD-part d j (end - j) i b ∙ p .same (j + i) (omega arith)) (e i b) in
-    rw (lent-back d ys j end a l)
-    record {
-      same-length = length-putAt d j ys fits ∙ s;
-      added = λ k b. ⊎-elim (λ n. let k′ : j + (k - j) ≡ k = omega arith in rw k′ at (within (k - j) (omega arith)))
-          (λ n. put-before d j ys fits k (omega arith) ∙ p .added k (omega arith)) (eq-zero-or-pos (j - k));
-      same = λ k b. put-behind d j ys fits k (omega arith) ∙ p .same k (omega arith);
-    }
+pub added-zeros : {n : ℕ} {g : ℕ → ℕ} {d : List ℕ} → Added n g (replicate n 0) d → (k : ℕ) → k < n → getD d k 0 ≡ g k
+added-zeros {n} {g} p k h = p .added k h ∙ ap (λ (x : ℕ). x ⊕ g k) (getD-replicate n k 0 0 h) ∙ zero-⊕ (g k)
 
 -- ---- a sum, term by term
 
 module _ (n : ℕ) (f : ℕ → ℕ → ℕ) where
   pub added-first : (c : List ℕ) → Added n (λ k. total (λ q. f q k) 0) c c
   unfolding sum
-  added-first c = record { same-length = refl; added = λ k h. sym (⊕-zero (getD c k 0)); same = λ k h. refl }
+  added-first c = added-none c (λ k. refl)
 
   pub added-next : {q : ℕ} {c d e : List ℕ} → Added n (λ k. total (λ q. f q k) q) c d → Added n (f q) d e → Added n (λ k. total (λ q. f q k) (q + 1)) c e
   unfolding sum
   added-next {q} p r = rw (add-one q) (added-then p r)
+
+-- ---- every exponent once
+
+pub spaced-one : (g : ℕ → ℕ) (k : ℕ) → k < 17 → spaced 17 0 1 g 17 k ≡ g (16 - k)
+spaced-one g k h =
+    total-one (λ j. cond (eqb (16 - (0 + 1 * j)) k) (g j) 0) (16 - k) 17 (omega arith) (λ j l n. cond-ne _ k (g j) 0 (λ q. n (omega arith)))
+    ∙ cond-eq _ k (g (16 - k)) 0 (omega arith)
+
+pub spaced-rows : (g : ℕ → ℕ → ℕ) (k : ℕ) → k < 255 → total (λ o. spaced 255 o 17 (g o) 15 k) 17 ≡ g ((254 - k) % 17) ((254 - k) / 17)
+spaced-rows g k h =
+    let o : ℕ = (254 - k) % 17 in
+    let j : ℕ = (254 - k) / 17 in
+    total-one (λ o. spaced 255 o 17 (g o) 15 k) o 17 (omega arith)
+    (λ p l n. sum-zero xorGroup _ 15 (λ i b. cond-ne (254 - (p + 17 * i)) k (g p i) 0 (λ q. n (omega arith))))
+    ∙ total-one (λ i. cond (eqb (254 - (o + 17 * i)) k) (g o i) 0) j 15 (omega arith) (λ i l n. cond-ne (254 - (o + 17 * i)) k (g o i) 0 (λ q. n (omega arith)))
+    ∙ cond-eq (254 - (o + 17 * j)) k (g o j) 0 (omega arith)

@@ -71,10 +71,10 @@ module _ (m : ℕ) (few : m < 256) where
       (λ z. rw (monic-value (complementOf m) (take (255 - m) (complementOf m)) (255 - m) z (complement-monic m) l) (rw (eg, l) at divided i h z))
       (simp length-drop (omega arith))
 
-  pub share-made : (i : ℕ) (a t a′ w g : List ℕ) → i < 8 → length a ≡ 255 → length a′ ≡ 255 → w ≡ scalesOf m → g ≡ complementOf m
-      → PowerSums (timesEach (share i (take m a)) w) (share i t) → Divided (take (255 - m) g) t a′
-      → share i a′ ≡ replicate (255 - m) 0 ++ interpolantOf (share i (take m a))
-  share-made i a t a′ w g h la la′ ew eg sums divided =
-      let lx : length (share i (take m a)) ≡ m = length-share i (take m a) ∙ length-take-le m a (omega arith) in
+  pub share-made : (i : ℕ) (v t a w g : List ℕ) → i < 8 → length v ≡ m → length a ≡ 255 → w ≡ scalesOf m → g ≡ complementOf m
+      → PowerSums (timesEach (share i v) w) (share i t) → Divided (take (255 - m) g) t a
+      → share i a ≡ replicate (255 - m) 0 ++ interpolantOf (share i v)
+  share-made i v t a w g h lv la ew eg sums divided =
+      let lx : length (share i v) ≡ m = length-share i v ∙ lv in
       let p = rw ew at sums in
-      quotient-made i _ t a′ g h la′ eg lx (bytes-share i (take m a)) (transform-elsewhere m _ _ few lx p) (transform-here m _ _ few lx p) divided
+      quotient-made i _ t a g h la eg lx (bytes-share i v) (transform-elsewhere m _ _ few lx p) (transform-here m _ _ few lx p) divided

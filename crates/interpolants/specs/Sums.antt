@@ -2,16 +2,21 @@
 --
 --   xorGroup          the numbers with ⊕
 --   total f n         f 0 ⊕ f 1 ⊕ .. ⊕ f (n − 1)
+--   total-one         a sum of which one term is not zero
 --   total-of          an additive function goes into a sum
 --   total-append      a sum in two parts
 --   total-blocks      a sum in n blocks of k terms each
 --   powerSum-total    a power sum as a sum of this kind
 use mathlib.Core.Path.{_≡_, refl, sym, ap, _∙_}
+use mathlib.Core.Bool.{cond}
 use mathlib.Core.List.{List}
-use Prim.Native.Nat.{ℕ, zero, suc, _+_, _*_}
+use Prim.Native.Nat.{ℕ, zero, suc, _+_, _*_, _<_}
+use native.Mathlib.Decide.{ℕ-discrete}
 use native.Mathlib.Nat.{add-zero, add-suc, add-comm, mul-zero, mul-suc}
+use lib.Dec.{eqb}
 use Rattle.cube.specs.Group.{Group2}
 use Rattle.cube.specs.Sum.{sum}
+use Rattle.cube.specs.Sum.Laws.{cond-eq, cond-ne, sum-ext, sum-single}
 use Rattle.lists.specs.Xor.{_⊕_}
 use Rattle.lists.specs.Xor.Laws.{⊕-assoc, ⊕-comm, ⊕-zero, ⊕-self}
 use Rattle.lists.specs.Additive.{Additive, additive-zero}
@@ -24,6 +29,13 @@ xorGroup = record { zero = 0; add = _⊕_; add-assoc = ⊕-assoc; add-comm = ⊕
 
 abbrev pub total : (ℕ → ℕ) → ℕ → ℕ
 total f n = sum xorGroup f n
+
+pub total-one : (f : ℕ → ℕ) (k n : ℕ) → k < n → ((i : ℕ) → i < n → (k ≡ i → ⊥) → f i ≡ 0) → total f n ≡ f k
+total-one f k n l z = sum-ext xorGroup f _ n (λ i h. go i h (ℕ-discrete k i)) ∙ sum-single xorGroup f k n l
+  where
+    go : (i : ℕ) → i < n → Dec (k ≡ i) → f i ≡ cond (eqb k i) (f i) 0
+    go i h (yes e) = sym (cond-eq k i (f i) 0 e)
+    go i h (no e) = z i h e ∙ sym (cond-ne k i (f i) 0 e)
 
 pub total-of : (f : ℕ → ℕ) → Additive f → (g : ℕ → ℕ) (n : ℕ) → f (total g n) ≡ total (λ k. f (g k)) n
 unfolding sum

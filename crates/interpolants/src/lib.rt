@@ -3,7 +3,7 @@ pub mod powersums;
 
 ghost use mathlib.Core.Path.{_≡_};
 ghost use mathlib.Core.List.{_++_};
-ghost use Prim.Native.Nat.{ℕ, _-_, _<_, _≤_};
+ghost use Prim.Native.Nat.{ℕ, _-_, _*_, _<_, _≤_};
 ghost use lib.ListN.{length, take, drop, replicate};
 ghost use Rattle.algebra.specs.Polynomial.{eval};
 ghost use Rattle.bytefield.specs.Product.{byteOps};
@@ -11,6 +11,7 @@ ghost use Rattle.bytefield.specs.Tables.{fieldTables};
 ghost use Rattle.polynomial.specs.Interpolant.{interpolantOf, vanishingOf};
 ghost use Rattle.packed.specs.Share.{share};
 ghost use Rattle.interpolants.specs.Complement.{complementOf, factorsOf};
+ghost use Rattle.interpolants.specs.Words.{wordsOf};
 ghost use Rattle.interpolants.specs.Division.{Divided};
 
 // out, of 256 - m bytes, becomes the complement: the product of X + g over the nonzero bytes g above m.
@@ -88,11 +89,18 @@ pub fn vanishing(out: &mut [u8], g: &[u8])
     packed::share(&a[d..], 0, out);
 }
 
-// a, whose first m words are vectors side by side, becomes S of each in the last m words, behind zeros.
-pub fn interpolate(a: &mut [u64], m: usize, factors: &[u8], tables: &[u8; 512])
-    requires { ⌜ (length (now a) ≡ 255) × (0 < m) × (m < 256) × (now factors ≡ factorsOf m) × (now tables ≡ fieldTables) ⌝ }
-    ensures { λ _. ⌜ ((i : ℕ) → i < 8 → share i (now (a .exit)) ≡ replicate (255 - m) 0 ++ interpolantOf (share i (take m (now (a .entry))))) ⌝ }
+// The last m words of a become S of each of n rows of m bytes, side by side, behind zeros.
+pub fn interpolate(
+    a: &mut [u64],
+    rows: &[u8],
+    n: usize,
+    m: usize,
+    factors: &[u8],
+    tables: &[u8; 512],
+)
+    requires { ⌜ (length (now a) ≡ 255) × (n ≤ 8) × (length (now rows) ≡ n * m) × (m < 256) × (now factors ≡ factorsOf m) × (now tables ≡ fieldTables) ⌝ }
+    ensures { λ _. ⌜ ((i : ℕ) → i < 8 → share i (now (a .exit)) ≡ replicate (255 - m) 0 ++ interpolantOf (share i (wordsOf (now (rows .entry)) n m))) ⌝ }
 {
-    crate::powersums::power_sums(a, m, &factors[..m], tables);
+    crate::powersums::power_sums(a, rows, n, &factors[..m], tables);
     divide(a, &factors[m..255]);
 }

@@ -21,6 +21,7 @@
 -- atB, atX, atQ, atP, atC   where b, x_A, Q, P, c start in a share; a starts it
 -- atV p              where v starts in a party's row: behind α and β
 -- sumsLength p       the sums that the work area holds, one after another
+-- blocksLength p     a row for each of them
 -- message2Length p   't points r, t multipliers ε'
 -- siblingsLength p   'D sibling seeds'
 -- message5Length p i 'Length 5: 16D + 32 + 8t, plus k + 2w + 4t with aux', which is there 'unless i* = n−1';
@@ -98,6 +99,9 @@ shareLength p = 8 * p .t + auxLength p
 
 abbrev pub sumsLength : Parameters → ℕ
 sumsLength p = sumCount p * shareLength p
+
+abbrev pub blocksLength : Parameters → ℕ
+blocksLength p = sumCount p * rowLength p
 
 abbrev pub atB : Parameters → ℕ
 atB p = factorLength p

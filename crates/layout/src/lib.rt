@@ -32,20 +32,20 @@ pub const MOST_OPENED: usize = 9760;
 // What an opening is held to, at t 8 with a prefix of 32 bytes.
 pub const MOST_STATEMENT: usize = 160;
 
-// The sibling seeds at D 8.
-pub const MOST_SIBLINGS: usize = 128;
-
 // α and β at t 8.
 pub const MOST_VALUES: usize = 64;
-
-// x at m 255.
-pub const LONGEST_X: usize = 255;
 
 // y at m 255, k 1.
 pub const LONGEST_Y: usize = 254;
 
 // The coefficients of S of one share, and of F but its leading one, at m 255.
-pub const MOST_COEFFICIENTS: usize = 510;
+pub const LEAF_COEFFICIENTS: usize = 510;
+
+// The coefficients of S of nine sums, and of F but its leading one, at m 255.
+pub const MOST_COEFFICIENTS: usize = 2550;
+
+// The values at a point of Q, S and P of up to fifteen shares, and of F.
+pub const MOST_EVALUATIONS: usize = 46;
 
 // How many bits of a leaf's number tell its party on an axis.
 pub fn bits(p: Parameters) -> usize
@@ -207,6 +207,14 @@ pub fn sums_length(p: Parameters) -> usize
     sum_count(p) * share_length(p)
 }
 
+// The length of a row for each of these sums.
+pub fn blocks_length(p: Parameters) -> usize
+    requires { ⌜ Within p ⌝ }
+    ensures { λ r. ⌜ r ≡ spec.blocksLength p ⌝ }
+{
+    sum_count(p) * row_length(p)
+}
+
 // The length of message 2: t points and t multipliers.
 pub fn message2_length(p: Parameters) -> usize
     requires { ⌜ Within p ⌝ }
@@ -243,12 +251,20 @@ pub fn states_length(p: Parameters) -> usize
     32 * leaf_count(p)
 }
 
+// The length of the rows of all axes.
+pub fn rows_length(p: Parameters) -> usize
+    requires { ⌜ Within p ⌝ }
+    ensures { λ r. ⌜ r ≡ spec.rowsLength p ⌝ }
+{
+    p.axes * axis_length(p)
+}
+
 // Where the rows of all axes end, which stand behind the states in what an opening gives.
 pub fn rows_end(p: Parameters) -> usize
     requires { ⌜ Within p ⌝ }
     ensures { λ r. ⌜ r ≡ spec.rowsEnd p ⌝ }
 {
-    states_length(p) + p.axes * axis_length(p)
+    states_length(p) + rows_length(p)
 }
 
 // The length of what an opening gives: states, rows, and the hidden leaf's commitment.

@@ -15,7 +15,7 @@ use Prim.Native.Nat.{ℕ, _≤_, _<_, _*_, _+_}
 use lib.ListN.{length}
 use Rattle.parameters.specs.declared.Parameters.{Parameters}
 use Rattle.parameters.specs.Limits.{Within}
-use Rattle.layout.specs.Layout.{isLast, auxLength, shareLength, leaves}
+use Rattle.layout.specs.Layout.{isLast, auxLength, shareLength, statesLength}
 
 pub record LeafOf (p : Parameters) (i : ℕ) : Type 0 where
   pub within : Within p
@@ -49,4 +49,4 @@ pub record Absorb (p : Parameters) (i : ℕ) (st : List ℕ) : Type 0 where
 
 pub record Commitments (p : Parameters) (st : List ℕ) : Type 0 where
   pub within : Within p
-  pub states : length st ≡ 32 * leaves p
+  pub states : length st ≡ statesLength p

@@ -18,7 +18,7 @@ use Prim.Native.Nat.{ℕ, _*_, _-_, _<_, _≤_, _+_}
 use lib.ListN.{length, take}
 use Rattle.parameters.specs.declared.Parameters.{Parameters}
 use Rattle.parameters.specs.Limits.{Within}
-use Rattle.layout.specs.Layout.{leaves, auxLength, message2Length, message5Length, pointsLength, shareLength, workLength, sumsLength}
+use Rattle.layout.specs.Layout.{leaves, auxLength, message2Length, message5Length, pointsLength, shareLength, statesLength, workLength, sumsLength}
 use Rattle.relation.specs.Key.{weightOf}
 use Rattle.relation.specs.Light.{Light}
 
@@ -49,7 +49,7 @@ pub record Disclosing (p : Parameters) (message2 : List ℕ) (leaf : ℕ) (matri
 
 pub record FirstAsked (p : Parameters) (prefix states out : List ℕ) : Type 0 where
   pub within : Within p
-  pub states-are : length states ≡ 32 * leaves p
+  pub states-are : length states ≡ statesLength p
   pub out-is : length out ≡ length prefix + 32
 
 pub record LeafAsked (p : Parameters) (message2 : List ℕ) (leaf : ℕ) (matrix state aux : List ℕ) : Type 0 where
@@ -81,7 +81,7 @@ pub record AuxAsked (p : Parameters) (x drawn out : List ℕ) : Type 0 where
 pub record StatesAsked (p : Parameters) (run states : List ℕ) : Type 0 where
   pub within : Within p
   pub run-fits : 16 ≤ length run
-  pub states-are : length states ≡ 32 * leaves p
+  pub states-are : length states ≡ statesLength p
 
 pub record AddAsked (p : Parameters) (x sums aux : List ℕ) : Type 0 where
   pub within : Within p

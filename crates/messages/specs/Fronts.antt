@@ -3,6 +3,8 @@
 -- x-fits, x-length, x-light   the front of x is there, has m entries, and is not too heavy
 -- front-zeroed        the front of the work area, lent in between, zeroed as far or further
 -- zeros-front         a front of zeros
+-- Rooms p n k         n entries of an array for 256 states and k of one for the longest aux are there and hold all states, and aux
+-- rooms               so they are
 -- Front n s d         s came back for the first n entries of d: its length, the same lent again, the length of the whole, and that the front is there
 -- front-back          it did
 use mathlib.Core.Path.{_≡_, refl, sym, ap, _∙_}
@@ -13,6 +15,9 @@ use lib.ListN.{length, replicate, take, drop}
 use lib.Seq.{take-at, length-take-le, drop-append-add, drop-drop}
 use Rattle.lists.specs.Zeroed.{zeroed}
 use Rattle.parameters.specs.declared.Parameters.{Parameters}
+use Rattle.parameters.specs.Limits.{Within}
+use Rattle.layout.specs.Layout.{auxLength, statesLength}
+use Rattle.layout.specs.Layout.Bounds.{leaves-most, aux-most}
 use Rattle.relation.specs.Light.{Light}
 use Rattle.points.specs.Written.{front-kept}
 use Rattle.messages.specs.Asked.{Arrays}
@@ -41,6 +46,18 @@ pub zeros-front : (n k : ℕ) → n ≤ k → take n (replicate {A = ℕ} k 0) �
 zeros-front zero k h = refl
 zeros-front (suc n) zero h = absurd (omega arith)
 zeros-front (suc n) (suc k) h = ap (_∷_ 0) (zeros-front n k (omega arith))
+
+pub record Rooms (p : Parameters) (n k : ℕ) : Type 0 where
+  pub states : n ≤ 8192
+  pub aux : k ≤ 796
+  pub states-are : length (take n (replicate {A = ℕ} 8192 0)) ≡ statesLength p
+  pub aux-is : length (take k (replicate {A = ℕ} 796 0)) ≡ auxLength p
+
+pub rooms : {p : Parameters} {n k : ℕ} → Within p → n ≡ statesLength p → k ≡ auxLength p → Rooms p n k
+rooms {p} {n} {k} h e f =
+    let s : n ≤ 8192 = omega (arith, leaves-most p h) in
+    let a : k ≤ 796 = omega (arith, aux-most p h) in
+    record { states = s; aux = a; states-are = length-take-le n (replicate 8192 0) s ∙ e; aux-is = length-take-le k (replicate 796 0) a ∙ f }
 
 pub record Front (n : ℕ) (s d : List ℕ) : Type 0 where
   pub size : length s ≡ n

@@ -7,7 +7,7 @@ use mathlib.Core.List.{List}
 use Prim.Native.Nat.{ℕ}
 use Rattle.shake256.specs.Fips.{SHAKE256}
 use Rattle.parameters.specs.declared.Parameters.{Parameters}
-use Rattle.layout.specs.Layout.{leaves}
+use Rattle.layout.specs.Layout.{levels, leaves}
 use Rattle.exchange.specs.Run.{Run}
 use Rattle.exchange.specs.Tree.{leafSeeds}
 use Rattle.exchange.specs.Parties.{total}
@@ -17,7 +17,7 @@ use Rattle.parties.specs.Drawn.{drawnShare}
 pub mod Laws
 
 unfoldable pub ownStates : Parameters → Run → List ℕ
-ownStates p run = statesOf (run .prefix) (laid (leafSeeds SHAKE256 (run .prefix) (p .axes) 1 (run .root))) (leaves p)
+ownStates p run = statesOf (run .prefix) (laid (leafSeeds SHAKE256 (run .prefix) (levels p) 1 (run .root))) (leaves p)
 
 abbrev pub sumOf : Parameters → List ℕ → List ℕ → List ℕ
 sumOf p prefix states = total p (λ i. true) (drawnShare p prefix states) (leaves p)

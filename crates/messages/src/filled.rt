@@ -6,6 +6,7 @@ use layout::at_x;
 use layout::aux_length;
 use layout::leaf_count;
 use layout::share_length;
+use layout::states_length;
 use lists::xor_at;
 use parameters::Parameters;
 use parties::party_sums;
@@ -39,7 +40,7 @@ pub fn fill(p: Parameters, x: &[u8], run: &[u8], sums: &mut [u8])
     let mut states = [0u8; MOST_STATES];
     let mut aux = [0u8; LONGEST_AUX];
     let n = leaf_count(p);
-    let size = 32 * n;
+    let size = states_length(p);
     let length = aux_length(p);
     own_states(p, run, &mut states[..size]);
     party_sums(p, &run[16..], &states[..size], n, sums);

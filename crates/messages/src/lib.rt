@@ -15,7 +15,7 @@ use crate::response::respond;
 use layout::LONGEST_AUX;
 use layout::MOST_STATES;
 use layout::aux_length;
-use layout::leaf_count;
+use layout::states_length;
 use layout::sums_length;
 use layout::work_length;
 use lists::put_at;
@@ -53,7 +53,7 @@ pub fn message1(p: Parameters, x: &[u8], run: &[u8], work: &mut [u8], out: &mut 
 {
     let mut states = [0u8; MOST_STATES];
     let mut aux = [0u8; LONGEST_AUX];
-    let size = 32 * leaf_count(p);
+    let size = states_length(p);
     let length = aux_length(p);
     own_leaves(p, x, run, work, &mut states[..size], &mut aux[..length]);
     put_commitment(p, &run[16..], &states[..size], &aux[..length], out);
@@ -101,7 +101,7 @@ pub fn message5(
 {
     let mut states = [0u8; MOST_STATES];
     let mut aux = [0u8; LONGEST_AUX];
-    let size = 32 * leaf_count(p);
+    let size = states_length(p);
     let length = aux_length(p);
     let at = 32 * leaf;
     own_leaves(p, x, run, work, &mut states[..size], &mut aux[..length]);

@@ -9,11 +9,10 @@ use parameters::Parameters;
 use parties::share_sum;
 use seedtree::leaf_seeds;
 ghost use mathlib.Core.Path.{_≡_};
-ghost use Prim.Native.Nat.{_*_};
 ghost use lib.ListN.{length, take};
 ghost use Rattle.lists.specs.Zeroed.{zeroed};
 ghost use Rattle.shake256.specs.Fips.{SHAKE256};
-ghost use Rattle.layout.specs.Layout.{leaves, auxLength, workLength};
+ghost use Rattle.layout.specs.Layout.{auxLength, statesLength, workLength};
 ghost use Rattle.exchange.specs.Messages.{ownAux};
 ghost use Rattle.messages.specs.Asked.{Arrays, StatesAsked};
 ghost use Rattle.messages.specs.Own.{ownStates};
@@ -40,7 +39,7 @@ pub fn own_leaves(
     states: &mut [u8],
     aux: &mut [u8],
 )
-    requires { ⌜ Arrays p (now x) (now run) (now work) × (length (now states) ≡ 32 * leaves p) × (length (now aux) ≡ auxLength p) ⌝ }
+    requires { ⌜ Arrays p (now x) (now run) (now work) × (length (now states) ≡ statesLength p) × (length (now aux) ≡ auxLength p) ⌝ }
     ensures { λ _. ⌜ (now (states .exit) ≡ ownStates p (runIn (now (run .entry))))
         × (now (aux .exit) ≡ ownAux SHAKE256 p (take (p .m) (now (x .entry))) (runIn (now (run .entry))))
         × (now (work .exit) ≡ zeroed (workLength p) (now (work .entry))) ⌝ }

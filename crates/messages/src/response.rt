@@ -3,8 +3,8 @@ use axes::axis_rows;
 use axes::digests::response_digest;
 use layout::MOST_ROWS;
 use layout::MOST_VALUES;
-use layout::axis_length;
 use layout::leaf_count;
+use layout::rows_length;
 use layout::values_length;
 use parameters::Parameters;
 ghost use mathlib.Core.Path.{_≡_};
@@ -31,7 +31,7 @@ pub fn respond(
     let mut rows = [0u8; MOST_ROWS];
     let n = leaf_count(p);
     let values = values_length(p);
-    let size = p.axes * axis_length(p);
+    let size = rows_length(p);
     axis_rows(
         p,
         sums,

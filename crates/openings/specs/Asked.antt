@@ -1,7 +1,7 @@
 -- What the functions ask of their slices and numbers.
 --
 -- OpeningAsked p s leaf m5 matrix y work o   parameters within their limits, a statement that reaches its prefix, a leaf below n, slices of the right lengths
--- LeavesAsked p leaf s c a work o    of message 5 the sibling seeds s, the commitment c and aux a, which may be empty; work area and room for what the opening gives
+-- LeavesAsked p leaf a work o        of message 5 aux a, which may be empty; work area and room for what the opening gives
 -- AxesAsked p s v matrix y work o    the same with a statement, α and β in v, and the key
 -- VerdictAsked p s o                 a statement, and what an opening gives
 -- SiblingsAsked p leaf s st          a leaf, its sibling seeds, and room for the states of all leaves
@@ -12,9 +12,7 @@ use Prim.Native.Nat.{ℕ, _-_, _*_, _≤_, _<_}
 use lib.ListN.{length}
 use Rattle.parameters.specs.declared.Parameters.{Parameters}
 use Rattle.parameters.specs.Limits.{Within}
-use Rattle.layout.specs.Layout.{leaves, valuesLength, auxLength, siblingsLength, message5Length, sumsLength, workLength}
-use Rattle.layout.specs.Layout.{prefixPlace}
-use Rattle.layout.specs.Layout.{openedLength}
+use Rattle.layout.specs.Layout.{leaves, valuesLength, auxLength, siblingsLength, message5Length, sumsLength, workLength, prefixPlace, statesLength, openedLength}
 
 pub record OpeningAsked (p : Parameters) (s : List ℕ) (leaf : ℕ) (m5 matrix y work o : List ℕ) : Type 0 where
   pub within : Within p
@@ -26,11 +24,9 @@ pub record OpeningAsked (p : Parameters) (s : List ℕ) (leaf : ℕ) (m5 matrix 
   pub sized-work : length work ≡ workLength p
   pub sized-opened : length o ≡ openedLength p
 
-pub record LeavesAsked (p : Parameters) (leaf : ℕ) (siblings commitment aux work o : List ℕ) : Type 0 where
+pub record LeavesAsked (p : Parameters) (leaf : ℕ) (aux work o : List ℕ) : Type 0 where
   pub within : Within p
   pub below : leaf < leaves p
-  pub sized-siblings : length siblings ≡ siblingsLength p
-  pub sized-commitment : length commitment ≡ 32
   pub sized-aux : length aux ≤ auxLength p
   pub sized-work : length work ≡ workLength p
   pub sized-opened : length o ≡ openedLength p
@@ -53,10 +49,10 @@ pub record SiblingsAsked (p : Parameters) (leaf : ℕ) (siblings states : List �
   pub within : Within p
   pub is-leaf : leaf < leaves p
   pub sized-siblings : length siblings ≡ siblingsLength p
-  pub sized-states : length states ≡ 32 * leaves p
+  pub sized-states : length states ≡ statesLength p
 
 pub record SumsAsked (p : Parameters) (aux states sums : List ℕ) : Type 0 where
   pub within : Within p
   pub sized-aux : length aux ≤ auxLength p
-  pub sized-states : length states ≡ 32 * leaves p
+  pub sized-states : length states ≡ statesLength p
   pub sized-sums : length sums ≡ sumsLength p

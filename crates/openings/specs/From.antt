@@ -3,7 +3,6 @@
 -- statesFrom p pre leaf s          the states of all leaves, from the sibling seeds s of the hidden leaf
 -- digestFrom p pre leaf c a st n   n bytes of the digest of all commitments, from the states st, and commitment c and aux a of message 5
 -- announcedFrom p key m2 sums leaf v    what the parties of every axis announce, from the sums, and α and β in v
--- rowsFrom p key pre m2 st leaf v a     the same, from the states st and aux a
 -- responseFrom p pre rows n        n bytes of the digest of what the parties of every axis announce
 -- judged p s leaf a o              the answer, from the comparisons of the two digests of what an opening gives in o with h and h' of the statement s
 use mathlib.Core.List.{List, [], _∷_}
@@ -22,7 +21,6 @@ use Rattle.exchange.specs.Values.{Key}
 use Rattle.seedtree.specs.Laid.{laid}
 use Rattle.leaves.specs.States.{statesOf}
 use Rattle.leaves.specs.Commitments.{commitmentsOf}
-use Rattle.parties.specs.Sums.Front.{filled}
 use Rattle.axes.specs.Announcing.{rowOf}
 use Rattle.axes.specs.RowStrings.{rowsString}
 use Rattle.openings.specs.Statement.{digestIn, responseIn, prefixIn}
@@ -36,9 +34,6 @@ digestFrom p prefix leaf commitment aux states n = SHAKE256 (string5 prefix (com
 
 unfoldable pub announcedFrom : Parameters → Key → List ℕ → List ℕ → ℕ → List ℕ → List ℕ
 announcedFrom p key m2 sums leaf values = joined (rowOf p key m2 sums leaf values) (p .axes)
-
-unfoldable pub rowsFrom : Parameters → Key → List ℕ → List ℕ → List ℕ → ℕ → List ℕ → List ℕ → List ℕ
-rowsFrom p key prefix m2 states leaf values aux = announcedFrom p key m2 (filled p prefix states leaf aux) leaf values
 
 unfoldable pub responseFrom : Parameters → List ℕ → List ℕ → ℕ → List ℕ
 responseFrom p prefix rows n = SHAKE256 (rowsString SHAKE256 p prefix rows) n

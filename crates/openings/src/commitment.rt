@@ -5,12 +5,12 @@ use layout::levels;
 use layout::prefix_place;
 use layout::rows_end;
 use layout::share_length;
+use layout::siblings_length;
 use layout::states_length;
 use layout::sums_length;
 use leaves::commitments::digest_commitments;
 use leaves::states::leaf_states;
 use lists::equal;
-use lists::put_at;
 use lists::xor_at;
 use parameters::Parameters;
 use parties::party_sums;
@@ -64,27 +64,30 @@ fn sum_leaves(
     xor_at(sums, p.axes * share_length(p) + at_x(p), aux);
 }
 
-// Fills the states of `opened`, from the sibling seeds, and its commitment, which is message 5's; the sums of the disclosed
-// leaves go to the front of the work area.
+// Fills the states of `opened`, from the sibling seeds in the front of the work area; the sums of the disclosed leaves take
+// their place there.
 pub fn open_leaves(
     p: Parameters,
     prefix: &[u8],
     hidden_leaf: usize,
-    siblings: &[u8],
-    commitment: &[u8],
     aux: &[u8],
     work: &mut [u8],
     opened: &mut [u8],
 )
-    requires { ⌜ LeavesAsked p «hidden_leaf» (now siblings) (now commitment) (now aux) (now work) (now opened) ⌝ }
-    ensures { λ _. ⌜ LeavesOpened p (now (prefix .entry)) «hidden_leaf» (now (siblings .entry)) (now (commitment .entry)) (now (aux .entry))
-        (now (work .entry)) (now (work .exit)) (now (opened .exit)) ⌝ }
+    requires { ⌜ LeavesAsked p «hidden_leaf» (now aux) (now work) (now opened) ⌝ }
+    ensures { λ _. ⌜ LeavesOpened p (now (prefix .entry)) «hidden_leaf» (now (aux .entry)) (now (work .entry)) (now (opened .entry))
+        (now (work .exit)) (now (opened .exit)) ⌝ }
 {
+    let seeds = siblings_length(p);
     let states = states_length(p);
-    let rows = rows_end(p);
     let sums = sums_length(p);
-    opened_states(p, prefix, hidden_leaf, siblings, &mut opened[..states]);
-    put_at(opened, rows, commitment);
+    opened_states(
+        p,
+        prefix,
+        hidden_leaf,
+        &work[..seeds],
+        &mut opened[..states],
+    );
     sum_leaves(
         p,
         prefix,

@@ -10,10 +10,9 @@ use crate::response::open_axes;
 use crate::response::response_agrees;
 use answers::Answer;
 use answers::Refusal;
-use layout::MOST_SIBLINGS;
 use layout::MOST_VALUES;
 use layout::prefix_place;
-use layout::siblings_length;
+use layout::rows_end;
 use layout::values_length;
 use parameters::Parameters;
 use reader::opening::read_opening;
@@ -60,24 +59,13 @@ pub fn check_opening(
     ensures { λ r. ⌜ Checked p (exchangeIn p (now (statement .entry)) leaf (now (message5 .entry)))
         (keyOf (now (matrix .entry)) (now (y .entry))) r (now (work .exit)) (now (opened .exit)) ⌝ }
 {
-    let mut siblings = [0u8; MOST_SIBLINGS];
-    let mut commitment = [0u8; 32];
     let mut values = [0u8; MOST_VALUES];
-    let rest = read_opening(p, message5, &mut siblings, &mut commitment, &mut values);
-    let seeds = siblings_length(p);
+    let at = rows_end(p);
+    let rest = read_opening(p, message5, work, &mut opened[at..], &mut values);
     let size = values_length(p);
     let place = prefix_place(p);
     let aux = message5.len() - rest;
-    open_leaves(
-        p,
-        &statement[place..],
-        leaf,
-        &siblings[..seeds],
-        &commitment,
-        &message5[aux..],
-        work,
-        opened,
-    );
+    open_leaves(p, &statement[place..], leaf, &message5[aux..], work, opened);
     open_axes(p, statement, leaf, &values[..size], matrix, y, work, opened);
     verdict_of(p, statement, leaf, &message5[aux..], opened)
 }

@@ -4,7 +4,6 @@ use lists::put_at;
 use parameters::Parameters;
 ghost use mathlib.Core.Path.{_≡_};
 ghost use lib.ListN.{take, drop};
-ghost use Rattle.parameters.specs.Limits.{Within};
 ghost use Rattle.openings.specs.Statement as spec;
 
 // Fills out with the statement of messages 1 to 3; message 1 is the prefix, then h.

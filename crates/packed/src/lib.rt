@@ -95,7 +95,7 @@ pub fn add_multiples(acc: &mut [u64], by: &[u8], table: &[u64; 32])
 }
 
 // The byte b at byte i of a word.
-fn placed(b: u8, i: usize) -> u64
+pub fn placed(b: u8, i: usize) -> u64
     requires { ⌜ i < 8 ⌝ }
     ensures { λ r. ⌜ r ≡ placed i b ⌝ }
 {

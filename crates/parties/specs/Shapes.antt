@@ -8,11 +8,11 @@
 -- PartySums p st w          the states of all leaves, and room for the sums
 use mathlib.Core.Path.{_≡_}
 use mathlib.Core.List.{List}
-use Prim.Native.Nat.{ℕ, _*_, _≤_, _<_}
+use Prim.Native.Nat.{ℕ, _≤_, _<_}
 use lib.ListN.{length}
 use Rattle.parameters.specs.declared.Parameters.{Parameters}
 use Rattle.parameters.specs.Limits.{Within}
-use Rattle.layout.specs.Layout.{leaves, shareLength, sumsLength}
+use Rattle.layout.specs.Layout.{leaves, shareLength, statesLength, sumsLength}
 
 pub record AddLeaf (p : Parameters) (s w : List ℕ) : Type 0 where
   pub within : Within p
@@ -21,7 +21,7 @@ pub record AddLeaf (p : Parameters) (s w : List ℕ) : Type 0 where
 
 pub record DrawShare (p : Parameters) (i : ℕ) (st d : List ℕ) : Type 0 where
   pub within : Within p
-  pub states : length st ≡ 32 * leaves p
+  pub states : length st ≡ statesLength p
   pub leaf : i < leaves p
   pub room : shareLength p ≤ length d
 
@@ -35,10 +35,10 @@ pub record AddDisclosed (p : Parameters) (i : ℕ) (st d w : List ℕ) : Type 0 
 
 pub record ShareSum (p : Parameters) (st s : List ℕ) : Type 0 where
   pub within : Within p
-  pub states : length st ≡ 32 * leaves p
+  pub states : length st ≡ statesLength p
   pub room : length s ≡ shareLength p
 
 pub record PartySums (p : Parameters) (st w : List ℕ) : Type 0 where
   pub within : Within p
-  pub states : length st ≡ 32 * leaves p
+  pub states : length st ≡ statesLength p
   pub room : length w ≡ sumsLength p

@@ -19,6 +19,7 @@ use native.Mathlib.Omega.{arith}
 use borrow.Author.Tests.{eq-eqb, ne-eqb, lt-ltb, le-ltb, eqb-true, eqb-false, not-true}
 use lib.Dec.{eqb, ltb}
 use lib.ListN.{length, take, replicate, length-replicate}
+use Rattle.lists.specs.Checks.Laws.{and-left}
 use Rattle.lists.specs.Sum.{xorList, xorAt}
 use Rattle.lists.specs.Sum.Laws.{length-xorList, xorList-comm, xorList-assoc, xorList-append, xorList-self, xorList-zeros}
 use Rattle.parameters.specs.declared.Parameters.{Parameters}
@@ -134,10 +135,6 @@ module _ (p : Parameters) where
       (λ i l. ap (λ (t : Bool). partyOf p j c i && not t) (ne-eqb i hidden (λ e. omega arith)) ∙ and-true (partyOf p j c i))
 
 -- ---- aux
-
-and-left : (a b : Bool) → a && b ≡ true → a ≡ true
-and-left true b e = refl
-and-left false b e = e
 
 module _ (hash : List ℕ → ℕ → List ℕ) (p : Parameters) (prefix : List ℕ) (st : ℕ → List ℕ) where
   shares : List ℕ → ℕ → List ℕ

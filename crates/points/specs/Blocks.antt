@@ -10,9 +10,10 @@ use Prim.Native.Nat.{ℕ, zero, suc, _+_, _-_, _*_, _≤_, _<_}
 use native.Mathlib.Nat.{suc-mul, zero-mul, one-mul, add-mul, mul-le-mul-right}
 use native.Mathlib.Numerals.{add-one}
 use native.Mathlib.Omega.{arith}
-use lib.ListN.{length, take, drop, length-append, length-take, length-drop}
+use lib.ListN.{length, take, drop, length-append}
 use Rattle.lists.specs.Part.{putAt}
 use Rattle.lists.specs.Part.Laws.{lent-back, part-fits, putAt-putAt, putAt-whole}
+pub use Rattle.lists.specs.Part.Laws.{length-lent as length-block}
 use Rattle.exchange.specs.Sequences.{joined}
 
 pub within-blocks : (i n size a m : ℕ) → i < n → a ≡ i * size → m ≡ n * size → a + size ≤ m
@@ -20,9 +21,6 @@ within-blocks i n size a m l ea em = let f = part-fits i n size l in omega arith
 
 pub next-block : (i size a : ℕ) → a ≡ i * size → a + size ≡ (i + 1) * size
 next-block i size a e = let f = suc-mul i size in ap (λ (m : ℕ). m + size) e ∙ sym (ap (λ (m : ℕ). m * size) (add-one i) ∙ f)
-
-pub length-block : (a size : ℕ) (d : List ℕ) → a + size ≤ length d → length (take (a + size - a) (drop a d)) ≡ size
-length-block a size d l = simp (length-take, length-drop) (omega arith)
 
 -- ---- blocks
 

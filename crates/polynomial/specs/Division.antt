@@ -9,7 +9,6 @@ use lib.ListN.{length, take, getD, replicate}
 use Rattle.algebra.specs.Operations.{Operations}
 use Rattle.algebra.specs.Polynomial.{plus, scale}
 pub mod Step
-pub mod Remainder
 pub mod Exact
 pub mod Maps
 

@@ -2,9 +2,8 @@
 --
 -- begin-told                             the checks of begin, of a session
 -- points-row, leaf-row                   the checks of a call from the values of its tests
--- settle-refused, done-is                what an answer says of the call
--- begin-refused, points-refused, leaf-refused   a check failed: session, output and work area stay
--- begin-done, points-done, leaf-done     no check failed: the call is carried out
+-- done-is                                a call whose checks passed is carried out
+-- refused-call, done-call                what a call gives where a check failed, and where none did
 -- points-ready, leaf-ready               what a session says in which a call but begin is due
 -- begin-facts, points-facts, leaf-facts  what the checks that passed say
 use mathlib.Core.Path.{_≡_, refl, sym, _∙_}
@@ -34,7 +33,7 @@ use Rattle.prover.specs.Arguments.Laws.{begin-sized}
 use Rattle.prover_phase.specs.declared.Phase.{Phase}
 use Rattle.prover_phase.specs.declared.Phase.the-variants.{Fresh, Begun, Answered, Closed}
 use Rattle.calls.specs.Lengths.{keyLengths, beginLengths, pointsLengths, leafLengths}
-use Rattle.calls.specs.Prover.{Prover, Outcome, settle, isFresh, isBegun, isAnswered, heldX, intact, standing, closed, pointsDue, leafDue, repeated, beginChecks, begun, begin, pointsChecks, answered, points, leafChecks, opened, leaf}
+use Rattle.calls.specs.Prover.{Prover, Outcome, settle, isFresh, isBegun, isAnswered, heldX, intact, standing, closed, pointsDue, leafDue, repeated, beginChecks, pointsChecks, leafChecks}
 use Rattle.prover.specs.Facts.{isDone, outcomeOf, Ready, Begins, Answering, Opening}
 
 -- ---- the checks as rows
@@ -63,42 +62,17 @@ module _ (hash : List ℕ → ℕ → List ℕ) (s : Prover) (work out : List �
 
 -- ---- refused, or carried out
 
-settle-refused : (a : Answer) (s : Prover) (out work : List ℕ) (done : Outcome) → isDone a ≡ false
-    → outcomeOf a s out work ≡ settle a s out work done
-settle-refused Done s out work done e = absurd (true≢false e)
-settle-refused (Refused r) s out work done e = refl
-
 pub done-is : (a : Answer) → isDone a ≡ true → a ≡ Done
 done-is Done e = refl
 done-is (Refused r) e = absurd (false≢true e)
 
-module _ (hash : List ℕ → ℕ → List ℕ) (s : Prover) (work out : List ℕ) (key : Key) (a : Answer) where
-  module _ (p : Parameters) (xA salt root : List ℕ) (e : a ≡ beginChecks hash s p xA salt root key work out) where
-    pub begin-refused : isDone a ≡ false → outcomeOf a s out work ≡ begin hash s p xA salt root key work out
-    unfolding begin
-    begin-refused h = rw (← e) (settle-refused a s out work (begun hash s p xA salt root key work out) h)
+pub refused-call : (a b : Answer) (s : Prover) (out work : List ℕ) (done : Outcome) → a ≡ b → isDone a ≡ false
+    → outcomeOf a s out work ≡ settle b s out work done
+refused-call Done b s out work done e h = absurd (true≢false h)
+refused-call (Refused r) b s out work done e h = rw (← e)
 
-    pub begin-done : isDone a ≡ true → begun hash s p xA salt root key work out ≡ begin hash s p xA salt root key work out
-    unfolding begin
-    begin-done h = rw (← e, done-is a h)
-
-  module _ (message2 : List ℕ) (e : a ≡ pointsChecks hash s message2 key work out) where
-    pub points-refused : isDone a ≡ false → outcomeOf a s out work ≡ points hash s message2 key work out
-    unfolding points
-    points-refused h = rw (← e) (settle-refused a s out work (answered hash s message2 key work out) h)
-
-    pub points-done : isDone a ≡ true → answered hash s message2 key work out ≡ points hash s message2 key work out
-    unfolding points
-    points-done h = rw (← e, done-is a h)
-
-  module _ (i : ℕ) (e : a ≡ leafChecks hash s i key work out) where
-    pub leaf-refused : isDone a ≡ false → outcomeOf a s out work ≡ leaf hash s i key work out
-    unfolding leaf
-    leaf-refused h = rw (← e) (settle-refused a s out work (opened hash s i key work out) h)
-
-    pub leaf-done : isDone a ≡ true → opened hash s i key work out ≡ leaf hash s i key work out
-    unfolding leaf
-    leaf-done h = rw (← e, done-is a h)
+pub done-call : (a b : Answer) (s : Prover) (out work : List ℕ) (done : Outcome) → a ≡ b → isDone a ≡ true → done ≡ settle b s out work done
+done-call a b s out work done e h = rw (← e, done-is a h)
 
 -- ---- what the checks that passed say
 

@@ -1,7 +1,6 @@
 // The lengths that the prover's calls ask of what they are lent.
 use parameters::Parameters;
 ghost use mathlib.Core.Path.{_≡_};
-ghost use mathlib.Core.Bool.{_&&_};
 ghost use mathlib.Core.List.{_∷_};
 ghost use lib.Dec.{eqb};
 ghost use Rattle.lists.specs.Checks.{allTrue};
@@ -9,16 +8,6 @@ ghost use Rattle.parameters.specs.Limits.{Within};
 ghost use Rattle.layout.specs.Layout.{message2Length, message5Length};
 ghost use Rattle.layout.specs.Lent.{lentTests};
 ghost use Rattle.prover.specs.Arguments.{beginTests};
-
-// Do both hold?
-pub fn both(a: bool, b: bool) -> bool
-    ensures { λ r. ⌜ r ≡ (a && b) ⌝ }
-{
-    if a {
-        return b;
-    }
-    false
-}
 
 // The lengths of what begin is lent besides x_A, matrix and y.
 pub struct Lengths {
@@ -33,11 +22,9 @@ pub fn begin_lengths(p: Parameters, x_a: usize, matrix: usize, y: usize, others:
     requires { ⌜ Within p ⌝ }
     ensures { λ r. ⌜ r ≡ allTrue (beginTests p «x_a» matrix y others) ⌝ }
 {
-    let seeds = both(
-        others.root == 16,
-        both(others.out == 64, layout::lent(p, matrix, y, others.work)),
-    );
-    both(x_a == p.k, both(others.salt == 32, seeds))
+    x_a == p.k
+        && (others.salt == 32
+            && (others.root == 16 && (others.out == 64 && layout::lent(p, matrix, y, others.work))))
 }
 
 // Have the slices that points is lent, of these lengths, the lengths that the parameters say?
@@ -52,11 +39,7 @@ pub fn points_lengths(
     requires { ⌜ Within p ⌝ }
     ensures { λ r. ⌜ r ≡ allTrue (eqb message2 (message2Length p) ∷ eqb out 32 ∷ lentTests p matrix y work) ⌝ }
 {
-    let n = layout::message2_length(p);
-    both(
-        message2 == n,
-        both(out == 32, layout::lent(p, matrix, y, work)),
-    )
+    message2 == layout::message2_length(p) && (out == 32 && layout::lent(p, matrix, y, work))
 }
 
 // Have the slices that leaf is lent, of these lengths, the lengths that the parameters say?
@@ -71,6 +54,5 @@ pub fn leaf_lengths(
     requires { ⌜ Within p ⌝ }
     ensures { λ r. ⌜ r ≡ allTrue (eqb out (message5Length p leaf) ∷ lentTests p matrix y work) ⌝ }
 {
-    let n = layout::message5_length(p, leaf);
-    both(out == n, layout::lent(p, matrix, y, work))
+    out == layout::message5_length(p, leaf) && layout::lent(p, matrix, y, work)
 }

@@ -3,7 +3,6 @@ use crate::Called;
 use crate::Prover;
 use crate::arguments::Lengths;
 use crate::arguments::begin_lengths;
-use crate::arguments::both;
 use crate::vector::weigh;
 use answers::Answer;
 use answers::Refusal;
@@ -30,8 +29,7 @@ pub fn repeated(phase: Phase, held_salt: &[u8], held_root: &[u8], salt: &[u8], r
     ensures { λ r. ⌜ ((p : Parameters) (x message2 : List ℕ)
         → r ≡ spec.repeated (session phase p x (now («held_salt» .entry)) (now («held_root» .entry)) message2) (now (salt .entry)) (now (root .entry))) ⌝ }
 {
-    let same = both(lists::equal(salt, held_salt), lists::equal(root, held_root));
-    both(!is_fresh(phase), same)
+    !is_fresh(phase) && (lists::equal(salt, held_salt) && lists::equal(root, held_root))
 }
 
 // The checks of begin, where `again` says that salt and root are those of the exchange held. Where they pass, x, which came as

@@ -7,8 +7,7 @@
 --   weight-w         a key whose vector has exactly w nonzero entries is not refused
 use mathlib.Core.Path.{_≡_, refl}
 use mathlib.Core.Bool.{true, false}
-use mathlib.Core.List.{List, [], _∷_}
-use Prim.Native.Nat.{ℕ}
+use mathlib.Core.List.{[], _∷_}
 use Rattle.lists.specs.Xor.{_⊕_}
 use Rattle.lists.specs.Sum.{xorList}
 use Rattle.bytefield.specs.Product.{reduction, xtime, timesBits, _⊗_}

@@ -63,6 +63,10 @@ room s = ⊎-elim full free (eq-zero-or-pos (rate - s .at))
 pub ready-at : (s : Sponge) → ready s .at < rate
 ready-at s = room s .0
 
+-- at the start of a block a sponge is its lanes
+pub emptied : {l k : List ℕ} → l ≡ k → mk l 0 ≡ mk k 0
+emptied = ap (λ (z : List ℕ). mk z 0)
+
 -- where the arms of the code's test meet: a full block was permuted, or there was room
 pub made-ready : {A B : Type 0} (s t : Sponge) → (A → (rate ≤ s .at) × (t ≡ permuted s)) → (B → (s .at < rate) × (t ≡ s)) → A ⊎ B
     → (t ≡ ready s) × (t .at < rate)

@@ -10,6 +10,7 @@ ghost use mathlib.Core.Path.{_≡_};
 ghost use Prim.Native.Nat.{_<_};
 ghost use lib.ListN.{length};
 ghost use Rattle.fips.specs.Parameters.{rate};
+ghost use Rattle.fips.specs.Permutation.{keccakF};
 ghost use Rattle.shake256.specs.Fips.{SHAKE256};
 ghost use Rattle.shake256.specs.Stream as spec;
 ghost use Rattle.shake256.specs.Turns.{Taken, Given};
@@ -60,6 +61,14 @@ fn give_some(lanes: &[u64; 25], at: usize, out: &mut [u8], i: usize) -> usize
     1
 }
 
+// The lanes go through the permutation, in place: the one place where it is called.
+fn permute_lanes(lanes: &mut [u64; 25])
+    ensures { λ _. ⌜ now (lanes .exit) ≡ keccakF (now (lanes .entry)) ⌝ }
+{
+    let next = permute(*lanes);
+    *lanes = next;
+}
+
 impl Sponge {
     // The sponge that has absorbed nothing.
     pub fn new() -> Self
@@ -71,15 +80,6 @@ impl Sponge {
         }
     }
 
-    // The one place where the permutation is called.
-    fn permuted(self) -> Self
-        ensures { λ r. ⌜ r ≡ spec.permuted self ⌝ }
-    {
-        let lanes = self.lanes;
-        let next = permute(lanes);
-        Sponge { lanes: next, at: 0 }
-    }
-
     // The sponge with the bytes of s absorbed.
     pub fn absorb(self, s: &[u8]) -> Self
         ensures { λ r. ⌜ r ≡ spec.absorbed self (now (s .entry)) ⌝ }
@@ -88,8 +88,8 @@ impl Sponge {
         let mut i: usize = 0;
         while i < s.len() {
             if RATE <= t.at {
-                let next = t.permuted();
-                t = next;
+                permute_lanes(&mut t.lanes);
+                t.at = 0;
             }
             let at = t.at;
             let n = take_some(&mut t.lanes, at, s, i);
@@ -105,8 +105,8 @@ impl Sponge {
     {
         let mut t = self;
         if RATE <= t.at {
-            let next = t.permuted();
-            t = next;
+            permute_lanes(&mut t.lanes);
+            t.at = 0;
         }
         let at = t.at;
         xor_byte(&mut t.lanes, at, DOMAIN);
@@ -123,8 +123,8 @@ impl Sponge {
         let mut i: usize = 0;
         while i < out.len() {
             if RATE <= t.at {
-                let next = t.permuted();
-                t = next;
+                permute_lanes(&mut t.lanes);
+                t.at = 0;
             }
             let at = t.at;
             let n = give_some(&t.lanes, at, out, i);

@@ -18,7 +18,7 @@ use Rattle.lists.specs.Computed.{all, below}
 use Rattle.bytefield.specs.Product.{reduction, xtime, timesBits, _⊗_}
 use Rattle.bytefield.specs.Byte.{Byte, byte, byteRing, byteField}
 use Rattle.bytefield.specs.Byte.Laws.{byte-zero}
-use Rattle.tower.specs.Point.{pointOps, Quad, quad, four}
+use Rattle.tower.specs.Point.{Quad, quad}
 pub mod Laws
 
 -- ---- u² + u is never 20

@@ -1,6 +1,6 @@
 -- What the functions of this crate ask of their arguments.
 --
--- ShareAsked       a share, a position below t, the two tables of multiples, and room for an announcement
+-- ShareAsked       a share, a position below t, a table of multiples, and room for an announcement
 -- SharesAsked      n shares, their values at a position, and room for n announcements
 -- PointAsked       n shares with the coefficients of each S and of F, and room for the values
 -- EachAsked        n shares with the coefficients of each S and of F, message 2, and room for the announcements
@@ -12,11 +12,11 @@ use Rattle.parameters.specs.declared.Parameters.{Parameters}
 use Rattle.parameters.specs.Limits.{Within}
 use Rattle.layout.specs.Layout.{shareLength, message2Length, rowLength}
 
-pub record ShareAsked (p : Parameters) (s : List ℕ) (l : ℕ) (factors out : List ℕ) : Type 0 where
+pub record ShareAsked (p : Parameters) (s : List ℕ) (l : ℕ) (table out : List ℕ) : Type 0 where
   pub within : Within p
   pub position : l < p .t
   pub sized-s : length s ≡ shareLength p
-  pub sized-factors : length factors ≡ 256
+  pub sized-table : 128 ≤ length table
   pub sized-out : length out ≡ rowLength p
 
 pub record SharesAsked (p : Parameters) (n : ℕ) (shares : List ℕ) (l : ℕ) (words out : List ℕ) : Type 0 where

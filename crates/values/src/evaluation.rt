@@ -1,14 +1,12 @@
 // Values of polynomials with bytes as coefficients at a point. The power of the point is carried from term to term, and every product is
-// counted. The field tables are made once by the caller and lent.
+// counted. The caller makes the table of the point's multiples once and lends it.
 use points::Counted;
 use points::counted_product;
-use points::multiples_of;
 use points::product_by;
 use points::word_of;
 ghost use mathlib.Core.Path.{_≡_};
 ghost use Prim.Native.Nat.{_+_, _*_, _<_, _≤_};
 ghost use lib.ListN.{length, take};
-ghost use Rattle.bytefield.specs.Tables.{fieldTables};
 ghost use Rattle.tower.specs.Field.{Point, point, bytesOf};
 ghost use Rattle.packed.specs.Table.{multiples};
 ghost use Rattle.exchange.specs.Reading.{_⊠_};
@@ -71,31 +69,30 @@ fn next_term(
     next_power(power, table, terms)
 }
 
-// The values at the point r of n polynomials with len bytes as coefficients, lowest first: polynomial i starts at place from + i * stride
-// of s. values becomes their words. The power of r is carried from term to term, once for all of them, and answered with the count.
+// The values at a point r, of which the table has all multiples, of n polynomials with len bytes as coefficients, lowest first: polynomial i
+// starts at place from + i * stride of s. values becomes their words. The power of r is carried from term to term, once for all of them, and
+// answered with the count.
 pub fn values_at(
     s: &[u8],
     n: usize,
     stride: usize,
     from: usize,
     len: usize,
-    r: [u8; 4],
+    table: &[u64],
     values: &mut [u64],
-    tables: &[u8; 512],
 ) -> Counted
-    requires { ⌜ EvaluationAsked (length (now s)) n stride from len (length (now values)) × (now tables ≡ fieldTables) ⌝ }
-    ensures { λ c. ⌜ (now (values .exit) ≡ valuesOf (now (s .entry)) n stride from len (point r)) × (c .point ≡ bytesOf (pointPower (point r) len))
+    requires { ⌜ EvaluationAsked (length (now s)) n stride from len (length (now values)) × (128 ≤ length (now table)) ⌝ }
+    ensures { λ c. ⌜ ((r : Point) → now (table .entry) ≡ multiplesOf r
+        → (now (values .exit) ≡ valuesOf (now (s .entry)) n stride from len r) × (c .point ≡ bytesOf (pointPower r len)))
         × (c .made ≡ len * (n + 1)) × (0 < n → c .made ≤ 2 * (n * len)) ⌝ }
 {
     packed::clear(values);
-    let mut table = [0u64; 128];
-    multiples_of(&mut table, r, tables);
     let mut power = [1u8, 0, 0, 0];
     let mut count: usize = 0;
     let mut at = from;
     let mut left = len;
     while 0 < left {
-        let next = next_term(s, n, stride, at, power, &table, values, count);
+        let next = next_term(s, n, stride, at, power, table, values, count);
         let p = next.point;
         power = p;
         count = next.made;

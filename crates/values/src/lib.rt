@@ -7,9 +7,9 @@ mod valued;
 
 use crate::position::announce_at;
 use coefficients::Group;
+use layout::LEAF_COEFFICIENTS;
 use layout::LONGEST_ROW;
 use layout::LONGEST_Y;
-use layout::MOST_COEFFICIENTS;
 use layout::factor_length;
 use layout::row_length;
 use layout::values_length;
@@ -73,7 +73,7 @@ pub fn announce_leaf(
     ensures { λ c. ⌜ (now (out .exit) ≡ leafValues p (now (matrix .entry)) (now (message2 .entry)) (now (s .entry))) × (c ≡ productsOf p 1) ⌝ }
 {
     let y = [0u8; LONGEST_Y];
-    let mut rows = [0u8; MOST_COEFFICIENTS];
+    let mut rows = [0u8; LEAF_COEFFICIENTS];
     let mut block = [0u8; LONGEST_ROW];
     let n = p.m - p.k;
     let e = 2 * p.m;

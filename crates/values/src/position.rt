@@ -1,7 +1,9 @@
 // What several shares announce at one position.
-use crate::term::announce_share;
+use crate::term::put_factors;
+use crate::term::put_gamma;
 use crate::valued::evaluate;
 use coefficients::Group;
+use layout::MOST_EVALUATIONS;
 use layout::points_length;
 use layout::row_length;
 use layout::share_length;
@@ -16,14 +18,12 @@ ghost use Prim.Native.Nat.{ℕ, _+_, _*_, _<_, _≤_};
 ghost use lib.ListN.{length};
 ghost use Rattle.bytefield.specs.Tables.{fieldTables};
 ghost use Rattle.tower.specs.Field.{bytesOf};
-ghost use Rattle.exchange.specs.Reading.{value};
+ghost use Rattle.exchange.specs.Reading.{value, _⊠_};
 ghost use Rattle.exchange.specs.Values.{Key, F, pointOf, multiplierOf};
+ghost use Rattle.points.specs.Multiples.{multiplesOf};
 ghost use Rattle.values.specs.Asked.{SharesAsked, EachAsked};
-ghost use Rattle.values.specs.Position.{Valued, Factors, RowsOf, EachAnnounced};
+ghost use Rattle.values.specs.Position.{Valued, RowsOf, Each, factorsOf, gammaOf, EachAnnounced};
 ghost use Rattle.values.specs.Products.{productsAt};
-
-// The words of the values at a point: of Q, S and P of up to fifteen shares, and of F.
-const MOST_WORDS: usize = 46;
 
 // A position l: ε and F(r) there, the word of the leading term of Q, and how many products were made up to it.
 struct Position {
@@ -34,23 +34,60 @@ struct Position {
     made: usize,
 }
 
-// α, β and γ at position l of each of n shares, which stand one after another, are written to its part of out. words is as `evaluate` leaves it,
-// and factors has the multiples of ε, and behind them those of ε·F(r). Answers how many products were made.
-fn announce_shares(
+// α and β at position l of each of n shares, which stand one after another, are written to its part of out. words is as `evaluate` leaves it,
+// and the table has the multiples of ε. Answers how many products were made.
+fn announce_factors(
     p: Parameters,
     n: usize,
     shares: &[u8],
     l: usize,
     words: &[u64],
     leading: u64,
-    factors: &[u64],
+    table: &[u64],
     out: &mut [u8],
 ) -> usize
-    requires { ⌜ SharesAsked p n (now shares) l (now words) (now out) × (length (now factors) ≡ 256) ⌝ }
+    requires { ⌜ SharesAsked p n (now shares) l (now words) (now out) × (128 ≤ length (now table)) ⌝ }
     ensures { λ c. ⌜ ((key : Key) (message2 : List ℕ) (first : Bool)
         → Valued p key first (now (shares .entry)) n (pointOf p message2 l) (now (words .entry)) leading
-        → Factors p message2 l (now (factors .entry))
-        → EachAnnounced p key message2 first (now (shares .entry)) l (now (out .entry)) (now (out .exit)) n) × (c ≡ 2 * n) ⌝ }
+        → now (table .entry) ≡ multiplesOf (multiplierOf p message2 l)
+        → Each p (factorsOf p key message2 first (now (shares .entry)) l) (now (out .entry)) (now (out .exit)) n) × (c ≡ n) ⌝ }
+{
+    let size = share_length(p);
+    let room = row_length(p);
+    let mut made: usize = 0;
+    let mut a = 0;
+    let mut b = 0;
+    let mut i = 0;
+    while i < n {
+        let e = a + size;
+        let f = b + room;
+        let q = words[i] ^ leading;
+        let r = words[n + i];
+        let terms = put_factors(p, &shares[a..e], l, q, r, table, &mut out[b..f]);
+        made += terms;
+        a = e;
+        b = f;
+        i += 1;
+    }
+    made
+}
+
+// γ at position l of each of n shares, which stand one after another, is written to its part of out. words is as `evaluate` leaves it,
+// and the table has the multiples of ε·F(r). Answers how many products were made.
+fn announce_gammas(
+    p: Parameters,
+    n: usize,
+    shares: &[u8],
+    l: usize,
+    words: &[u64],
+    table: &[u64],
+    out: &mut [u8],
+) -> usize
+    requires { ⌜ SharesAsked p n (now shares) l (now words) (now out) × (128 ≤ length (now table)) ⌝ }
+    ensures { λ c. ⌜ ((key : Key) (message2 : List ℕ) (first : Bool) (leading : ℕ)
+        → Valued p key first (now (shares .entry)) n (pointOf p message2 l) (now (words .entry)) leading
+        → now (table .entry) ≡ multiplesOf (multiplierOf p message2 l ⊠ value (F p) (pointOf p message2 l))
+        → Each p (gammaOf p message2 (now (shares .entry)) l) (now (out .entry)) (now (out .exit)) n) × (c ≡ n) ⌝ }
 {
     let size = share_length(p);
     let room = row_length(p);
@@ -62,16 +99,8 @@ fn announce_shares(
     while i < n {
         let e = a + size;
         let f = b + room;
-        let terms = announce_share(
-            p,
-            &shares[a..e],
-            l,
-            words[i] ^ leading,
-            words[n + i],
-            words[behind + i],
-            factors,
-            &mut out[b..f],
-        );
+        let v = words[behind + i];
+        let terms = put_gamma(p, &shares[a..e], l, v, table, &mut out[b..f]);
         made += terms;
         a = e;
         b = f;
@@ -80,32 +109,33 @@ fn announce_shares(
     made
 }
 
-// α, β and γ at a position of each of n shares are written to its part of out; words is as `evaluate` leaves it. The tables of multiples stand in
-// this frame, which is not there while the values are made.
+// α, β and γ at a position of each of n shares are written to its part of out; words is as `evaluate` leaves it. The table becomes first the
+// multiples of ε, then those of ε·F(r). Answers how many products were made.
 fn announce_valued(
     p: Parameters,
     n: usize,
     shares: &[u8],
     at: Position,
     words: &[u64],
+    table: &mut [u64],
     out: &mut [u8],
     tables: &[u8; 512],
 ) -> usize
-    requires { ⌜ SharesAsked p n (now shares) (at .l) (now words) (now out) × (at .made ≤ 13005) × (now tables ≡ fieldTables) ⌝ }
+    requires { ⌜ SharesAsked p n (now shares) (at .l) (now words) (now out) × (at .made ≤ 13005) × (length (now table) ≡ 128) × (now tables ≡ fieldTables) ⌝ }
     ensures { λ c. ⌜ ((key : Key) (message2 : List ℕ) (first : Bool)
         → Valued p key first (now (shares .entry)) n (pointOf p message2 (at .l)) (now (words .entry)) (at .leading)
         → at .multiplier ≡ bytesOf (multiplierOf p message2 (at .l)) → at .vanishing ≡ bytesOf (value (F p) (pointOf p message2 (at .l)))
         → EachAnnounced p key message2 first (now (shares .entry)) (at .l) (now (out .entry)) (now (out .exit)) n) × (c ≡ at .made + 1 + 2 * n) ⌝ }
 {
-    let mut factors = [0u64; 256];
     let e = at.multiplier;
-    multiples_of(&mut factors[..128], e, tables);
+    multiples_of(table, e, tables);
+    let factors = announce_factors(p, n, shares, at.l, words, at.leading, table, out);
     let x = at.vanishing;
-    let product = product_by(x, &factors[..128], at.made);
+    let product = product_by(x, table, at.made + factors);
     let y = product.point;
-    multiples_of(&mut factors[128..], y, tables);
-    let terms = announce_shares(p, n, shares, at.l, words, at.leading, &factors, out);
-    product.made + terms
+    multiples_of(table, y, tables);
+    let gammas = announce_gammas(p, n, shares, at.l, words, table, out);
+    product.made + gammas
 }
 
 // α, β and γ at position l of each share of a group are written to its part of out; rows is as `evaluate` has it. Answers how many products were made.
@@ -124,12 +154,14 @@ pub fn announce_at(
         → EachAnnounced p key (now (message2 .entry)) (group .first) (now (shares .entry)) l (now (out .entry)) (now (out .exit)) (group .n))
         × (c ≡ productsAt p (group .n)) ⌝ }
 {
-    let mut words = [0u64; MOST_WORDS];
+    let mut words = [0u64; MOST_EVALUATIONS];
+    let mut table = [0u64; 128];
     let n = group.n;
     let e = 3 * n + 1;
     let multiplier = point_at(message2, points_length(p) + 4 * l);
     let r = point_at(message2, 4 * l);
-    let values = evaluate(p, group, shares, rows, r, &mut words[..e], tables);
+    multiples_of(&mut table, r, tables);
+    let values = evaluate(p, group, shares, rows, &table, &mut words[..e]);
     let vanishing = values.vanishing;
     let at = Position {
         l,
@@ -138,5 +170,5 @@ pub fn announce_at(
         leading: values.leading,
         made: values.made,
     };
-    announce_valued(p, n, shares, at, &words[..e], out, tables)
+    announce_valued(p, n, shares, at, &words[..e], &mut table, out, tables)
 }

@@ -9,15 +9,16 @@ use points::point_of;
 use points::product_by;
 use points::sum;
 ghost use mathlib.Core.Path.{_≡_};
-ghost use Prim.Native.Nat.{_+_, _<_, _≤_};
+ghost use Prim.Native.Nat.{_+_, _*_, _<_, _≤_};
 ghost use lib.ListN.{length};
 ghost use Rattle.lists.specs.Part.{putAt};
 ghost use Rattle.tower.specs.Field.{Point, bytesOf};
+ghost use Rattle.layout.specs.Layout.{atV};
 ghost use Rattle.exchange.specs.Reading.{_⊞_, _⊠_};
 ghost use Rattle.exchange.specs.Values.{aOf, bOf, cOf};
 ghost use Rattle.points.specs.Multiples.{wordOf, multiplesOf};
 ghost use Rattle.values.specs.Asked.{ShareAsked};
-ghost use Rattle.values.specs.Position.{firstHalf, secondHalf, writtenAt};
+ghost use Rattle.values.specs.Position.{factorsAt};
 
 // The product of a value with the factor of which the table has the multiples, and x added, is written to out from place at on.
 fn put_term(out: &mut [u8], at: usize, value: u64, table: &[u64], x: [u8; 4], made: usize) -> usize
@@ -40,32 +41,39 @@ fn put_sum(out: &mut [u8], at: usize, value: u64, x: [u8; 4])
     put_point(out, at, sum(point_of(value), x));
 }
 
-// α, β and γ of the share s at position l are written to their places in out: q, r and v are the words of Q, S and P there,
-// and factors has the multiples of ε, and behind them those of ε·F(r). Answers how many products were made.
-pub fn announce_share(
+// α and β of the share s at position l are written to their places in out: q and r are the words of Q and S there, and the table has the
+// multiples of ε. Answers how many products were made.
+pub fn put_factors(
     p: Parameters,
     s: &[u8],
     l: usize,
     q: u64,
     r: u64,
-    v: u64,
-    factors: &[u64],
+    table: &[u64],
     out: &mut [u8],
 ) -> usize
-    requires { ⌜ ShareAsked p (now s) l (now factors) (now out) ⌝ }
-    ensures { λ c. ⌜ ((ε φ Q S P : Point) → firstHalf (now (factors .entry)) ≡ multiplesOf ε → secondHalf (now (factors .entry)) ≡ multiplesOf φ
-        → q ≡ wordOf Q → r ≡ wordOf S → v ≡ wordOf P
-        → now (out .exit)
-        ≡ writtenAt p l (ε ⊠ Q ⊞ aOf p (now (s .entry)) l) (S ⊞ bOf p (now (s .entry)) l) (φ ⊠ P ⊞ cOf p (now (s .entry)) l) (now (out .entry)))
-        × (c ≡ 2) ⌝ }
+    requires { ⌜ ShareAsked p (now s) l (now table) (now out) ⌝ }
+    ensures { λ c. ⌜ ((ε Q S : Point) → now (table .entry) ≡ multiplesOf ε → q ≡ wordOf Q → r ≡ wordOf S
+        → now (out .exit) ≡ factorsAt p l (ε ⊠ Q ⊞ aOf p (now (s .entry)) l) (S ⊞ bOf p (now (s .entry)) l) (now (out .entry))) × (c ≡ 1) ⌝ }
 {
     let x = 4 * l;
     let y = factor_length(p) + x;
-    let z = values_length(p) + x;
     let a = point_at(s, x);
-    let first = put_term(out, x, q, &factors[..128], a, 0);
+    let made = put_term(out, x, q, table, a, 0);
     let b = point_at(s, y);
     put_sum(out, y, r, b);
+    made
+}
+
+// γ of the share s at position l is written to its place in out: v is the word of P there, and the table has the multiples of ε·F(r).
+// Answers how many products were made.
+pub fn put_gamma(p: Parameters, s: &[u8], l: usize, v: u64, table: &[u64], out: &mut [u8]) -> usize
+    requires { ⌜ ShareAsked p (now s) l (now table) (now out) ⌝ }
+    ensures { λ c. ⌜ ((φ P : Point) → now (table .entry) ≡ multiplesOf φ → v ≡ wordOf P
+        → now (out .exit) ≡ putAt (now (out .entry)) (atV p + 4 * l) (bytesOf (φ ⊠ P ⊞ cOf p (now (s .entry)) l))) × (c ≡ 1) ⌝ }
+{
+    let x = 4 * l;
+    let z = values_length(p) + x;
     let c = point_at(s, at_c(p) + x);
-    put_term(out, z, v, &factors[128..256], c, first)
+    put_term(out, z, v, table, c, 0)
 }

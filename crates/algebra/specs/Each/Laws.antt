@@ -1,11 +1,10 @@
 -- Laws of what specs/Each.antt defines.
 --
-use mathlib.Core.Path.{_≡_}
-use mathlib.Core.List.{List, [], _∷_, _++_, map}
+use mathlib.Core.List.{List, [], _∷_, map}
 use Prim.Native.Nat.{ℕ, zero, suc, _<_, zero-le, suc-le-suc}
 use native.Mathlib.Nat.{le-of-suc-le-suc, not-suc-le-zero}
 use lib.ListN.{length, getD}
-use Rattle.algebra.specs.Each.{Distinct, Each}
+use Rattle.algebra.specs.Each.{Each}
 
 -- ---- laws of Each
 pub each-all : {A : Type 0} {P : A → Type 0} → ((x : A) → P x) → (xs : List A) → Each P xs
@@ -19,14 +18,6 @@ each-map f (x ∷ xs) h = (f x (h .0), each-map f xs (h .1))
 pub each-map₂ : {A : Type 0} {P Q S : A → Type 0} → ((x : A) → P x → Q x → S x) → (xs : List A) → Each P xs → Each Q xs → Each S xs
 each-map₂ f [] h k = tt
 each-map₂ f (x ∷ xs) h k = (f x (h .0) (k .0), each-map₂ f xs (h .1) (k .1))
-
-pub each-left : {A : Type 0} (P : A → Type 0) (xs ys : List A) → Each P (xs ++ ys) → Each P xs
-each-left P [] ys h = tt
-each-left P (x ∷ xs) ys h = (h .0, each-left P xs ys (h .1))
-
-pub each-right : {A : Type 0} (P : A → Type 0) (xs ys : List A) → Each P (xs ++ ys) → Each P ys
-each-right P [] ys h = h
-each-right P (x ∷ xs) ys h = each-right P xs ys (h .1)
 
 pub each-of-map : {A B : Type 0} (P : B → Type 0) (f : A → B) (xs : List A) → Each P (map f xs) → Each (λ x. P (f x)) xs
 each-of-map P f [] h = tt
@@ -45,11 +36,3 @@ pub each-at : {A : Type 0} (P : A → Type 0) (d : A) (xs : List A) → Each P x
 each-at P d [] h i l = absurd (not-suc-le-zero l)
 each-at P d (x ∷ xs) h zero l = h .0
 each-at P d (x ∷ xs) h (suc i) l = each-at P d xs (h .1) i (le-of-suc-le-suc l)
-
-pub distinct-from : {A : Type 0} (d : A) (xs : List A)
-    → ((i j : ℕ) → i < j → j < length xs → getD xs j d ≡ getD xs i d → ⊥) → Distinct xs
-distinct-from d [] h = tt
-distinct-from d (x ∷ xs) h = (
-  each-from (λ y. y ≡ x → ⊥) d xs (λ i l. h 0 (suc i) (suc-le-suc zero-le) (suc-le-suc l)),
-  distinct-from d xs (λ i j p l. h (suc i) (suc j) (suc-le-suc p) (suc-le-suc l)),
-)

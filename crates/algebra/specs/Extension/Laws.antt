@@ -1,7 +1,7 @@
 -- The pairs form a ring, and a field where c is irreducible.
 --
 --   pair                  two pairs with equal parts are equal
---   ext R c, ops-ext      the ring of pairs, whose operations are extOps
+--   ext R c               the ring of pairs
 --   extField F c irr      the field of pairs
 --   tower                 the step can be made a second time: c·T is irreducible over the pairs where c is over the field
 --   embed                 u ↦ (u, 0) is a homomorphism
@@ -54,9 +54,6 @@ module _ {K : Type 0} (R : Ring2 K) (c : K) where
     mul-one = ext-mul-one;
     mul-add = ext-mul-add;
   }
-
-  pub ops-ext : ops ext ≡ extOps (ops R) c
-  ops-ext = refl
 
   -- ---- u ↦ (u, 0)
   embed-mul : (u v : K) → (u * v, 𝟘) ≡ times (u, 𝟘) (v, 𝟘)

@@ -5,7 +5,7 @@
 --   eval-zeros                     the zero polynomial
 --   eval-expand                    the value of y + (X + f) p
 --   first-divide                   the remainder of p by X + f is the value of p at f
---   expand-divide, divide-expand   the two steps by X + f undo each other
+--   expand-divide                  multiplying by X + f undoes the division
 --   plus-zeros                     two lists of one length whose sum is zero are equal
 use mathlib.Core.Path.{_≡_, refl, ap, ap₂, _∙_}
 use mathlib.Core.List.{List, [], _∷_, _++_}
@@ -97,13 +97,6 @@ module _ {K : Type 0} (R : Ring2 K) where
   expand-divide f [] = refl
   expand-divide f (b ∷ []) = ap (λ (v : K). v ∷ []) (back-end b f)
   expand-divide f (b ∷ c ∷ p) = ap₂ _∷_ (back b f _) (expand-divide f (c ∷ p))
-
-  pub divide-expand : (f : K) (l : List K) → divide O f (expand O f l) ≡ l
-  unfolding expand divide
-  divide-expand f [] = refl
-  divide-expand f (b ∷ []) = ap (λ (v : K). v ∷ []) (back-end b f)
-  divide-expand f (b ∷ c ∷ p) =
-      ap₂ _∷_ (ap (λ (v : K). b + f * c + f * v) (ap (first O) (divide-expand f (c ∷ p))) ∙ back b f c) (divide-expand f (c ∷ p))
 
   -- ---- sums
   pub plus-zeros : (p q : List K) → length p ≡ length q → Zeros O (plus O p q) → p ≡ q

@@ -1,7 +1,6 @@
 -- Evaluation and interpolation are linear. The laws ask little of the operations, so that they hold of all numbers, bytes or not.
 --
 --   Linear O                            what is asked: sums can be regrouped, and products are additive
---   linear R                            a ring of characteristic 2 has it
 --   eval-sum, expand-sum                values, and products with X + f, of a sum of lists of one length
 --   slopes-sum, interpolate-sum         interpolation of a sum of values, at any points
 use mathlib.Core.Path.{_≡_, refl, sym, ap, ap₂, _∙_}
@@ -10,8 +9,6 @@ use Prim.Native.Nat.{suc}
 use native.Mathlib.Omega.{arith}
 use lib.ListN.{length}
 use Rattle.algebra.specs.Operations.{Operations}
-use Rattle.algebra.specs.Ring.{Ring2, ops}
-use Rattle.algebra.specs.Ring.Laws.{ring}
 use Rattle.algebra.specs.Polynomial.{eval, plus, expand, slopes, interpolate}
 use Rattle.algebra.specs.Polynomial.Lengths.{length-slopes, length-interpolate}
 
@@ -21,20 +18,6 @@ pub record Linear {K : Type 0} (O : Operations K) : Type 0 where
       → O .add (O .add a b) (O .mul f (O .add c d)) ≡ O .add (O .add a (O .mul f c)) (O .add b (O .mul f d))
   pub slope-sum : (a b y z w : K)
       → O .mul (O .add (O .add a b) (O .add y z)) w ≡ O .add (O .mul (O .add a y) w) (O .mul (O .add b z) w)
-
-module _ {K : Type 0} (R : Ring2 K) where
-  infixl 60 _+_
-  infixl 70 _*_
-  open Ring2 R using (add as _+_, mul as _*_)
-
-  ring-step : (a b f c d : K) → a + b + f * (c + d) ≡ a + f * c + (b + f * d)
-  ring-step a b f c d = simp (ring, R)
-
-  ring-slope : (a b y z w : K) → (a + b + (y + z)) * w ≡ (a + y) * w + (b + z) * w
-  ring-slope a b y z w = simp (ring, R)
-
-  pub linear : Linear (ops R)
-  linear = record { zero-sum = R .add-zero (R .zero); step-sum = ring-step; slope-sum = ring-slope }
 
 module _ {K : Type 0} (O : Operations K) (L : Linear O) where
   pub eval-sum : (p q : List K) (x : K) → length p ≡ length q → eval O (plus O p q) x ≡ O .add (eval O p x) (eval O q x)

@@ -2,7 +2,6 @@
 --
 --   swap, product-expand     the order of the factors X + f does not matter
 --   product-split            the factors that marks leave, then those that they pick: all factors
---   quotient-product         dividing by the same factors gives the polynomial back
 --   expand-plus, -scale      multiplying by X + f is linear
 --   times-expand, -product   a product of polynomials with a factor X + f, and with several
 --   times-one, -vanishing    p times 1, and p times the product of X + f over fs
@@ -23,9 +22,9 @@ use Rattle.algebra.specs.Ring.Laws.{ring, combine}
 use Rattle.algebra.specs.Each.{Each}
 use Rattle.algebra.specs.Each.Laws.{each-map}
 use Rattle.algebra.specs.Marks.{pick, leave}
-use Rattle.algebra.specs.Polynomial.{eval, plus, scale, times, first, behind, expand, divide, product, quotient, vanishing}
+use Rattle.algebra.specs.Polynomial.{eval, plus, scale, times, first, expand, product, vanishing}
 use Rattle.algebra.specs.Polynomial.Lengths.{length-expand, length-scale}
-use Rattle.algebra.specs.Polynomial.Evaluation.{eval-expand, divide-expand}
+use Rattle.algebra.specs.Polynomial.Evaluation.{eval-expand}
 
 module _ {K : Type 0} (R : Ring2 K) where
   infixl 60 _+_
@@ -71,15 +70,6 @@ module _ {K : Type 0} (R : Ring2 K) where
       ap (λ (l : List K). product O l (pick bs fs)) (sym (product-expand f p (leave bs fs)))
       ∙ product-split bs (expand O f (𝟘 ∷ p)) fs
   product-split (false ∷ bs) p (f ∷ fs) = product-split bs (expand O f (𝟘 ∷ p)) fs
-
-  -- ---- division takes the roots away again
-  pub quotient-product : (p fs : List K) → quotient O (product O p fs) fs ≡ p
-  unfolding product quotient
-  quotient-product p [] = refl
-  quotient-product p (f ∷ fs) =
-      ap (λ (l : List K). quotient O (behind O (divide O f l)) fs) (product-expand f p fs)
-      ∙ ap (λ (l : List K). quotient O (behind O l) fs) (divide-expand R f (𝟘 ∷ product O p fs))
-      ∙ quotient-product p fs
 
   -- ---- the product of two polynomials, root by root
   add-right : (a b c : K) → a + b + c ≡ a + (b + c)

@@ -4,12 +4,10 @@
 --   vanishing-elsewhere      vanishing fs is zero at no point outside fs
 --   relation                 s divided by the factors that marks leave, times all factors, is s times the factors that marks pick
 --                            (document 01: P = S·Q/F, so P·F = S·Q)
---   is-quotient              that quotient is s·q divided by all factors
---   only                     and it is the only polynomial with this product
 use mathlib.Core.Path.{_≡_, refl, sym, ap, _∙_}
 use mathlib.Core.Bool.{Bool}
 use mathlib.Core.List.{List, [], _∷_}
-use Prim.Native.Nat.{suc, _≤_, _<_}
+use Prim.Native.Nat.{suc, _≤_}
 use native.Mathlib.Omega.{arith}
 use lib.ListN.{length}
 use Rattle.algebra.specs.Operations.{Operations}
@@ -23,7 +21,7 @@ use Rattle.algebra.specs.Marks.{pick, leave}
 use Rattle.algebra.specs.Polynomial.{eval, times, behind, expand, divide, product, quotient, vanishing}
 use Rattle.algebra.specs.Polynomial.Lengths.{length-expand, length-quotient}
 use Rattle.algebra.specs.Polynomial.Roots.{exact, root-of-quotient}
-use Rattle.algebra.specs.Polynomial.Products.{product-expand, product-split, quotient-product, times-vanishing, eval-product-step}
+use Rattle.algebra.specs.Polynomial.Products.{product-expand, product-split, times-vanishing, eval-product-step}
 
 module _ {K : Type 0} (F : Field2 K) where
   infixl 60 _+_
@@ -69,15 +67,3 @@ module _ {K : Type 0} (F : Field2 K) where
         ∙ sym (product-split (F .base) bs (quotient O s (leave bs fs)) fs)
         ∙ ap (λ (l : List K). product O l (pick bs fs)) (product-quotient s (leave bs fs) (omega arith) distinct roots)
         ∙ sym (times-vanishing (F .base) s (pick bs fs) (length (leave bs fs)) long)
-
-    -- so it is the quotient of S Q by F, and the only polynomial with P F = S Q
-    pub is-quotient : quotient O s (leave bs fs) ≡ quotient O (times O s (vanishing O (pick bs fs))) fs
-    is-quotient =
-        let l = length-quotient O s (leave bs fs) (omega arith) in
-        sym
-        (ap (λ (l : List K). quotient O l fs) (sym relation ∙ times-vanishing (F .base) (quotient O s (leave bs fs)) fs 0 (omega arith))
-        ∙ quotient-product (F .base) (quotient O s (leave bs fs)) fs)
-
-    pub only : (p : List K) → 0 < length p → times O p (vanishing O fs) ≡ times O s (vanishing O (pick bs fs)) → p ≡ quotient O s (leave bs fs)
-    only p h e =
-        sym (quotient-product (F .base) p fs) ∙ ap (λ (l : List K). quotient O l fs) (sym (times-vanishing (F .base) p fs 0 h) ∙ e) ∙ sym is-quotient

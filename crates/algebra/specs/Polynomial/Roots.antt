@@ -1,6 +1,5 @@
 -- Roots of polynomials, over a field of characteristic 2.
 --
---   factor           p(x) + p(f) = (x + f) q(x), q the quotient of p by X + f
 --   exact            division by X + f of a polynomial that vanishes at f has no remainder
 --   root-of-quotient a root of (X + f) q other than f is one of q
 --   root-bound       n coefficients that vanish at n points, no two of them equal, are all zero
@@ -29,18 +28,6 @@ module _ {K : Type 0} (R : Ring2 K) where
   infixl 60 _+_
   infixl 70 _*_
   open Ring2 R using (zero as 𝟘, one as 𝟙, add as _+_, mul as _*_)
-
-  factor-ring : (v e x f q : K) → v ≡ e + (x + f) * q → v + e ≡ (x + f) * q
-  factor-ring v e x f q h = combine R 𝟙 _ _ h (simp (ring, R))
-
-  pub factor : (a : K) (p : List K) (f x : K)
-      → eval (ops R) (a ∷ p) x + eval (ops R) (a ∷ p) f ≡ (x + f) * eval (ops R) (divide (ops R) f p) x
-  unfolding divide
-  factor a p f x =
-      factor-ring _ _ x f _
-      (ap (λ (l : List K). eval (ops R) l x) (sym (expand-divide R f (a ∷ p)))
-      ∙ eval-expand R f _ (divide (ops R) f p) x
-      ∙ ap (λ (v : K). v + (x + f) * eval (ops R) (divide (ops R) f p) x) (first-divide R f (a ∷ p)))
 
   pub exact : (f : K) (p : List K) (n : ℕ) → suc n ≤ length p → eval (ops R) p f ≡ 𝟘
       → expand (ops R) f (𝟘 ∷ behind (ops R) (divide (ops R) f p)) ≡ p

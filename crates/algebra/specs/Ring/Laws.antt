@@ -72,6 +72,3 @@ module _ {K : Type 0} (R : Ring2 K) where
 
   pub equal-of-sum : (a b : K) → a + b ≡ 𝟘 → a ≡ b
   equal-of-sum a b z = combine 𝟙 a b z (simp ring)
-
-  pub add4 : (a b c d : K) → (a + b) + (c + d) ≡ (a + c) + (b + d)
-  add4 a b c d = simp ring

@@ -1,22 +1,14 @@
 -- A sum of the work area and its block.
 --
--- blocks-fit      the blocks of all sums take 864 bytes at most
 -- sum-fits        a sum and its block lie within their slices
 use mathlib.Core.Path.{refl}
 use mathlib.Core.List.{List}
 use Prim.Native.Nat.{ℕ, _+_, _*_, _≤_, _<_}
-use native.Mathlib.Nat.{mul-le-mul}
-use native.Mathlib.Omega.{arith}
 use lib.ListN.{length}
 use Rattle.parameters.specs.declared.Parameters.{Parameters}
-use Rattle.parameters.specs.Limits.{Within}
 use Rattle.layout.specs.Layout.{sumCount, rowLength, shareLength}
-use Rattle.layout.specs.Layout.Bounds.{sums-most}
 use Rattle.points.specs.Blocks.{within-blocks}
 use Rattle.axes.specs.Asked.{SumsAsked}
-
-pub blocks-fit : (p : Parameters) → Within p → sumCount p * rowLength p ≤ 9 * 96
-blocks-fit p w = let h : rowLength p ≤ 96 = omega (arith, w .t-most) in mul-le-mul (sums-most p w) h
 
 pub sum-fits : (p : Parameters) (sums blocks hats : List ℕ) → SumsAsked p sums blocks hats → (i : ℕ) → i < sumCount p
     → (i * shareLength p + shareLength p ≤ length sums) × (i * rowLength p + rowLength p ≤ length blocks)

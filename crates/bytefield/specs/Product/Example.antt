@@ -2,7 +2,6 @@
 --
 --   example      57·83 = c1
 use mathlib.Core.Path.{_≡_, refl}
-use Prim.Native.Nat.{ℕ}
 use Rattle.lists.specs.Xor.{_⊕_}
 use Rattle.bytefield.specs.Product.{reduction, xtime, timesBits, _⊗_}
 

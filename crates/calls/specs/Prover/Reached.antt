@@ -59,13 +59,10 @@ sessionTold (some b) q l = record {
   message2 = told q (replicate 64 0) (padded 64);
 }
 
-abbrev pub Orderly : Option Begin → Option (List ℕ) → Bool → Type 0
-Orderly none none true = ⊥
-Orderly none none false = Unit {0}
-Orderly none (some m2) l = ⊥
-Orderly (some b) none true = ⊥
-Orderly (some b) none false = Passed b
-Orderly (some b) (some m2) l = Passed b × (length m2 ≡ message2Length (b .parameters))
+pub data Orderly : Option Begin → Option (List ℕ) → Bool → Type 0 where
+  unstarted : Orderly none none false
+  started : (b : Begin) → Passed b → Orderly (some b) none false
+  challenged : (b : Begin) (m2 : List ℕ) (l : Bool) → Passed b → length m2 ≡ message2Length (b .parameters) → Orderly (some b) (some m2) l
 
 pub record Reached (h : List Made) (s : Prover) : Type 0 where
   pub session : s ≡ sessionTold (lastBegin h) (pointsSince h) (leafSince h)
@@ -101,10 +98,9 @@ stands s e = rw (e, or-true (isFresh (s .phase)))
 
 pub standing-told : (o : Option Begin) (q : Option (List ℕ)) (l : Bool) → Orderly o q l → standing (sessionTold o q l) ≡ sessionTold o q l .phase
 unfolding standing fresh
-standing-told none q l ok = refl
-standing-told (some b) none true ok = absurd ok
-standing-told (some b) none false ok = stands (sessionTold (some b) none false) (intact-told b ok none false)
-standing-told (some b) (some m2) l ok = stands (sessionTold (some b) (some m2) l) (intact-told b (ok .0) (some m2) l)
+standing-told o q l unstarted = refl
+standing-told o q l (started b ok) = stands (sessionTold (some b) none false) (intact-told b ok none false)
+standing-told o q l (challenged b m2 l′ ok sized) = stands (sessionTold (some b) (some m2) l′) (intact-told b ok (some m2) l′)
 
 -- ---- calls carried out
 
@@ -137,20 +133,18 @@ module _ (hash : List ℕ → ℕ → List ℕ) where
         → length m2 ≡ message2Length (sessionTold o q l .parameters)
         → (answered hash (sessionTold o q l) m2 key work out .prover ≡ sessionTold o (some m2) l) × Orderly o (some m2) l
     unfolding answered fresh
-    points-next none q l ok due sized = absurd (false≢true due)
-    points-next (some b) none true ok due sized = absurd ok
-    points-next (some b) none false ok due sized = (refl, (ok, sized))
-    points-next (some b) (some m) true ok due sized = absurd (false≢true due)
-    points-next (some b) (some m) false ok due sized = absurd (false≢true due)
+    points-next o q l unstarted due sized = absurd (false≢true due)
+    points-next o q l (started b ok) due sized = (refl, challenged b m2 false ok sized)
+    points-next o q l (challenged b m true ok e) due sized = absurd (false≢true due)
+    points-next o q l (challenged b m false ok e) due sized = absurd (false≢true due)
 
   module _ (i : ℕ) (key : Key) (work out : List ℕ) where
     leaf-next : (o : Option Begin) (q : Option (List ℕ)) (l : Bool) → Orderly o q l → isAnswered (sessionTold o q l .phase) ≡ true
         → (opened hash (sessionTold o q l) i key work out .prover ≡ sessionTold o q true) × Orderly o q true
     unfolding opened fresh
-    leaf-next none q l ok due = absurd (false≢true due)
-    leaf-next (some b) none true ok due = absurd (false≢true due)
-    leaf-next (some b) none false ok due = absurd (false≢true due)
-    leaf-next (some b) (some m) l ok due = (refl, ok)
+    leaf-next o q l unstarted due = absurd (false≢true due)
+    leaf-next o q l (started b ok) due = absurd (false≢true due)
+    leaf-next o q l (challenged b m l′ ok e) due = (refl, challenged b m true ok e)
 
 -- ---- what a call adds to the calls made
 
@@ -162,7 +156,7 @@ module _ (h : List Made) (s : Prover) where
   begin-tells : (b : Begin) (work out : List ℕ) (n : ℕ) → n ≡ 0 → s ≡ sessionTold (some b) none false → Passed b
       → Reached (record { call = beginCall b work out; number = n } ∷ h) s
   unfolding begun pointed history.opened lastBegin pointsSince leafSince
-  begin-tells b work out n e session ok = record { session = rw (eq-eqb n 0 e) session; orderly = rw (eq-eqb n 0 e) ok }
+  begin-tells b work out n e session ok = record { session = rw (eq-eqb n 0 e) session; orderly = rw (eq-eqb n 0 e) (started b ok) }
 
   points-tells : (m2 : List ℕ) (key : Key) (work out : List ℕ) (n : ℕ) → n ≡ 0 → s ≡ sessionTold (lastBegin h) (some m2) (leafSince h)
       → Orderly (lastBegin h) (some m2) (leafSince h) → Reached (record { call = pointsCall m2 key work out; number = n } ∷ h) s
@@ -213,7 +207,7 @@ module _ (hash : List ℕ → ℕ → List ℕ) where
 
   pub reached : (cs : List Call) → Reached (made hash cs) (after hash cs)
   unfolding after made lastBegin pointsSince leafSince
-  reached [] = record { session = refl; orderly = tt }
+  reached [] = record { session = refl; orderly = unstarted }
   reached (c ∷ cs) = next (made hash cs) c (after hash cs) (reached cs)
 
   -- in every session reached from a fresh one by any calls the guard changes nothing

@@ -1,7 +1,7 @@
 -- Every call of the prover, after any calls from a fresh session, gives what document 01 expects of it by these calls.
 --
 -- repeated-told                            the test of 13 is the one by the last begin
--- closed-told, points-told, leaf-told      the tests of 12 and 11 are those by the calls since then
+-- phase-told, closed-told, points-told, leaf-told      the tests of 12 and 11 are those by the calls since then
 -- begin-number, points-number, leaf-number the number is the first of document 01's order whose condition holds
 -- points-gives, leaf-gives                 messages 3 and 5 are of the last begin's x, salt and root and of the points call's message 2
 -- told-by-calls                            number, output and work area
@@ -35,7 +35,7 @@ use Rattle.calls.specs.Prover as prover
 use Rattle.calls.specs.Prover.History.{Begin, Call, beginCall, pointsCall, leafCall, Made, outcome, after, made, lastBegin, pointsSince, leafSince, secretOf, repeats, conditions, message, area, Seen, seen, expected}
 use Rattle.calls.specs.Prover.Checked.{begin-ordered, points-ordered, leaf-ordered}
 use Rattle.calls.specs.Prover.Settled.{seen-as}
-use Rattle.calls.specs.Prover.Reached.{Orderly, sessionTold, reached, standing-told, secret-held, points-begun, leaf-answered}
+use Rattle.calls.specs.Prover.Reached.{Orderly, unstarted, started, challenged, sessionTold, reached, standing-told, secret-held, points-begun, leaf-answered}
 
 -- ---- 11 and 12 before all others
 
@@ -59,53 +59,34 @@ closed-first false b c d = refl
 repeated-told : (o : Option Begin) (q : Option (List ℕ)) (l : Bool) → Orderly o q l → (salt root : List ℕ)
     → repeated (sessionTold o q l) salt root ≡ repeats o salt root
 unfolding repeated repeats fresh
-repeated-told none q l ok salt root = refl
-repeated-told (some b) none true ok salt root = absurd ok
-repeated-told (some b) none false ok salt root = refl
-repeated-told (some b) (some m2) true ok salt root = refl
-repeated-told (some b) (some m2) false ok salt root = refl
+repeated-told o q l unstarted salt root = refl
+repeated-told o q l (started b ok) salt root = refl
+repeated-told o q l (challenged b m2 true ok e) salt root = refl
+repeated-told o q l (challenged b m2 false ok e) salt root = refl
+
+-- once closed the leaf call is not due either, but 12 stands before 11
+phase-told : (o : Option Begin) (q : Option (List ℕ)) (l : Bool) → Orderly o q l → (isClosed (sessionTold o q l .phase) ≡ l)
+    × (not (isBegun (sessionTold o q l .phase)) ≡ (not (isSome o) || isSome q))
+    × (not (isAnswered (sessionTold o q l .phase)) ≡ (l || (not (isSome o) || not (isSome q))))
+unfolding fresh
+phase-told o q l unstarted = (refl, refl, refl)
+phase-told o q l (started b ok) = (refl, refl, refl)
+phase-told o q l (challenged b m2 true ok e) = (refl, refl, refl)
+phase-told o q l (challenged b m2 false ok e) = (refl, refl, refl)
 
 closed-told : (o : Option Begin) (q : Option (List ℕ)) (l : Bool) → Orderly o q l → closed (sessionTold o q l) ≡ l
-unfolding closed fresh
-closed-told o q l ok = ap isClosed (standing-told o q l ok) ∙ go o q l ok
-  where
-    go : (o : Option Begin) (q : Option (List ℕ)) (l : Bool) → Orderly o q l → isClosed (sessionTold o q l .phase) ≡ l
-    go none none true ok = absurd ok
-    go none none false ok = refl
-    go none (some m2) l ok = absurd ok
-    go (some b) none true ok = absurd ok
-    go (some b) none false ok = refl
-    go (some b) (some m2) true ok = refl
-    go (some b) (some m2) false ok = refl
+unfolding closed
+closed-told o q l ok = ap isClosed (standing-told o q l ok) ∙ phase-told o q l ok .0
 
 points-told : (o : Option Begin) (q : Option (List ℕ)) (l : Bool) → Orderly o q l
     → not (pointsDue (sessionTold o q l)) ≡ (not (isSome o) || isSome q)
-unfolding pointsDue fresh
-points-told o q l ok = ap (λ (f : Phase). not (isBegun f)) (standing-told o q l ok) ∙ go o q l ok
-  where
-    go : (o : Option Begin) (q : Option (List ℕ)) (l : Bool) → Orderly o q l
-        → not (isBegun (sessionTold o q l .phase)) ≡ (not (isSome o) || isSome q)
-    go none q l ok = refl
-    go (some b) none true ok = absurd ok
-    go (some b) none false ok = refl
-    go (some b) (some m2) true ok = refl
-    go (some b) (some m2) false ok = refl
+unfolding pointsDue
+points-told o q l ok = ap (λ (f : Phase). not (isBegun f)) (standing-told o q l ok) ∙ phase-told o q l ok .1
 
--- once closed the leaf call is not due either, but 12 stands before 11
 leaf-told : (o : Option Begin) (q : Option (List ℕ)) (l : Bool) → Orderly o q l
     → not (leafDue (sessionTold o q l)) ≡ (l || (not (isSome o) || not (isSome q)))
-unfolding leafDue fresh
-leaf-told o q l ok = ap (λ (f : Phase). not (isAnswered f)) (standing-told o q l ok) ∙ go o q l ok
-  where
-    go : (o : Option Begin) (q : Option (List ℕ)) (l : Bool) → Orderly o q l
-        → not (isAnswered (sessionTold o q l .phase)) ≡ (l || (not (isSome o) || not (isSome q)))
-    go none none true ok = absurd ok
-    go none none false ok = refl
-    go none (some m2) l ok = absurd ok
-    go (some b) none true ok = absurd ok
-    go (some b) none false ok = refl
-    go (some b) (some m2) true ok = refl
-    go (some b) (some m2) false ok = refl
+unfolding leafDue
+leaf-told o q l ok = ap (λ (f : Phase). not (isAnswered f)) (standing-told o q l ok) ∙ phase-told o q l ok .2
 
 -- ---- the numbers
 
@@ -131,10 +112,9 @@ module _ (hash : List ℕ → ℕ → List ℕ) (o : Option Begin) (q : Option (
     points-due : (o : Option Begin) (q : Option (List ℕ)) (l : Bool) → Orderly o q l
         → answerOf ((12, l) ∷ (11, not (isSome o) || isSome q)
         ∷ (2, not (allTrue (pointsLengths (sessionTold o q l .parameters) m2 key work out))) ∷ []) ≡ answerOf (pointsBy o q l)
-    points-due none none true ok = absurd ok
-    points-due none none false ok = unstarted-points _
-    points-due none (some m2) l ok = absurd ok
-    points-due (some b) q l ok = refl
+    points-due o q l unstarted = unstarted-points _
+    points-due o q l (started b ok) = refl
+    points-due o q l (challenged b m l′ ok e) = refl
 
     points-number : answerNumber (pointsChecks hash s m2 key work out) ≡ answerOf (pointsBy o q l)
     points-number = points-ordered hash s work out key m2 ∙ rw (closed-told o q l ok, points-told o q l ok) (points-due o q l ok)
@@ -151,10 +131,9 @@ module _ (hash : List ℕ → ℕ → List ℕ) (o : Option Begin) (q : Option (
         → answerOf ((12, l) ∷ (11, not (isSome o) || not (isSome q))
         ∷ (2, not (allTrue (leafLengths (sessionTold o q l .parameters) i key work out)))
         ∷ (4, not (ltb i (leaves (sessionTold o q l .parameters)))) ∷ []) ≡ answerOf (leafBy o q l)
-    leaf-due none none true ok = absurd ok
-    leaf-due none none false ok = unstarted-leaf _ _
-    leaf-due none (some m2) l ok = absurd ok
-    leaf-due (some b) q l ok = refl
+    leaf-due o q l unstarted = unstarted-leaf _ _
+    leaf-due o q l (started b ok) = refl
+    leaf-due o q l (challenged b m l′ ok e) = refl
 
     leaf-number : answerNumber (leafChecks hash s i key work out) ≡ answerOf (leafBy o q l)
     leaf-number =
@@ -179,10 +158,9 @@ module _ (hash : List ℕ → ℕ → List ℕ) where
         → (answered hash (sessionTold o q l) m2 key work out .out ≡ message3By o)
         × (answered hash (sessionTold o q l) m2 key work out .work ≡ zeroed (told o 0 (λ b. workLength (b .parameters))) work)
     unfolding answered fresh
-    points-gives none q l ok e = absurd (false≢true (points-begun hash none q l ok m2 key work out e))
-    points-gives (some b) none true ok e = absurd ok
-    points-gives (some b) none false ok e = (message3-of b (secret-held b ok none false), refl)
-    points-gives (some b) (some m) l ok e = (message3-of b (secret-held b (ok .0) (some m) l), refl)
+    points-gives o q l unstarted e = absurd (false≢true (points-begun hash none none false unstarted m2 key work out e))
+    points-gives o q l (started b ok) e = (message3-of b (secret-held b ok none false), refl)
+    points-gives o q l (challenged b m l′ ok s) e = (message3-of b (secret-held b ok (some m) l′), refl)
 
   module _ (i : ℕ) (key : Key) (work out : List ℕ) where
     abbrev message5By : Option Begin → Option (List ℕ) → List ℕ
@@ -193,10 +171,9 @@ module _ (hash : List ℕ → ℕ → List ℕ) where
         → (opened hash (sessionTold o q l) i key work out .out ≡ message5By o q)
         × (opened hash (sessionTold o q l) i key work out .work ≡ zeroed (told o 0 (λ b. workLength (b .parameters))) work)
     unfolding opened heldMessage2 fresh
-    leaf-gives none q l ok e = absurd (false≢true (leaf-answered hash none q l ok i key work out e))
-    leaf-gives (some b) none true ok e = absurd ok
-    leaf-gives (some b) none false ok e = absurd (false≢true (leaf-answered hash (some b) none false ok i key work out e))
-    leaf-gives (some b) (some m) l ok e = (rw (secret-held b (ok .0) (some m) l, front (message2Length (b .parameters)) m (ok .1)), refl)
+    leaf-gives o q l unstarted e = absurd (false≢true (leaf-answered hash none none false unstarted i key work out e))
+    leaf-gives o q l (started b ok) e = absurd (false≢true (leaf-answered hash (some b) none false (started b ok) i key work out e))
+    leaf-gives o q l (challenged b m l′ ok s) e = (rw (secret-held b ok (some m) l′, front (message2Length (b .parameters)) m s), refl)
 
 -- ---- number, output and work area
 

@@ -23,10 +23,11 @@ use Rattle.layout.specs.Layout.Laws.{isLast-true, isLast-false, isLast-last}
 use Rattle.exchange.specs.Sequences.{joined}
 use Rattle.exchange.specs.Sequences.Laws.{joined-at, joined-rest}
 use Rattle.exchange.specs.Leaf.{share}
+use Rattle.exchange.specs.Leaf.Laws.{SameAux, share-ext}
 use Rattle.exchange.specs.Opening.{Exchange, auxOf, openedState, openedShare, leafString}
 use Rattle.exchange.specs.Extractor.{auxFrom, stateFrom, output}
 use Rattle.claims.specs.Words.{leafState, auxState, leafShare}
-use Rattle.claims.specs.Extraction.Strings.{SameAux, share-ext, length-opened, leaf-same}
+use Rattle.claims.specs.Extraction.Strings.{length-opened, leaf-same}
 
 pub record Matched (p : Parameters) (e e′ : Exchange) : Type 0 where
   pub same-prefix : e .prefix ≡ e′ .prefix

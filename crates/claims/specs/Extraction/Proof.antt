@@ -20,14 +20,14 @@ use Rattle.layout.specs.Layout.Laws.{leaves-pos, isLast-true}
 use Rattle.exchange.specs.FirstAxis.{firstAxis, first-inside, first-apart}
 use Rattle.exchange.specs.Strings.{string4}
 use Rattle.exchange.specs.Leaf.{commitment}
+use Rattle.exchange.specs.Leaf.Laws.{SameAux, string4-ext}
 use Rattle.exchange.specs.Values.{Key}
 use Rattle.exchange.specs.Opening.{Exchange, exchange, auxOf, openedState, leafString, leafCommitment}
 use Rattle.exchange.specs.Opening.Laws.{accepted-when, commitment-disclosed}
 use Rattle.exchange.specs.Extractor.{axis, output, unequalAt, finding, extract}
-use Rattle.calls.specs.Extractor.{Transcript, exchangeOf, Answer, refused, pair, filled, Outcome, extractLengths, sameStatement, earlyChecks, found, second, first, early, extraction}
+use Rattle.calls.specs.Extractor.{Transcript, exchangeOf, pair, filled, Outcome, extractLengths, sameStatement, earlyChecks, found, second, first, early, extraction}
 use Rattle.claims.specs.Words.{Comparable, States, leafState, auxState}
 use Rattle.claims.specs.Extraction.{Extracts}
-use Rattle.claims.specs.Extraction.Strings.{SameAux, string4-ext}
 use Rattle.claims.specs.Extraction.Leaves.{Matched, from-first, from-second, leafState-is, auxState-is}
 use Rattle.claims.specs.Extraction.Relation.{witness-holds}
 use Rattle.claims.specs.Extraction.Compared.{at-member, member-at, AllEqual, Equal, clash, none-then, none-when, same-leaves, same-axis, same-commitments}
@@ -166,15 +166,6 @@ module _ (hash : List ℕ → ℕ → List ℕ) (p : Parameters) (key : Key) (t 
 
 -- ---- the claim
 
-never-both : {a : Answer} {layer number j : ℕ} → a ≡ pair layer number → a ≡ filled j → ⊥
-never-both e q = let z : _≡_ {A = ℕ} 0 1 = cc in omega arith
-
-not-refused : {a : Answer} {n : ℕ} {layer number : ℕ} → a ≡ pair layer number → a ≡ refused n → ⊥
-not-refused e q = let z : _≡_ {A = ℕ} 0 1 = cc in omega arith
-
-not-refused′ : {a : Answer} {n : ℕ} {j : ℕ} → a ≡ filled j → a ≡ refused n → ⊥
-not-refused′ e q = let z : _≡_ {A = ℕ} 0 1 = cc in omega arith
-
 pub extracts : (hash : List ℕ → ℕ → List ℕ) → ((s : List ℕ) (n : ℕ) → length (hash s n) ≡ n)
     → (p : Parameters) (key : Key) (t t′ : Transcript) (work out : List ℕ) → Comparable hash p key t t′
     → workLength p ≤ length work → length out ≡ outputLength p → Extracts hash p key t t′ work out
@@ -188,8 +179,8 @@ extracts hash hash-length p key t t′ work out c wl ol = go (unequalAt hash p k
         let given = answer-states hash p key t t′ c work out wl ol q in
         let all-equal = none-then hash hash-length p key (exchangeOf t) (exchangeOf t′) matched q in
         record {
-          never-refused = λ n z. not-refused′ (given .0) z;
-          named = λ layer number z. absurd (never-both z (given .0));
+          never-refused = λ n z. let e = given .0 in let y : _≡_ {A = ℕ} 0 1 = cc in omega arith;
+          named = λ layer number z. absurd (let e = given .0 in let y : _≡_ {A = ℕ} 0 1 = cc in omega arith);
           names = λ layer number m n. absurd (n (unfold Equal in all-equal (layer, number) (at-member m)));
           otherwise = λ h. (
             given .0,
@@ -201,7 +192,7 @@ extracts hash hash-length p key t t′ work out c wl ol = go (unequalAt hash p k
         let given = answer-unequal hash p key t t′ c work out wl ol a rest q in
         let found = clash hash hash-length p key (exchangeOf t) (exchangeOf t′) matched (c .accepted) (c .accepted′) same-h same-message3 a rest q in
         record {
-          never-refused = λ n z. not-refused (given .0) z;
+          never-refused = λ n z. let e = given .0 in let y : _≡_ {A = ℕ} 0 1 = cc in omega arith;
           named = λ layer number z.
               let l : a .0 ≡ layer = cc (given .0) in
               let n : a .1 ≡ number = cc (given .0) in

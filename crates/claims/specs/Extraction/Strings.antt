@@ -1,25 +1,22 @@
 -- What equal strings of two openings under one prefix say.
 --
 -- strings-inj          equal strings of one layer, with prefixes of one length, have the same rest
--- SameAux              the same aux, where the leaf is leaf n−1
--- string4-inj, string4-ext   a leaf's string holds its state, and aux where it is leaf n−1, and nothing else of them
--- share-ext            so does its share
+-- string4-inj          a leaf's string holds its state, and aux where it is leaf n−1
 -- length-opened        a state has 32 bytes
 -- leaf-same            layer 4: the leaf's state and aux are the same
 -- commitments-same     layer 5: every leaf's commitment is the same
 -- digests-same         layer 7: every axis's digest is the same
 -- axis-same            layer 6: the parties of the axis announce the same
-use mathlib.Core.Path.{_≡_, refl, sym, ap, ap₂, _∙_}
-use mathlib.Core.Bool.{Bool, true, false, cond}
-use mathlib.Core.List.{List, [], _∷_, _++_}
-use Prim.Native.Nat.{ℕ, _+_, _<_}
-use lib.ListN.{length, take, drop}
+use mathlib.Core.Path.{_≡_, sym, ap, _∙_}
+use mathlib.Core.Bool.{cond}
+use mathlib.Core.List.{List, []}
+use Prim.Native.Nat.{ℕ, _<_}
+use lib.ListN.{length, drop}
 use Rattle.parameters.specs.declared.Parameters.{Parameters}
-use Rattle.layout.specs.Layout.{side, leaves, isLast, shareLength, atX, message5Length}
+use Rattle.layout.specs.Layout.{side, leaves, isLast, message5Length}
 use Rattle.exchange.specs.Sequences.Laws.{append-inj, joined-inj}
-use Rattle.exchange.specs.Strings.{string, string3, string4, string5, string7}
-use Rattle.exchange.specs.Leaf.{share}
-use Rattle.exchange.specs.Leaf.Laws.{length-state}
+use Rattle.exchange.specs.Strings.{string, string4, string5, string7}
+use Rattle.exchange.specs.Leaf.Laws.{SameAux, length-state}
 use Rattle.exchange.specs.Values.{Key}
 use Rattle.exchange.specs.Parties.{axisString}
 use Rattle.exchange.specs.Parties.Laws.{axisString-inj}
@@ -31,34 +28,6 @@ unfolding string
 strings-inj layer pre pre′ a b q e = append-inj pre a pre′ b (ap length q) (ap (drop 1) e) .1
 
 -- ---- a leaf
-
--- the same aux, where i is leaf n−1
-abbrev pub SameAux : Parameters → ℕ → List ℕ → List ℕ → Type 0
-SameAux p i aux aux′ = isLast p i ≡ true → aux ≡ aux′
-
-module _ (p : Parameters) (pre : List ℕ) (i : ℕ) (st st′ aux aux′ : List ℕ) where
-  same-end : SameAux p i aux aux′ → cond (isLast p i) aux [] ≡ cond (isLast p i) aux′ []
-  same-end h = go (isLast p i) h
-    where
-      go : (t : Bool) → (t ≡ true → aux ≡ aux′) → cond t aux [] ≡ cond t aux′ []
-      go true h = h refl
-      go false h = refl
-
-  pub string4-ext : st ≡ st′ → SameAux p i aux aux′ → string4 p pre i st aux ≡ string4 p pre i st′ aux′
-  unfolding string4
-  string4-ext e h = ap₂ (λ (s a : List ℕ). string 4 pre (i ∷ (s ++ a))) e (same-end h)
-
-  pub share-ext : (hash : List ℕ → ℕ → List ℕ) → st ≡ st′ → SameAux p i aux aux′ → share hash p pre i st aux ≡ share hash p pre i st′ aux′
-  unfolding share
-  share-ext hash e h = go (isLast p i) h
-    where
-      drawn : List ℕ → ℕ → List ℕ
-      drawn st n = hash (string3 pre i (take 16 st)) n
-
-      go : (t : Bool) → (t ≡ true → aux ≡ aux′)
-          → cond t (drawn st (atX p) ++ aux) (drawn st (shareLength p)) ≡ cond t (drawn st′ (atX p) ++ aux′) (drawn st′ (shareLength p))
-      go true h = ap₂ (λ (s a : List ℕ). drawn s (atX p) ++ a) e (h refl)
-      go false h = ap (λ (s : List ℕ). drawn s (shareLength p)) e
 
 pub string4-inj : (p : Parameters) (pre pre′ : List ℕ) (i : ℕ) (st st′ aux aux′ : List ℕ) → pre ≡ pre′ → length st ≡ length st′
     → string4 p pre i st aux ≡ string4 p pre′ i st′ aux′ → (st ≡ st′) × SameAux p i aux aux′

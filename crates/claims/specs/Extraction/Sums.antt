@@ -3,8 +3,9 @@
 -- whole p s                the sum of the shares of all leaves
 -- length-summed, summed-ext   lengths, and on what a sum of lists depends
 -- summed-is                an additive part of a share, of the sum of shares: the sum of the parts
--- xSum-ext, QSum-ext, PSum-ext, aSum-ext, bSum-ext, cSum-ext   the sums depend on the shares of the leaves alone
+-- whole-ext                it depends on the shares of the leaves alone
 -- xSum-is, QSum-is, PSum-is, aSum-is, bSum-is, cSum-is   the sums are x, Q, P, a, b, c of the summed share, with the constants
+-- SumsRelation, sums-then, sums-when   so ε(SQ − PF)(r) = c − ab holds of the sums exactly where it holds of the summed share
 -- syndrome-holds           Hx = y
 -- bytes-xSum               where shares and y are bytes, x is
 use mathlib.Core.Path.{_≡_, refl, sym, ap, ap₂, _∙_}
@@ -13,23 +14,25 @@ use mathlib.Core.List.{List, [], _∷_, _++_}
 use Prim.Native.Nat.{ℕ, zero, suc, _+_, _-_, _<_}
 use native.Mathlib.Nat.{le-refl}
 use native.Mathlib.Omega.{arith}
-use lib.ListN.{length, getD, take, drop, replicate, length-replicate}
+use lib.ListN.{length, take, drop, replicate, length-replicate}
 use lib.Seq.{take-at, drop-at}
-use Rattle.cube.specs.Sum.Laws.{sum-ext}
 use Rattle.lists.specs.Sum.{xorList}
-use Rattle.lists.specs.Sum.Laws.{length-xorList, xorList-comm, xorList-assoc, xorList-self, xorList-zeros}
+use Rattle.lists.specs.Sum.Laws.{length-xorList, xorList-comm, xorList-self}
 use Rattle.polynomial.specs.Bytes.{Bytes}
+use Rattle.polynomial.specs.Interpolant.{interpolantOf}
 use Rattle.polynomial.specs.Bytes.Laws.{byte-at, bytes-append, bytes-xorList}
 use Rattle.relation.specs.Key.Vector.{bytes-rows}
 use Rattle.parameters.specs.declared.Parameters.{Parameters}
 use Rattle.layout.specs.Layout.{leaves, shareLength, atX, atQ}
-use Rattle.exchange.specs.Reading.{bytesAt}
-use Rattle.exchange.specs.Reading.Laws.{length-bytesAt, bytesAt-is, bytesAt-xor}
-use Rattle.exchange.specs.Values.{Key, xAOf, QOf, POf, aOf, bOf, cOf, imageOf, xOf}
+use Rattle.exchange.specs.Reading.{bytesAt, value, _⊞_, _⊠_}
+use Rattle.exchange.specs.Reading.Laws.{length-bytesAt, bytesAt-all, bytesAt-xor}
+use Rattle.exchange.specs.Values.{Key, xAOf, QOf, POf, aOf, bOf, cOf, pointOf, multiplierOf, F, imageOf, xOf, SOf}
+use Rattle.exchange.specs.Values.Relation.{Relation}
 use Rattle.exchange.specs.Values.Laws.{length-xAOf, length-imageOf, length-xOf, length-POf, xOf-plain, xOf-xor, POf-xor, aOf-xor, bOf-xor, cOf-xor}
+use Rattle.exchange.specs.Messages.Sum.{added-twice}
 use Rattle.exchange.specs.Parties.{total}
-use Rattle.exchange.specs.Parties.Laws.{bytes-total}
-use Rattle.exchange.specs.Parties.Cube.{G, total-additive}
+use Rattle.exchange.specs.Parties.Laws.{total-ext, bytes-total}
+use Rattle.exchange.specs.Parties.Cube.{total-additive}
 use Rattle.claims.specs.Words.{leafX, summed, plainX, xSum, QSum, PSum, aSum, bSum, cSum}
 
 abbrev pub whole : Parameters → (ℕ → List ℕ) → List ℕ
@@ -64,35 +67,8 @@ module _ (p : Parameters) (φ : List ℕ → List ℕ) (size : ℕ) (φ-xor : (s
   summed-is s (suc n) =
       ap (λ (l : List ℕ). xorList l (φ (s n))) (summed-is s n) ∙ sym (φ-xor (total p (λ i. true) s n) (s n))
 
--- ---- on what they depend
-
-module _ (p : Parameters) (key : Key) (s s′ : ℕ → List ℕ) (same : (i : ℕ) → i < leaves p → s i ≡ s′ i) where
-  pub xSum-ext : xSum p key s ≡ xSum p key s′
-  unfolding xSum
-  xSum-ext = rw (summed-ext (p .m) (λ i. leafX p key (s i)) (λ i. leafX p key (s′ i)) (leaves p) (λ i h. ap (leafX p key) (same i h)))
-
-  pub QSum-ext : QSum p key s ≡ QSum p key s′
-  unfolding QSum
-  QSum-ext =
-      rw (summed-ext (p .w) (λ i. bytesAt (s i) (atQ p) (p .w)) (λ i. bytesAt (s′ i) (atQ p) (p .w)) (leaves p)
-      (λ i h. ap (λ (l : List ℕ). bytesAt l (atQ p) (p .w)) (same i h)))
-
-  pub PSum-ext : PSum p key s ≡ PSum p key s′
-  unfolding PSum
-  PSum-ext = summed-ext (p .w) (λ i. POf p (s i)) (λ i. POf p (s′ i)) (leaves p) (λ i h. ap (POf p) (same i h))
-
-  module _ (l : ℕ) where
-    pub aSum-ext : aSum p key s l ≡ aSum p key s′ l
-    unfolding aSum
-    aSum-ext = sum-ext G (λ i. aOf p (s i) l) (λ i. aOf p (s′ i) l) (leaves p) (λ i h. ap (λ (t : List ℕ). aOf p t l) (same i h))
-
-    pub bSum-ext : bSum p key s l ≡ bSum p key s′ l
-    unfolding bSum
-    bSum-ext = sum-ext G (λ i. bOf p (s i) l) (λ i. bOf p (s′ i) l) (leaves p) (λ i h. ap (λ (t : List ℕ). bOf p t l) (same i h))
-
-    pub cSum-ext : cSum p key s l ≡ cSum p key s′ l
-    unfolding cSum
-    cSum-ext = sum-ext G (λ i. cOf p (s i) l) (λ i. cOf p (s′ i) l) (leaves p) (λ i h. ap (λ (t : List ℕ). cOf p t l) (same i h))
+pub whole-ext : (p : Parameters) (s s′ : ℕ → List ℕ) → ((i : ℕ) → i < leaves p → s i ≡ s′ i) → whole p s ≡ whole p s′
+whole-ext p s s′ same = total-ext p (λ i. true) s s′ (leaves p) (λ i h t. same i h)
 
 -- ---- Q, P, a, b, c
 
@@ -138,9 +114,6 @@ module _ (p : Parameters) (key : Key) (short : p .k < p .m) (y-length : length (
       ∙ summed-is p (xOf p key false) (p .m) (xOf-xor p key) (λ s. length-xOf p key false s short) s (leaves p)
       ∙ xOf-plain p key (whole p s)
 
-  y-whole : bytesAt (key .y) 0 (p .m - p .k) ≡ key .y
-  y-whole = bytesAt-is (key .y) 0 (p .m - p .k) (key .y) y-length (λ k l. let z : 0 + k ≡ k = omega arith in ap (λ (n : ℕ). getD (key .y) n 0) z)
-
   parts : xSum p key s ≡ front ++ xorList image (key .y)
   unfolding xSum
   parts =
@@ -150,23 +123,33 @@ module _ (p : Parameters) (key : Key) (short : p .k < p .m) (y-length : length (
 
   pub xSum-is : xSum p key s ≡ xOf p key true (whole p s)
   unfolding xOf
-  xSum-is = parts ∙ ap (λ (l : List ℕ). front ++ xorList image l) (sym y-whole)
+  xSum-is = parts ∙ ap (λ (l : List ℕ). front ++ xorList image l) (sym (bytesAt-all (key .y) (p .m - p .k) y-length))
+
+  module _ (m2 : List ℕ) (l : ℕ) where
+    abbrev pub SumsRelation : Type 0
+    SumsRelation =
+        multiplierOf p m2 l
+        ⊠ (value (interpolantOf (xSum p key s)) (pointOf p m2 l) ⊠ value (QSum p key s) (pointOf p m2 l)
+        ⊞ value (PSum p key s) (pointOf p m2 l) ⊠ value (F p) (pointOf p m2 l))
+        ≡ cSum p key s l ⊞ aSum p key s l ⊠ bSum p key s l
+
+    pub sums-when : Relation p key m2 (whole p s) l → SumsRelation
+    unfolding SOf
+    sums-when h = rw (xSum-is, QSum-is p key s, PSum-is p key s, aSum-is p key s l, bSum-is p key s l, cSum-is p key s l) h
+
+    pub sums-then : SumsRelation → Relation p key m2 (whole p s) l
+    unfolding SOf
+    sums-then h = rw (xSum-is, QSum-is p key s, PSum-is p key s, aSum-is p key s l, bSum-is p key s l, cSum-is p key s l) at h
 
   pub length-xSum : length (xSum p key s) ≡ p .m
   length-xSum = ap length xSum-is ∙ length-xOf p key true (whole p s) short
-
-  -- a list added twice is gone
-  twice : (a b : List ℕ) → length a ≡ length b → xorList a (xorList a b) ≡ b
-  twice a b e =
-      sym (xorList-assoc a a b) ∙ ap (λ (l : List ℕ). xorList l b) (xorList-self a) ∙ xorList-comm (replicate (length a) 0) b
-      ∙ xorList-zeros b (length a) (omega arith)
 
   pub syndrome-holds : xorList (imageOf p key (take (p .k) (xSum p key s))) (drop (p .k) (xSum p key s)) ≡ key .y
   syndrome-holds =
       ap (λ (l : List ℕ). xorList (imageOf p key (take (p .k) l)) (drop (p .k) l)) parts
       ∙ ap₂ (λ (a b : List ℕ). xorList (imageOf p key a) b) (take-at front (xorList image (key .y)) (p .k) (length-xAOf p (whole p s)))
       (drop-at front (xorList image (key .y)) (p .k) (length-xAOf p (whole p s)))
-      ∙ twice image (key .y) (length-imageOf p key front ∙ sym y-length)
+      ∙ ap (xorList image) (xorList-comm image (key .y)) ∙ added-twice image (key .y) (length-imageOf p key front ∙ sym y-length)
 
   bytes-bytesAt : (l : List ℕ) (i n : ℕ) → Bytes l → Bytes (bytesAt l i n)
   unfolding bytesAt

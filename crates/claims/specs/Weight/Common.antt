@@ -22,15 +22,17 @@ use Rattle.parameters.specs.declared.Parameters.{Parameters}
 use Rattle.layout.specs.Layout.{leaves, message5Length, workLength, outputLength}
 use Rattle.layout.specs.Layout.Laws.{isLast-last}
 use Rattle.exchange.specs.Leaf.{share}
+use Rattle.exchange.specs.Leaf.Laws.{SameAux, share-ext}
 use Rattle.exchange.specs.Values.{Key}
 use Rattle.exchange.specs.Opening.{Exchange, exchange, auxOf, openedState, leafString, commitmentString}
 use Rattle.exchange.specs.Opening.Laws.{commitment-disclosed}
 use Rattle.exchange.specs.Extractor.{axis, stringAt}
+use Rattle.exchange.specs.Extractor.Laws.{Compared, atResponse, atAxis, atCommitment, atLeaf, compared-mem}
 use Rattle.calls.specs.Extractor.{exchangeOf, filled, extraction}
 use Rattle.claims.specs.Words.{States, leafState, auxState, leafShare}
-use Rattle.claims.specs.Extraction.Strings.{SameAux, share-ext, leaf-same, commitments-same}
+use Rattle.claims.specs.Extraction.Strings.{leaf-same, commitments-same}
 use Rattle.claims.specs.Extraction.Leaves.{Matched}
-use Rattle.claims.specs.Extraction.Compared.{at-member, Place, place7, place6, place5, place4, is-place, Equal, OneDigest, digest-7, digest-6, digest-5, digest-4}
+use Rattle.claims.specs.Extraction.Compared.{at-member, Equal, OneDigest, digest-7, digest-6, digest-5, digest-4}
 use Rattle.claims.specs.Extraction.Proof.{matched-of, extracts}
 use Rattle.claims.specs.Weight.{Pair, In, here, later, openings, Under, Hashed, at7, at6, at5, at4, Free}
 
@@ -143,14 +145,14 @@ module _ (hash : List ℕ → ℕ → List ℕ) (hash-length : (s : List ℕ) (n
         equal-strings (in-one i) (in-other i) at5 at5
         (digest-5 hash hash-length p key e e′ matched (good i .comparable .accepted) (good i .comparable .accepted′) same-h same-message3)
 
-    pair-equal : (a : ℕ × ℕ) → Place p e e′ a → Equal hash hash-length p key e e′ matched a
-    pair-equal a place7 = equal-7
-    pair-equal a (place6 j l) =
+    pair-equal : (a : ℕ × ℕ) → Compared p e e′ a → Equal hash hash-length p key e e′ matched a
+    pair-equal a atResponse = equal-7
+    pair-equal a (atAxis j l) =
         unfold Equal OneDigest in
         equal-strings (in-one i) (in-other i) (at6 j l) (at6 j l)
         (digest-6 hash hash-length p key e e′ matched (good i .comparable .accepted) (good i .comparable .accepted′) same-h same-message3 equal-7 j l)
-    pair-equal a place5 = equal-5
-    pair-equal a (place4 j l n n′) =
+    pair-equal a atCommitment = equal-5
+    pair-equal a (atLeaf j l n n′) =
         unfold Equal OneDigest in
         equal-strings (in-one i) (in-other i) (at4 j l n) (at4 j l n′)
         (digest-4 hash hash-length p key e e′ matched (good i .comparable .accepted) (good i .comparable .accepted′) same-h same-message3 equal-5
@@ -164,7 +166,7 @@ module _ (hash : List ℕ → ℕ → List ℕ) (hash-length : (s : List ℕ) (n
       pub pair-given : (extraction hash p (q .one) (q .other) key work out .answer ≡ filled (axis p e e′)) × States hash p key e e′ written
       pair-given =
           extracts hash hash-length p key (q .one) (q .other) work out (good i .comparable) work-length out-length .otherwise
-          (λ layer number m. unfold Equal in pair-equal (layer, number) (is-place p e e′ (layer, number) (at-member m)))
+          (λ layer number m. unfold Equal in pair-equal (layer, number) (compared-mem p e e′ (layer, number) (at-member m)))
 
       -- an opening of the list that discloses leaf j, as the output has it
       pub record Disclosed (j : ℕ) : Type 0 where

@@ -3,7 +3,8 @@
 -- relation-met          the relation of a pair that meets r with ε, over the sums of any one pair of the list
 -- low-claim             the claim for every hash, of which only the length of what it gives is used
 -- weight-claim          the claim for a hash that gives bytes, and messages of bytes
-use mathlib.Core.Path.{_≡_, sym, _∙_}
+use mathlib.Core.Path.{_≡_, sym, ap, _∙_, subst}
+use mathlib.Core.Bool.{true}
 use mathlib.Core.List.{List, [], _∷_}
 use Prim.Native.Nat.{ℕ, _+_, _-_, _≤_, _<_}
 use native.Mathlib.Nat.{le-of-eq}
@@ -16,40 +17,22 @@ use Rattle.tower.specs.Field.{Point}
 use Rattle.parameters.specs.declared.Parameters.{Parameters}
 use Rattle.parameters.specs.Limits.{Within}
 use Rattle.polynomial.specs.Bytes.{Bytes}
-use Rattle.polynomial.specs.Interpolant.{interpolantOf}
 use Rattle.relation.specs.Key.{weightOf}
 use Rattle.layout.specs.Layout.{leaves, valuesLength, atQ, siblingsLength, workLength, outputLength}
 use Rattle.exchange.specs.Sequences.Laws.{bytes-drop}
-use Rattle.exchange.specs.Reading.{bytesAt, value, _⊞_, _⊠_}
+use Rattle.exchange.specs.Reading.{bytesAt, _⊞_, _⊠_}
 use Rattle.exchange.specs.Reading.Laws.{length-bytesAt}
 use Rattle.exchange.specs.Leaf.Laws.{bytes-share}
-use Rattle.exchange.specs.Values.{Key, POf, pointOf, multiplierOf, F}
+use Rattle.exchange.specs.Values.Relation.{Relation}
+use Rattle.exchange.specs.Values.{Key, xOf, POf, F}
 use Rattle.exchange.specs.Values.Laws.{length-POf}
 use Rattle.exchange.specs.Opening.{exchange, auxOf}
 use Rattle.calls.specs.Extractor.{Transcript, exchangeOf, extraction}
-use Rattle.claims.specs.Words.{leafState, auxState, leafShare, summed, Witness, States, xSum, QSum, PSum, aSum, bSum, cSum}
-use Rattle.claims.specs.Extraction.Sums.{length-summed, length-xSum, bytes-xSum, xSum-ext, QSum-ext, PSum-ext, aSum-ext, bSum-ext, cSum-ext}
+use Rattle.claims.specs.Words.{leafState, auxState, leafShare, summed, States, xSum, QSum, PSum, aSum, bSum, cSum}
+use Rattle.claims.specs.Extraction.Sums.{length-summed, length-xSum, bytes-xSum, whole-ext, sums-when, sums-then, xSum-is}
 use Rattle.claims.specs.Weight.{Pair, lowBytes, InBytes, In, openings, Meets, MeetsTwice, Under, Free, Meeting, xOfPair, Gives, OneX, OneLightX}
 use Rattle.claims.specs.Weight.Light.{lowBytes-bytes, Twice, defect, light-low}
 use Rattle.claims.specs.Weight.Common.{each-in, good, pair-given, pairShares, one-share}
-
--- the relation of one family of shares, with the point and multiplier named, said of an equal family
-carried : (p : Parameters) (key : Key) (s s₀ : ℕ → List ℕ) → ((i : ℕ) → i < leaves p → s i ≡ s₀ i) → (m2 : List ℕ) → Witness p key s m2
-    → (l : ℕ) → l < p .t → (r ε : Point) → pointOf p m2 l ≡ r → multiplierOf p m2 l ≡ ε
-    → ε ⊠ (value (interpolantOf (xSum p key s₀)) r ⊠ value (QSum p key s₀) r ⊞ value (PSum p key s₀) r ⊠ value (F p) r)
-    ≡ cSum p key s₀ l ⊞ aSum p key s₀ l ⊠ bSum p key s₀ l
-carried p key s s₀ same m2 w l h r ε is-r is-ε =
-    rw (
-      ← is-r,
-      ← is-ε,
-      ← xSum-ext p key s s₀ same,
-      ← QSum-ext p key s s₀ same,
-      ← PSum-ext p key s s₀ same,
-      ← aSum-ext p key s s₀ same l,
-      ← bSum-ext p key s s₀ same l,
-      ← cSum-ext p key s s₀ same l,
-    )
-    (w .relation l h)
 
 module _ (hash : List ℕ → ℕ → List ℕ) (hash-length : (s : List ℕ) (n : ℕ) → length (hash s n) ≡ n) (p : Parameters) (key : Key) (m1 : List ℕ)
     (qs : List Pair) (under : Each (Under hash p key m1) qs) (free : Free hash p key (openings qs)) where
@@ -130,11 +113,14 @@ module _ (hash : List ℕ → ℕ → List ℕ) (hash-length : (s : List ℕ) (n
 
     relation-met : {q : Pair} → In q qs → (l : ℕ) → l < p .t → (r ε : Point) → Meets p q l r ε → ε ⊠ defect₀ r ≡ z₀ l
     relation-met {q} i l h r ε met =
+        let c = good hash hash-length p key m1 qs under free i₀ .comparable in
+        let given = pair-given hash hash-length p key m1 qs under free i work out work-length out-length .1 .witness .relation l h in
         unfold defect x₀ lowQ QSum F in
-        carried p key (shares q) (shares q₀) (one-share hash hash-length p key m1 qs under free work out work-length out-length work out work-length out-length i i₀)
-        (q .one .message2)
-        (unfold pairShares exchangeOf exchange in pair-given hash hash-length p key m1 qs under free i work out work-length out-length .1 .witness)
-        l h r ε (met .point) (met .multiplier)
+        rw (← met .point, ← met .multiplier)
+        (sums-when p key (c .within .k-most) (c .lent .y) (shares q₀) (q .one .message2) l
+        (subst (λ (s : List ℕ). Relation p key (q .one .message2) s l) (whole-ext p (shares q) (shares q₀)
+        (one-share hash hash-length p key m1 qs under free work out work-length out-length work out work-length out-length i i₀))
+        (sums-then p key (c .within .k-most) (c .lent .y) (shares q) (q .one .message2) l (unfold pairShares exchangeOf exchange in given))))
 
   -- ---- the bound
 
@@ -160,8 +146,11 @@ module _ (hash : List ℕ → ℕ → List ℕ) (hash-length : (s : List ℕ) (n
       extracted = pair-given hash hash-length p key m1 qs under free i work′ out′ wl ol .0;
       same =
           unfold xOfPair x₀ pairShares in
-          xSum-ext p key (pairShares hash hash-length p key m1 qs under free q work′ out′) (shares q₀)
-          (one-share hash hash-length p key m1 qs under free work′ out′ wl ol work out work-length out-length i i₀);
+          let c = good hash hash-length p key m1 qs under free i₀ .comparable in
+          let s : ℕ → List ℕ = pairShares hash hash-length p key m1 qs under free q work′ out′ in
+          xSum-is p key (c .within .k-most) (c .lent .y) s
+          ∙ ap (xOf p key true) (whole-ext p s (shares q₀) (one-share hash hash-length p key m1 qs under free work′ out′ wl ol work out work-length out-length i i₀))
+          ∙ sym (xSum-is p key (c .within .k-most) (c .lent .y) (shares q₀));
     }
 
     one-x : OneX hash p key qs

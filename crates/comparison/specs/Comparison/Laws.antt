@@ -10,9 +10,10 @@ use mathlib.Core.List.{List, _∷_, _++_}
 use Prim.Native.Nat.{ℕ, _+_, _<_}
 use native.Mathlib.Decide.{decLt, ℕ-discrete}
 use native.Mathlib.Omega.{arith}
-use borrow.Author.Tests.{lt-ltb, le-ltb, eq-eqb, ne-eqb, not-true, not-false}
+use borrow.Author.Tests.{lt-ltb, le-ltb, eq-eqb, ne-eqb, eqb-false, not-true, not-false}
 use lib.Dec.{eqb, ltb}
 use lib.ListN.{length, drop}
+use Rattle.lists.specs.Checks.Laws.{and-left, and-right}
 use Rattle.lists.specs.Equal.{eqList}
 use Rattle.lists.specs.Equal.Laws.{eqList-true, eqList-false, eqList-of}
 use Rattle.shake256.specs.Fips.{SHAKE256}
@@ -24,7 +25,6 @@ use Rattle.exchange.specs.FirstAxis.{first-trailing}
 use Rattle.exchange.specs.Sequences.{joined, least}
 use Rattle.exchange.specs.Sequences.Laws.{joined-ext, joined-inj, Least, least-is}
 use Rattle.exchange.specs.Strings.{string, string4, string5, string7}
-use Rattle.exchange.specs.Leaf.{commitment}
 use Rattle.exchange.specs.Values.{Key}
 use Rattle.exchange.specs.Parties.{axisString}
 use Rattle.exchange.specs.Parties.Laws.{string-inj}
@@ -33,20 +33,26 @@ use Rattle.exchange.specs.Opening.Laws.{length-commitments}
 use Rattle.exchange.specs.Extractor.{openedInBoth, axis, auxFrom, stateFrom, output, extract}
 use Rattle.exchange.specs.Extractor.Laws.{string-7, string-6, string-5, string-4, axis-is}
 use Rattle.leaves.specs.Commitments.{commitmentsOf}
+use Rattle.leaves.specs.Commitments.Laws.{opened-commitments}
 use Rattle.comparison.specs.Head.{least-ext}
 use Rattle.comparison.specs.Chain.{differsAt, extract-chain}
 use Rattle.comparison.specs.Comparison.{View, stateAt, rowAt, digestAt, leafAt, apart, openedBoth, commitments, firstApart, firstOpened, stateOf, outputOf, axisOf, leafComparison, comparison}
 
 -- ---- comparisons
 
-pub eqList-same : (a b c d : List ℕ) → (a ≡ b → c ≡ d) → (c ≡ d → a ≡ b) → eqList a b ≡ eqList c d
-eqList-same a b c d to from = go (eqList a b) refl (eqList c d) refl
+eqList-apart : (a b : List ℕ) → (a ≡ b → ⊥) → eqList a b ≡ false
+eqList-apart a b h = go (eqList a b) refl
   where
-    go : (t : Bool) → eqList a b ≡ t → (u : Bool) → eqList c d ≡ u → eqList a b ≡ eqList c d
-    go true e true f = e ∙ sym f
-    go true e false f = absurd (eqList-false c d f (to (eqList-true a b e)))
-    go false e true f = absurd (eqList-false a b e (from (eqList-true c d f)))
-    go false e false f = e ∙ sym f
+    go : (t : Bool) → eqList a b ≡ t → eqList a b ≡ false
+    go true e = absurd (h (eqList-true a b e))
+    go false e = e
+
+pub eqList-same : (a b c d : List ℕ) → (a ≡ b → c ≡ d) → (c ≡ d → a ≡ b) → eqList a b ≡ eqList c d
+eqList-same a b c d to from = go (eqList a b) refl
+  where
+    go : (t : Bool) → eqList a b ≡ t → eqList a b ≡ eqList c d
+    go true e = e ∙ sym (eqList-of c d (to (eqList-true a b e)))
+    go false e = e ∙ sym (eqList-apart c d (λ q. eqList-false a b e (from q)))
 
 module _ (f g : ℕ → List ℕ) (n size layer : ℕ) (prefix : List ℕ) (hf : (i : ℕ) → i < n → length (f i) ≡ size)
     (hg : (i : ℕ) → i < n → length (g i) ≡ size) where
@@ -65,14 +71,9 @@ module _ (f g : ℕ → List ℕ) (n size layer : ℕ) (prefix : List ℕ) (hf :
           eqList-false (f (least (apart f g) n)) (g (least (apart f g) n)) (not-true _ (first .passes l))
           (joined-inj f g n size hf hg (string-inj layer prefix (joined f n) (joined g n) e) (least (apart f g) n) l)
 
-      unequal : (t : Bool) → eqList (string layer prefix (joined f n)) (string layer prefix (joined g n)) ≡ t → least (apart f g) n < n
-          → true ≡ not (eqList (string layer prefix (joined f n)) (string layer prefix (joined g n)))
-      unequal true e l = absurd (other l (eqList-true _ _ e))
-      unequal false e l = rw e
-
       go : Dec (least (apart f g) n < n)
           → ltb (least (apart f g) n) n ≡ not (eqList (string layer prefix (joined f n)) (string layer prefix (joined g n)))
-      go (yes l) = lt-ltb _ _ l ∙ unequal _ refl l
+      go (yes l) = lt-ltb _ _ l ∙ sym (ap not (eqList-apart _ _ (other l)))
       go (no h) =
           le-ltb (least (apart f g) n) n (omega arith)
           ∙ sym (ap not (eqList-of _ _ (ap (string layer prefix) (joined-ext f g n (same h)))))
@@ -100,14 +101,9 @@ module _ (p : Parameters) (key : Key) (prefix : List ℕ) (e : Exchange) (v : Vi
       (λ j l. ap (λ (x : List ℕ). SHAKE256 x 32) (row-string j l)))
 
   commitment-at : (i : ℕ) → i < leaves p → leafCommitment SHAKE256 p e i ≡ commitments p prefix v i
-  unfolding leafCommitment leafString commitment commitmentsOf
-  commitment-at i l = go (ℕ-discrete i (e .leaf))
-    where
-      go : Dec (i ≡ e .leaf)
-          → cond (eqb i (e .leaf)) (commitmentOf p e) (SHAKE256 (string4 p (e .prefix) i (openedState SHAKE256 p e i) (auxOf p e)) 32)
-          ≡ cond (eqb i (v .leaf)) (v .given) (SHAKE256 (string4 p prefix i (stateAt (v .states) i) (v .aux)) 32)
-      go (yes q) = rw (eq-eqb i (e .leaf) q, eq-eqb i (v .leaf) (q ∙ s .leaf)) (s .given)
-      go (no q) = rw (ne-eqb i (e .leaf) q, ne-eqb i (v .leaf) (λ z. q (z ∙ sym (s .leaf))), s .state i l q, s .aux, s .salt)
+  commitment-at i l =
+      sym (opened-commitments p e (v .states) (v .given) (v .aux) (λ i l q. sym (s .state i l q)) (sym (s .given)) (sym (s .aux)) i l)
+      ∙ ap₂ (λ (q : List ℕ) (u : ℕ). commitmentsOf p q (v .states) u (v .given) (v .aux) i) (s .salt) (s .leaf)
 
   commitment-string : commitmentString SHAKE256 p e ≡ string 5 prefix (joined (commitments p prefix v) (leaves p))
   unfolding commitmentString string5
@@ -156,7 +152,7 @@ module _ (p : Parameters) (within : Within p) (key : Key) (prefix : List ℕ) (e
   at-4 =
       least-ext (λ i. openedInBoth p e e′ i && differsAt SHAKE256 p key e e′ 4 i)
       (λ i. openedBoth (v .leaf) (v′ .leaf) i && apart (leafAt p (v .states) (v .aux)) (leafAt p (v′ .states) (v′ .aux)) i) (leaves p)
-      (λ i l. go i l (ℕ-discrete i (e .leaf)) (ℕ-discrete i (e′ .leaf)))
+      (λ i l. go i l (openedInBoth p e e′ i) refl ∙ ap (λ (b : Bool). b && apart (leafAt p (v .states) (v .aux)) (leafAt p (v′ .states) (v′ .aux)) i) (both i))
     where
       both : (i : ℕ) → openedInBoth p e e′ i ≡ openedBoth (v .leaf) (v′ .leaf) i
       both i = unfold openedInBoth openedBoth in ap₂ (λ (a b : ℕ). not (eqb i a) && not (eqb i b)) (s .leaf) (s′ .leaf)
@@ -170,17 +166,13 @@ module _ (p : Parameters) (within : Within p) (key : Key) (prefix : List ℕ) (e
           ∙ ap not
           (eqList-same _ _ _ _ (λ z. ap (drop 1) (string-inj 4 prefix _ _ z)) (λ z. ap (λ (r : List ℕ). string 4 prefix (i ∷ r)) z))
 
-      hidden : (i : ℕ) → openedInBoth p e e′ i ≡ false
-          → (openedInBoth p e e′ i && differsAt SHAKE256 p key e e′ 4 i)
-          ≡ (openedBoth (v .leaf) (v′ .leaf) i && apart (leafAt p (v .states) (v .aux)) (leafAt p (v′ .states) (v′ .aux)) i)
-      hidden i z = rw (← both i, z)
-
-      go : (i : ℕ) → i < leaves p → Dec (i ≡ e .leaf) → Dec (i ≡ e′ .leaf)
-          → (openedInBoth p e e′ i && differsAt SHAKE256 p key e e′ 4 i)
-          ≡ (openedBoth (v .leaf) (v′ .leaf) i && apart (leafAt p (v .states) (v .aux)) (leafAt p (v′ .states) (v′ .aux)) i)
-      go i l (yes q) d = hidden i (unfold openedInBoth in rw (eq-eqb i (e .leaf) q))
-      go i l (no q) (yes q′) = hidden i (unfold openedInBoth in rw (ne-eqb i (e .leaf) q, eq-eqb i (e′ .leaf) q′))
-      go i l (no q) (no q′) = ap₂ _&&_ (both i) (differ i l q q′)
+      go : (i : ℕ) → i < leaves p → (b : Bool) → openedInBoth p e e′ i ≡ b
+          → (b && differsAt SHAKE256 p key e e′ 4 i) ≡ (b && apart (leafAt p (v .states) (v .aux)) (leafAt p (v′ .states) (v′ .aux)) i)
+      go i l true z =
+          unfold openedInBoth in
+          differ i l (eqb-false i (e .leaf) (not-true _ (and-left (not (eqb i (e .leaf))) _ z)))
+          (eqb-false i (e′ .leaf) (not-true _ (and-right (not (eqb i (e .leaf))) _ z)))
+      go i l false z = refl
 
   axis-same : axis p e e′ ≡ axisOf (v .leaf) (v′ .leaf)
   axis-same =

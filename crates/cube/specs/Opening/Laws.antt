@@ -12,7 +12,7 @@ use native.Mathlib.Decide.{ℕ-discrete}
 use Rattle.cube.specs.Group.{Group2}
 use Rattle.cube.specs.Sum.{sum}
 use Rattle.cube.specs.Sum.Laws.{sum-ext}
-use Rattle.cube.specs.Party.{Partition, party}
+use Rattle.cube.specs.Party.{Partition}
 use Rattle.cube.specs.Party.Laws.{party-sum, party-ext, balanced-zero, balanced-same, balanced-other, balanced-ext}
 use Rattle.cube.specs.Opening.{announced, totals, formula, verified}
 

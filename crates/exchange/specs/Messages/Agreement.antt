@@ -7,9 +7,9 @@
 -- response-is              the recomputed h' is the prover's
 -- honest-accepted          the verdict on the honest exchange
 -- messages-accepted        the verdict on what is read from the messages
-use mathlib.Core.Path.{_≡_, refl, sym, ap, ap₂, _∙_}
-use mathlib.Core.Bool.{true, false}
-use mathlib.Core.List.{List, _∷_, _++_}
+use mathlib.Core.Path.{_≡_, refl, sym, ap, _∙_}
+use mathlib.Core.Bool.{false}
+use mathlib.Core.List.{List, _∷_}
 use Prim.Native.Nat.{ℕ, _+_, _-_, _<_}
 use native.Mathlib.Decide.{ℕ-discrete}
 use lib.ListN.{length}
@@ -18,7 +18,7 @@ use Rattle.cube.specs.Sum.{sum}
 use Rattle.cube.specs.Sum.Laws.{cond-eq, cond-ne, sum-ext, sum-pairs}
 use Rattle.cube.specs.Party.{replaced}
 use Rattle.cube.specs.Opening as cube
-use Rattle.cube.specs.Opening.Laws.{totals-all, announced-ext, verified-ext, completeness}
+use Rattle.cube.specs.Opening.Laws.{announced-ext, verified-ext, completeness}
 use Rattle.tower.specs.Field.{Point}
 use Rattle.answers.specs.declared.Answer.the-variants.{Done}
 use Rattle.parameters.specs.declared.Parameters.{Parameters}
@@ -28,13 +28,12 @@ use Rattle.exchange.specs.Run.{Run}
 use Rattle.exchange.specs.Sequences.Laws.{joined-ext}
 use Rattle.exchange.specs.Strings.{string, string6, string7}
 use Rattle.exchange.specs.Reading.{_⊞_, 𝟎}
-use Rattle.exchange.specs.Reading.Laws.{encode-ext}
 use Rattle.exchange.specs.Values.{Key, alpha, beta, partV}
-use Rattle.exchange.specs.Values.Relation.{totalV, totalV-zero}
+use Rattle.exchange.specs.Values.Relation.{totalV-zero}
 use Rattle.exchange.specs.Parties.{sums, announcedBytes, axisString}
-use Rattle.exchange.specs.Parties.Cube.{axisPartition, G, GG, leafW, leafV, constantW, constantV, alpha-total, beta-total, partV-total, party-announced, party-formula}
+use Rattle.exchange.specs.Parties.Cube.{axisPartition, G, GG, leafW, leafV, constantW, constantV, v-total, party-announced, party-formula}
 use Rattle.exchange.specs.Announcing.{formulaV}
-use Rattle.exchange.specs.Announcing.Laws.{none-alpha, none-beta, none-v}
+use Rattle.exchange.specs.Announcing.Laws.{same-bytes, none-alpha, none-beta, none-v}
 use Rattle.exchange.specs.Opening.{Exchange, exchange, announced, responseString, verdict}
 use Rattle.exchange.specs.Opening.Cube.{openedW, openedV, opened-announced, opened-verified}
 use Rattle.exchange.specs.Opening.Laws.{accepted-when, sums-agree}
@@ -108,25 +107,11 @@ module _ (hash : List ℕ → ℕ → List ℕ) (hash-length : (s : List ℕ) (n
           ∙ party-formula p key m2 l own j c
           (sums (λ c. ownAnnounced hash p x run key m2 j .α c l) (side p), sums (λ c. ownAnnounced hash p x run key m2 j .β c l) (side p)) own-totals
 
-      -- α̂ and β̂ are α and β of the sum of all leaves
-      totals-of-sum : (alpha p key m2 true (ownSum hash p x run) l, beta p key m2 true (ownSum hash p x run) l) ≡ ownTotals
-      unfolding ownSum
-      totals-of-sum =
-          pair-path (alpha-total p key m2 l true (λ i. true) own (leaves p)) (beta-total p key m2 l true (λ i. true) own (leaves p))
-          ∙ sym (ap (GG .add (constantW p key m2 l)) (sum-pairs G G ownW (leaves p)))
-          ∙ sym (totals-all GG G (axisPartition p j) (constantW p key m2 l) (constantV p key m2 l) ownW)
-
-      v-of-sum : totalV p key m2 (ownSum hash p x run) l ≡ 𝟎
-      v-of-sum =
-          totalV-zero p key m2 (ownSum hash p x run) l
-          (relation-of-sum hash p x run hash-length secret key xA size sizeY refl m2 l hl)
-
       zero-sum : constantV p key m2 l ownTotals ⊞ sum G (λ i. ownV i ownTotals) (leaves p) ≡ 𝟎
       unfolding ownSum
       zero-sum =
-          sym (partV-total p key m2 l true (λ i. true) own (leaves p) ownTotals)
-          ∙ ap (λ (h : Point × Point). partV p key m2 true (ownSum hash p x run) (h .0) (h .1) l) (sym totals-of-sum)
-          ∙ v-of-sum
+          sym (v-total p key m2 l own j)
+          ∙ totalV-zero p key m2 (ownSum hash p x run) l (relation-of-sum hash p x run hash-length secret key xA size sizeY refl m2 l hl)
 
       -- ---- what the parties announce
 
@@ -148,11 +133,9 @@ module _ (hash : List ℕ → ℕ → List ℕ) (hash-length : (s : List ℕ) (n
   -- ---- the strings
 
   announced-same : (j c : ℕ) → c < side p → announcedBytes p (announced hash p e key j) c ≡ announcedBytes p (ownAnnounced hash p x run key m2 j) c
-  unfolding announcedBytes announced ownAnnounced
   announced-same j c h =
-      ap₂ _++_ (encode-ext _ _ (p .t) (λ l k. ap (λ (z : Point × Point). z .0) (W-same l k j c h)))
-      (ap₂ _++_ (encode-ext _ _ (p .t) (λ l k. ap (λ (z : Point × Point). z .1) (W-same l k j c h)))
-      (encode-ext _ _ (p .t) (λ l k. V-same l k j c h)))
+      same-bytes p _ _ c (λ l k. ap (λ (z : Point × Point). z .0) (W-same l k j c h)) (λ l k. ap (λ (z : Point × Point). z .1) (W-same l k j c h))
+      (λ l k. V-same l k j c h)
 
   pub axisString-is : (j : ℕ) → axisString p (run .prefix) j (announced hash p e key j) ≡ axisString p (run .prefix) j (ownAnnounced hash p x run key m2 j)
   unfolding axisString string6

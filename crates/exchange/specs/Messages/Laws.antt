@@ -2,11 +2,10 @@
 --
 -- Secret p x               x of a valid key: parameters within their limits, m bytes, at most w of them nonzero
 -- length-drawn, length-wanted, length-aux   a share's length; aux has k + 2w + 4t bytes
--- length-ownShare          a share's length
 -- length-message1          message 1 has 64 bytes
 -- length-message3          message 3 has 32 bytes
 -- length-message5          'Length 5: 16D + 32 + 8t, plus k + 2w + 4t with aux'
--- bytes-aux, bytes-ownShare, bytes-message1, bytes-message3, bytes-message5   they are bytes, where the hash gives bytes
+-- bytes-aux, bytes-message5   they are bytes, where the hash gives bytes
 use mathlib.Core.Path.{_≡_, refl, ap₂, _∙_}
 use mathlib.Core.Bool.{Bool, true, false, cond}
 use mathlib.Core.List.{List, [], _++_}
@@ -26,12 +25,12 @@ use Rattle.exchange.specs.Sequences.Laws.{bytes-drop}
 use Rattle.exchange.specs.Tree.{siblingSeeds}
 use Rattle.exchange.specs.Tree.Laws.{length-siblingSeeds, bytes-siblingSeeds}
 use Rattle.exchange.specs.Leaf.{share}
-use Rattle.exchange.specs.Leaf.Laws.{length-share, length-share-le, length-commitment, bytes-share, bytes-commitment}
+use Rattle.exchange.specs.Leaf.Laws.{length-share-le, length-commitment, bytes-share, bytes-commitment}
 use Rattle.exchange.specs.Reading.{encode}
 use Rattle.exchange.specs.Reading.Laws.{length-encode, bytes-encode}
 use Rattle.exchange.specs.Values.{Key}
 use Rattle.exchange.specs.Parties.Laws.{length-total, bytes-total}
-use Rattle.exchange.specs.Messages.{ownState, drawn, wanted, ownAux, ownShare, ownCommitment, message1, message3, message5}
+use Rattle.exchange.specs.Messages.{ownState, drawn, wanted, ownAux, ownCommitment, message1, message3, message5}
 
 pub record Secret (p : Parameters) (x : List ℕ) : Type 0 where
   pub within : Within p
@@ -88,10 +87,6 @@ module _ (hash : List ℕ → ℕ → List ℕ) (hash-length : (s : List ℕ) (n
       let c : length (drop (atX p) (drawn hash p x run)) ≡ auxLength p = length-drop (atX p) (drawn hash p x run) ∙ omega arith in
       length-xorList (wanted hash p x run) (drop (atX p) (drawn hash p x run)) (omega arith) ∙ a
 
-  pub length-ownShare : (i : ℕ) → length (ownShare hash p x run i) ≡ shareLength p
-  unfolding ownShare
-  length-ownShare i = length-share hash hash-length p (run .prefix) i (ownState hash p x run i) (ownAux hash p x run) length-aux
-
   pub length-ownCommitment : (i : ℕ) → length (ownCommitment hash p x run i) ≡ 32
   unfolding ownCommitment
   length-ownCommitment i = length-commitment hash hash-length p (run .prefix) i (ownState hash p x run i) (ownAux hash p x run)
@@ -142,19 +137,7 @@ module _ (hash : List ℕ → ℕ → List ℕ) (hash-bytes : (s : List ℕ) (n 
   unfolding ownAux
   bytes-aux = bytes-xorList (wanted hash p x run) _ bytes-wanted (bytes-drop (atX p) (drawn hash p x run) bytes-drawn)
 
-  pub bytes-ownShare : (i : ℕ) → Bytes (ownShare hash p x run i)
-  unfolding ownShare
-  bytes-ownShare i = bytes-share hash hash-bytes p (run .prefix) i (ownState hash p x run i) (ownAux hash p x run) bytes-aux
-
-  pub bytes-message1 : Bytes (run .prefix) → Bytes (message1 hash p x run)
-  unfolding message1
-  bytes-message1 h = bytes-append (run .prefix) _ h (hash-bytes _ 32)
-
   module _ (key : Key) (m2 : List ℕ) where
-    pub bytes-message3 : Bytes (message3 hash p x run key m2)
-    unfolding message3
-    bytes-message3 = hash-bytes _ 32
-
     pub bytes-message5 : (u : ℕ) → Bytes (message5 hash p x run key m2 u)
     unfolding message5 ownCommitment
     bytes-message5 u =

@@ -8,7 +8,7 @@
 -- commitmentString-is       and layer 5's string
 use mathlib.Core.Path.{_≡_, refl, sym, ap, ap₂, _∙_}
 use mathlib.Core.Bool.{false, cond}
-use mathlib.Core.List.{List, [], _∷_, _++_, append-assoc}
+use mathlib.Core.List.{List, [], _++_, append-assoc}
 use Prim.Native.Nat.{ℕ, _+_, _-_, _*_, _<_}
 use native.Mathlib.Decide.{ℕ-discrete}
 use native.Mathlib.Omega.{arith}
@@ -18,14 +18,14 @@ use lib.ListN.{length, getD, take, drop, length-append}
 use lib.Seq.{take-at, drop-at}
 use Rattle.parameters.specs.declared.Parameters.{Parameters}
 use Rattle.layout.specs.Layout.{levels, leaves, isLast, factorLength, valuesLength, siblingsLength}
-use Rattle.layout.specs.Layout.Laws.{isLast-false}
+use Rattle.layout.specs.Layout.Laws.{isLast-false, isLast-last}
 use Rattle.exchange.specs.Run.{Run}
 use Rattle.exchange.specs.Sequences.Laws.{joined-ext}
 use Rattle.exchange.specs.Strings.{string, string4, string5}
 use Rattle.exchange.specs.Tree.{siblingSeeds, openedSeeds}
 use Rattle.exchange.specs.Tree.Laws.{length-siblingSeeds, opened-is}
-use Rattle.exchange.specs.Leaf.{state, share, commitment}
-use Rattle.exchange.specs.Leaf.Laws.{share-other, length-commitment}
+use Rattle.exchange.specs.Leaf.{state, commitment}
+use Rattle.exchange.specs.Leaf.Laws.{SameAux, share-ext, string4-ext, length-commitment}
 use Rattle.exchange.specs.Reading.{pointAt, encode}
 use Rattle.exchange.specs.Reading.Laws.{length-encode, pointAt-encode}
 use Rattle.exchange.specs.Values.{Key, alpha, beta}
@@ -147,28 +147,17 @@ module _ (hash : List ℕ → ℕ → List ℕ) (p : Parameters) (x : List ℕ) 
           ∙ ap (state hash (run .prefix) i) (opened-is hash (run .prefix) hash-length (levels p) 1 (run .root) u i l inside n)
 
       -- where aux counts, it is there
-      aux-counts : (i : ℕ) → (i ≡ u → ⊥) → i ≡ leaves p - 1 → auxOf p honest ≡ ownAux hash p x run
-      aux-counts i n e = aux-is ∙ rw (isLast-false p u (λ q. n (e ∙ sym q)))
+      aux-counts : (i : ℕ) → (i ≡ u → ⊥) → SameAux p i (auxOf p honest) (ownAux hash p x run)
+      aux-counts i n t = aux-is ∙ rw (isLast-false p u (λ q. n (isLast-last p i t ∙ sym q)))
 
       pub share-is : (i : ℕ) → i < leaves p → (i ≡ u → ⊥) → openedShare hash p honest i ≡ ownShare hash p x run i
       unfolding openedShare ownShare
-      share-is i l n = ap (λ (st : List ℕ). share hash p (run .prefix) i st (auxOf p honest)) (state-is i l n) ∙ go (ℕ-discrete i (leaves p - 1))
-        where
-          own : List ℕ
-          own = ownState hash p x run i
-
-          go : Dec (i ≡ leaves p - 1) → share hash p (run .prefix) i own (auxOf p honest) ≡ share hash p (run .prefix) i own (ownAux hash p x run)
-          go (yes e) = ap (share hash p (run .prefix) i own) (aux-counts i n e)
-          go (no e) = share-other hash p (run .prefix) i own (auxOf p honest) e ∙ sym (share-other hash p (run .prefix) i own (ownAux hash p x run) e)
+      share-is i l n = share-ext p (run .prefix) i _ _ _ _ hash (state-is i l n) (aux-counts i n)
 
       pub leafString-is : (i : ℕ) → i < leaves p → (i ≡ u → ⊥)
           → leafString hash p honest i ≡ string4 p (run .prefix) i (ownState hash p x run i) (ownAux hash p x run)
-      unfolding leafString string4
-      leafString-is i l n = ap₂ (λ (st aux : List ℕ). string 4 (run .prefix) (i ∷ (st ++ aux))) (state-is i l n) (go (ℕ-discrete i (leaves p - 1)))
-        where
-          go : Dec (i ≡ leaves p - 1) → cond (isLast p i) (auxOf p honest) [] ≡ cond (isLast p i) (ownAux hash p x run) []
-          go (yes e) = ap (λ (aux : List ℕ). cond (isLast p i) aux []) (aux-counts i n e)
-          go (no e) = rw (isLast-false p i e)
+      unfolding leafString
+      leafString-is i l n = string4-ext p (run .prefix) i _ _ _ _ (state-is i l n) (aux-counts i n)
 
       pub commitments-are : (i : ℕ) → i < leaves p → leafCommitment hash p honest i ≡ ownCommitment hash p x run i
       unfolding leafCommitment ownCommitment commitment

@@ -1,5 +1,6 @@
 -- The sum of the prover's leaves: 'its aux = x_A, Q, P, c makes the sums come right, with c = a·b at each position'.
 --
+-- added-twice              a list added twice falls out
 -- ownSum                   the sum of all leaves' shares
 -- sum-front, sum-back      its a and b are those that were drawn; the rest is what was wanted
 -- xA-is, locator-is, P-is, c-is   x_A, Q, P and c of the sum
@@ -42,8 +43,7 @@ relation-of : {K : Type 0} (R : Ring2 K) (e s q p f a b c : K) → R .mul s q �
     → R .mul e (R .add (R .mul s q) (R .mul p f)) ≡ R .add c (R .mul a b)
 relation-of R e s q p f a b c h k = combine R e _ _ h (combine R (R .one) _ _ k (simp (ring, R)))
 
--- a list added twice falls out
-added-twice : (f w : List ℕ) → length f ≡ length w → xorList f (xorList w f) ≡ w
+pub added-twice : (f w : List ℕ) → length f ≡ length w → xorList f (xorList w f) ≡ w
 added-twice f w e =
     xorList-comm f (xorList w f) ∙ xorList-assoc w f f ∙ ap (xorList w) (xorList-self f) ∙ xorList-zeros w (length f) (le-of-eq e)
 

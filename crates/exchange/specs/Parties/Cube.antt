@@ -7,6 +7,7 @@
 -- constantW, constantV     the constants of the first party
 -- alpha-total, beta-total, partV-total   α, β and v of a sum of shares
 -- party-announced, party-formula         α, β and v of the parties of a family of shares
+-- v-total                  v of the sum of all shares, its own α and β being α̂ and β̂
 use mathlib.Core.Path.{_≡_, sym, ap, _∙_}
 use mathlib.Core.Bool.{Bool, true, false, cond}
 use mathlib.Core.List.{List}
@@ -18,9 +19,11 @@ use Rattle.lists.specs.Sum.Laws.{xorList-self}
 use Rattle.cube.specs.Group.{Group2, additive, pairs, pair-path}
 use Rattle.cube.specs.Group.Laws.{zero-add}
 use Rattle.cube.specs.Sum.{sum}
+use Rattle.cube.specs.Sum.Laws.{sum-pairs}
 use Rattle.cube.specs.Party.{Partition, party, memberSum}
 use Rattle.cube.specs.Party.Laws.{party-pairs}
 use Rattle.cube.specs.Opening.{announced, formula, totals}
+use Rattle.cube.specs.Opening.Laws.{totals-all}
 use Rattle.tower.specs.Field.{Point}
 use Rattle.parameters.specs.declared.Parameters.{Parameters}
 use Rattle.layout.specs.Layout.{side, leaves, digit, shareLength}
@@ -109,6 +112,21 @@ module _ (p : Parameters) (key : Key) (m2 : List ℕ) (l : ℕ) where
   -- ---- the parties of a family of shares
 
   module _ (s : ℕ → List ℕ) (j : ℕ) where
+    abbrev hats : Point × Point
+    hats = totals GG G (axisPartition p j) constantW constantV (leafW s)
+
+    abbrev all : List ℕ
+    all = total p (λ i. true) s (leaves p)
+
+    pub v-total : partV p key m2 true all (alpha p key m2 true all l) (beta p key m2 true all l) l
+        ≡ constantV hats ⊞ sum G (λ i. leafV s i hats) (leaves p)
+    v-total =
+        ap (λ (h : Point × Point). partV p key m2 true all (h .0) (h .1) l)
+        (pair-path (alpha-total true (λ i. true) s (leaves p)) (beta-total true (λ i. true) s (leaves p))
+        ∙ sym (ap (GG .add constantW) (sum-pairs G G (leafW s) (leaves p)))
+        ∙ sym (totals-all GG G (axisPartition p j) constantW constantV (leafW s)))
+        ∙ partV-total true (λ i. true) s (leaves p) hats
+
     pub party-announced : (c : ℕ)
         → (alpha p key m2 (eqb c 0) (total p (partyOf p j c) s (leaves p)) l, beta p key m2 (eqb c 0) (total p (partyOf p j c) s (leaves p)) l)
         ≡ announced GG G (axisPartition p j) constantW constantV (leafW s) c
@@ -117,7 +135,7 @@ module _ (p : Parameters) (key : Key) (m2 : List ℕ) (l : ℕ) where
         pair-path (alpha-total (eqb c 0) (partyOf p j c) s (leaves p)) (beta-total (eqb c 0) (partyOf p j c) s (leaves p))
         ∙ sym (party-pairs G G (axisPartition p j) constantW (leafW s) c)
 
-    pub party-formula : (c : ℕ) (h : Point × Point) → h ≡ totals GG G (axisPartition p j) constantW constantV (leafW s)
+    pub party-formula : (c : ℕ) (h : Point × Point) → h ≡ hats
         → partV p key m2 (eqb c 0) (total p (partyOf p j c) s (leaves p)) (h .0) (h .1) l
         ≡ formula GG G (axisPartition p j) constantW constantV (leafW s) (leafV s) c
     unfolding formula party memberSum partyOf

@@ -4,12 +4,11 @@
 -- total-ext               the sum depends on the shares of the picked leaves alone
 -- length-total            a sum of shares is as long as a share
 -- bytes-total             a sum of bytes is bytes
--- total-rest              the sum of the leaves that are not picked, from the sum of all and that of the picked ones
 -- string-inj              equal strings of one layer and prefix have the same rest
 -- length-announcedBytes, announced-inj   what a party announces has 12t bytes, which determine α, β and v
 -- axisString-inj          equal strings of one axis say that the parties announce the same
 use mathlib.Core.Path.{_≡_, refl, sym, ap, ap₂, _∙_}
-use mathlib.Core.Bool.{Bool, true, false, cond, not}
+use mathlib.Core.Bool.{Bool, true, false, cond}
 use mathlib.Core.List.{List, _++_}
 use Prim.Native.Nat.{ℕ, zero, suc, _+_, _≤_, _<_}
 use native.Mathlib.Nat.{le-refl}
@@ -17,7 +16,7 @@ use native.Mathlib.Omega.{arith}
 use lib.ListN.{length, drop, replicate, length-append, length-replicate}
 use lib.Dec.{lit<}
 use Rattle.lists.specs.Sum.{xorList}
-use Rattle.lists.specs.Sum.Laws.{length-xorList, xorList-comm, xorList-assoc, xorList-self, xorList-zeros}
+use Rattle.lists.specs.Sum.Laws.{length-xorList}
 use Rattle.polynomial.specs.Bytes.{Bytes}
 use Rattle.polynomial.specs.Bytes.Laws.{bytes-xorList}
 use Rattle.parameters.specs.declared.Parameters.{Parameters}
@@ -26,7 +25,7 @@ use Rattle.exchange.specs.Sequences.Laws.{append-inj, joined-inj}
 use Rattle.exchange.specs.Strings.{string, string6}
 use Rattle.exchange.specs.Reading.{encode}
 use Rattle.exchange.specs.Reading.Laws.{length-encode, encode-inj}
-use Rattle.exchange.specs.Parties.{Announced, total, sums, announcedBytes, axisString}
+use Rattle.exchange.specs.Parties.{Announced, total, announcedBytes, axisString}
 
 -- ---- sums of shares
 
@@ -72,34 +71,6 @@ module _ (p : Parameters) (picks : ℕ → Bool) where
       go : (b : Bool) → picks n ≡ b → Bytes (total p picks s n) → Bytes (cond b (xorList (total p picks s n) (s n)) (total p picks s n))
       go true e ih = bytes-xorList (total p picks s n) (s n) ih (h n (le-refl (suc n)) e)
       go false e ih = ih
-
--- ---- the leaves that are not picked
-
-move : (a b c : List ℕ) → xorList (xorList a b) c ≡ xorList (xorList a c) b
-move a b c = xorList-assoc a b c ∙ ap (xorList a) (xorList-comm b c) ∙ sym (xorList-assoc a c b)
-
-twice : (a b c : List ℕ) (n : ℕ) → length a ≡ n → length b ≡ n → length c ≤ n → xorList (xorList a c) (xorList b c) ≡ xorList a b
-twice a b c n ea eb h =
-    let e : length (xorList a b) ≡ length a = length-xorList a b (omega arith) in
-    sym (xorList-assoc (xorList a c) b c) ∙ ap (λ (l : List ℕ). xorList l c) (move a c b) ∙ xorList-assoc (xorList a b) c c
-    ∙ ap (xorList (xorList a b)) (xorList-self c) ∙ xorList-zeros (xorList a b) (length c) (omega arith)
-
-module _ (p : Parameters) (picks : ℕ → Bool) (s : ℕ → List ℕ) where
-  pub total-rest : (n : ℕ) → ((i : ℕ) → i < n → length (s i) ≤ shareLength p)
-      → total p (λ i. not (picks i)) s n ≡ xorList (total p (λ i. true) s n) (total p picks s n)
-  unfolding total
-  total-rest zero h = sym (xorList-self (replicate (shareLength p) 0) ∙ ap (λ (n : ℕ). replicate n 0) (length-replicate (shareLength p) 0))
-  total-rest (suc n) h = go (picks n) (total-rest n (λ i l. h i (omega arith)))
-    where
-      size : (picks : ℕ → Bool) → length (total p picks s n) ≡ shareLength p
-      size picks = length-total p picks s n (λ i l e. h i (omega arith))
-
-      go : (b : Bool) → total p (λ i. not (picks i)) s n ≡ xorList (total p (λ i. true) s n) (total p picks s n)
-          → cond (not b) (xorList (total p (λ i. not (picks i)) s n) (s n)) (total p (λ i. not (picks i)) s n)
-          ≡ xorList (xorList (total p (λ i. true) s n) (s n)) (cond b (xorList (total p picks s n) (s n)) (total p picks s n))
-      go true ih =
-          ih ∙ sym (twice (total p (λ i. true) s n) (total p picks s n) (s n) (shareLength p) (size (λ i. true)) (size picks) (h n (le-refl (suc n))))
-      go false ih = ap (λ (l : List ℕ). xorList l (s n)) ih ∙ move (total p (λ i. true) s n) (total p picks s n) (s n)
 
 -- ---- strings
 

@@ -10,7 +10,6 @@
 -- length-encode, encode-ext, encode-inj, bytes-encode   the same of the points one after another
 -- lone-homomorphism             a byte as a point keeps sums and products
 -- value-xor, value-times        the value of a sum and of a product of polynomials
--- value-lone                    the value at a byte is a byte
 use mathlib.Core.Path.{_≡_, refl, sym, ap, ap₂, _∙_}
 use mathlib.Core.List.{List, _∷_, _++_, map}
 use Prim.Native.Nat.{ℕ, zero, suc, _+_, _*_, _≤_, _<_}
@@ -27,7 +26,7 @@ use Rattle.algebra.specs.Ring.{ops}
 use Rattle.algebra.specs.Extension.Laws.{pair}
 use Rattle.algebra.specs.Polynomial.{eval, times}
 use Rattle.algebra.specs.Polynomial.Evaluation.{eval-plus, eval-times}
-use Rattle.algebra.specs.Polynomial.Maps.{map-plus, map-times, map-eval}
+use Rattle.algebra.specs.Polynomial.Maps.{map-plus, map-times}
 use Rattle.bytefield.specs.Product.{_⊗_, byteOps}
 use Rattle.bytefield.specs.Product.Laws.{xorList-plus}
 use Rattle.bytefield.specs.Byte.{byte, byteRing}
@@ -182,7 +181,3 @@ value-times p q r =
     ap (λ (s : List Point). eval (ops (points .base)) s r)
     (map-times byteOps (ops (points .base)) (λ b. point (lone b)) lone-homomorphism p q)
     ∙ eval-times (points .base) (map (λ b. point (lone b)) p) (map (λ b. point (lone b)) q) r
-
-pub value-lone : (p : List ℕ) (f : ℕ) → value p (point (lone f)) ≡ point (lone (eval byteOps p f))
-unfolding value
-value-lone p f = sym (map-eval byteOps (ops (points .base)) (λ b. point (lone b)) lone-homomorphism p f)

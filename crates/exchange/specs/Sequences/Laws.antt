@@ -16,7 +16,6 @@
 -- those-append             the elements that pass, of two lists one after the other
 -- those-none, none-those   there are none exactly where every element of l fails
 -- First, those-first       the first element that passes: it is one of l, and all before it fail
--- before-mem               an element b of a list stands before a, which is another and does not stand before b
 -- Least, least-is          the least number below n that passes: it passes, and all before it fail
 use mathlib.Core.Path.{_≡_, refl, sym, ap, ap₂, _∙_, subst}
 use mathlib.Core.Bool.{Bool, true, false, cond}
@@ -237,15 +236,6 @@ module _ {A : Type 0} (f : A → Bool) where
             passes = i .passes;
             fail = λ b m. ⊎-elim (λ s. ap f s ∙ q) (i .fail b) (List·Memᴰ·cases-cons m);
           }
-
--- what stands in l before the place at which a is found
-pub before-mem : {A : Type 0} (xs ys before after : List A) (a b : A) → xs ++ (b ∷ ys) ≡ before ++ (a ∷ after) → (List·Memᴰ a xs → ⊥)
-    → (a ≡ b → ⊥) → List·Memᴰ b before
-before-mem [] ys [] after a b e out other = absurd (other (cc))
-before-mem [] ys (c ∷ before) after a b e out other = List·Memᴰ·head {x = c} (cc)
-before-mem (x ∷ xs) ys [] after a b e out other = absurd (out (List·Memᴰ·head {x = x} (cc)))
-before-mem (x ∷ xs) ys (c ∷ before) after a b e out other =
-    List·Memᴰ·tail (before-mem xs ys before after a b (cc) (λ m. out (List·Memᴰ·tail m)) other)
 
 -- ---- least
 

@@ -8,9 +8,9 @@
 -- alphaConstant, betaConstant       the constants of α and β; the constant of v is α̂·β̂
 -- alpha-xor, beta-xor, partV-xor        α, β and v of a sum of shares are the sums of α, β and v
 -- alpha-first, beta-first, partV-first  α, β and v of the first party: those of the share, and the constant
--- length-xAOf, length-imageOf, length-xOf, length-SOf, length-QOf, length-POf   how many bytes they have
+-- length-xAOf, length-imageOf, length-xOf, length-SOf, length-POf   how many bytes they have
 use mathlib.Core.Path.{_≡_, sym, ap, ap₂, _∙_}
-use mathlib.Core.Bool.{Bool, true, false, cond}
+use mathlib.Core.Bool.{Bool, true, false}
 use mathlib.Core.List.{List, [], _∷_, _++_}
 use Prim.Native.Nat.{ℕ, _+_, _-_, _*_, _<_}
 use native.Mathlib.Nat.{le-of-eq}
@@ -43,10 +43,6 @@ module _ (p : Parameters) where
   pub length-POf : (s : List ℕ) → length (POf p s) ≡ p .w
   unfolding POf
   length-POf s = length-bytesAt s (atP p) (p .w)
-
-  pub length-QOf : (first : Bool) (s : List ℕ) → length (QOf p first s) ≡ p .w + 1
-  unfolding QOf
-  length-QOf first s = length-append (bytesAt s (atQ p) (p .w)) (cond first 1 0 ∷ []) ∙ ap (λ (n : ℕ). n + 1) (length-bytesAt s (atQ p) (p .w))
 
   module _ (s t : List ℕ) where
     pub xAOf-xor : xAOf p (xorList s t) ≡ xorList (xAOf p s) (xAOf p t)

@@ -25,11 +25,11 @@ module _ {K : Type 0} (R : Ring2 K) (e q s p f a b c : K) where
   abbrev v-of : K
   v-of = c +K e *K (f *K p) +K (e *K q +K a) *K b +K (s +K b) *K a +K (e *K q +K a) *K (s +K b)
 
-  zero-then : v-of ≡ 𝟘 → e *K (s *K q +K p *K f) ≡ c +K a *K b
-  zero-then h = combine R 𝟙 _ _ h (simp (ring, R))
-
   zero-when : e *K (s *K q +K p *K f) ≡ c +K a *K b → v-of ≡ 𝟘
   zero-when h = combine R 𝟙 _ _ h (simp (ring, R))
+
+  zero-then : v-of ≡ 𝟘 → e *K (s *K q +K p *K f) ≡ c +K a *K b
+  zero-then h = combine R 𝟙 _ _ h (simp (ring, R))
 
 -- ---- of a share
 
@@ -44,17 +44,10 @@ module _ (p : Parameters) (key : Key) (m2 s : List ℕ) (l : ℕ) where
   abbrev pub totalV : Point
   totalV = partV p key m2 true s (alpha p key m2 true s l) (beta p key m2 true s l) l
 
-  r : Point
-  r = pointOf p m2 l
-
   pub totalV-zero : Relation → totalV ≡ 𝟎
-  unfolding alpha beta partV r
-  totalV-zero =
-      zero-when (points .base) (multiplierOf p m2 l) (value (QOf p true s) r) (value (SOf p key true s) r) (value (POf p s) r) (value (F p) r)
-      (aOf p s l) (bOf p s l) (cOf p s l)
+  unfolding alpha beta partV
+  totalV-zero = zero-when (points .base) _ _ _ _ _ _ _ _
 
   pub totalV-relation : totalV ≡ 𝟎 → Relation
-  unfolding alpha beta partV r
-  totalV-relation =
-      zero-then (points .base) (multiplierOf p m2 l) (value (QOf p true s) r) (value (SOf p key true s) r) (value (POf p s) r) (value (F p) r)
-      (aOf p s l) (bOf p s l) (cOf p s l)
+  unfolding alpha beta partV
+  totalV-relation = zero-then (points .base) _ _ _ _ _ _ _ _

@@ -9,12 +9,10 @@ use lib.Seq.{length-take-le, take-at}
 use Rattle.lists.specs.Zeroed.{zeroed}
 use Rattle.shake256.specs.Fips.{SHAKE256}
 use Rattle.answers.specs.declared.Answer.{Answer}
-use Rattle.layout.specs.Layout.{workLength}
+use Rattle.layout.specs.Layout.{statementLength, workLength}
 use Rattle.exchange.specs.Values.{Key, keyOf}
-use Rattle.layout.specs.Layout.{openedLength}
 use Rattle.layout.specs.Layout.Bounds.{opened-most}
 use Rattle.openings.specs.Statement.{statementOf}
-use Rattle.layout.specs.Layout.{statementLength}
 use Rattle.calls.specs.Extractor.{Transcript, transcript, exchangeOf, earlyChecks}
 use Rattle.extractor.specs.Early.{lengthsOf, earlyOf, early-is, Early, early-passed}
 use Rattle.extractor.specs.declared.checks.Lengths.{Lengths}
@@ -126,9 +124,9 @@ work-by c = c .judge .last .1 .1 .1 .1 .1 .1 .0
 
 first-is : (c : tie.After-judge) →
     let s : tie.Start = entry (told-by c) in
-    Judged (s .args .p) (exchangeOf (first-of s)) (key-of s) (s .args .work .now) (c .judge .result) (work-by c)
-    (take (openedLength (s .args .p)) (c .judge .last .1 .1 .1 .1 .1 .1 .1 .0))
-first-is c = first-judged _ _ _ _ _ _ (known (told-by c)) _ (made (put-of c) _) _ _ _ _ (c .judge .ensures)
+    Judged (s .args .p) (exchangeOf (first-of s)) (key-of s) (s .args .work .now) (replicate 9760 0) (c .judge .result) (work-by c)
+    (c .judge .last .1 .1 .1 .1 .1 .1 .1 .0)
+first-is c = first-judged _ _ _ _ _ _ (known (told-by c)) _ (made (put-of c) _) _ _ _ _ _ (c .judge .ensures)
 
 returns-2 : tie.Need-returns-2
 returns-2 c = let one : tie.After-one = search in let judged : tie.After-judge = search in let told = told-by judged in
@@ -160,9 +158,9 @@ all-of c = entry (told-by (judge-of c))
 
 second-is : (c : tie.After-judge2) →
     let s : tie.Start = all-of c in
-    Judged (s .args .p) (exchangeOf (second-of s)) (key-of s) (work-by (judge-of c)) (c .judge2 .result) (c .judge2 .last .1 .1 .1 .1 .1 .1 .0)
-    (take (openedLength (s .args .p)) (c .judge2 .last .1 .1 .1 .1 .1 .1 .1 .0))
-second-is c = second-judged _ _ _ _ _ _ (known (told-by (judge-of c))) _ (made (put-of (judge-of c)) _) _ _ _ _ (c .judge2 .ensures)
+    Judged (s .args .p) (exchangeOf (second-of s)) (key-of s) (work-by (judge-of c)) (replicate 9760 0) (c .judge2 .result)
+    (c .judge2 .last .1 .1 .1 .1 .1 .1 .0) (c .judge2 .last .1 .1 .1 .1 .1 .1 .1 .0)
+second-is c = second-judged _ _ _ _ _ _ (known (told-by (judge-of c))) _ (made (put-of (judge-of c)) _) _ _ _ _ _ (c .judge2 .ensures)
 
 -- the work area was zeroed twice
 zeros : (c : tie.After-judge2) → c .judge2 .last .1 .1 .1 .1 .1 .1 .0 ≡ zeroed (workLength (all-of c .args .p)) (all-of c .args .work .now)
@@ -180,7 +178,7 @@ returns-3 c = let two : tie.After-two = search in let second : tie.After-judge2 
 
 compare-openings-requires : tie.Need-compare-openings-requires
 compare-openings-requires c κs = let second : tie.After-judge2 = search in let first = judge-of second in
-    asked _ _ _ _ _ _ (known (told-by first)) _ _ _ _ _ _ _ _ (first-is first) (second-is second) (first .judge .kept .1 .1 .1 .1 .1 .1 .1 .0)
+    asked _ _ _ _ _ _ (known (told-by first)) (first-is first) (second-is second) (first .judge .kept .1 .1 .1 .1 .1 .1 .1 .0)
     (second .judge2 .kept .1 .1 .1 .1 .1 .1 .1 .0)
 
 returns-4 : tie.Need-returns-4
@@ -189,7 +187,7 @@ returns-4 c =
     let passed : tie.After-enum-told2 = search in let first = judge-of second in let told = told-by first in
     both-accepted _ _ _ _ _ _ _ _ (answered (checks told)) (told .enum-told .given .1) _ (first-is first .checked .answer)
     (passed .enum-told2 .given .1) _ (second-is second .checked .answer) (last .enum-told3 .given .1) _ _
-    (found _ _ _ _ _ _ (known told) _ _ _ _ _ _ _ _ (first-is first) (second-is second) _ _ (compared .compare-openings .ensures)) _ (zeros second)
+    (found _ _ _ _ _ _ (known told) (first-is first) (second-is second) _ _ (compared .compare-openings .ensures)) _ (zeros second)
 
 pub extract-spec : {M : Type 1} → statement M
 extract-spec = tie.close (tie.spec (λ c κs. search needs) (λ c κs. search needs) (λ c κs. search needs) (λ c κs. search needs) (λ c κs. search needs)

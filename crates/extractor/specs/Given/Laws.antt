@@ -12,8 +12,7 @@ use lib.ListN.{drop, replicate, length-replicate}
 use lib.Seq.{drop-at}
 use Rattle.lists.specs.Zeroed.{zeroed}
 use Rattle.answers.specs.declared.Answer.{Answer}
-use Rattle.answers.specs.declared.Answer.the-variants.{Done}
-use Rattle.answers.specs.declared.Answer.the-variants.{Refused as Not}
+use Rattle.answers.specs.declared.Answer.the-variants.{Done, Refused as Not}
 use Rattle.answers.specs.declared.Refusal.{Refusal}
 use Rattle.parameters.specs.declared.Parameters.{Parameters}
 use Rattle.layout.specs.Layout.{workLength}

@@ -3,7 +3,7 @@
 -- first-judged, second-judged   the exchanges that were judged
 -- asked           what they gave may be compared
 -- found           the comparison gives the extractor's answer
-use mathlib.Core.Path.{_≡_, sym, ap, ap₂, _∙_, subst}
+use mathlib.Core.Path.{_≡_, refl, sym, ap, ap₂, _∙_, subst}
 use mathlib.Core.List.{List}
 use Prim.Native.Nat.{ℕ}
 use native.Mathlib.Omega.{arith}
@@ -22,8 +22,8 @@ use Rattle.openings.specs.Statement.{statementOf, exchangeIn}
 use Rattle.openings.specs.Statement.Laws.{exchange-in}
 use Rattle.calls.specs.Extractor.{Transcript, exchangeOf}
 use Rattle.comparison.specs.declared.findings.Extraction.{Extraction}
-use Rattle.comparison.specs.Comparison.{comparison}
-use Rattle.comparison.specs.Comparison.Laws.{Shows, comparison-is}
+use Rattle.comparison.specs.Comparison.{View, comparison}
+use Rattle.comparison.specs.Comparison.Laws.{comparison-is}
 use Rattle.comparison.specs.Opened.{viewOf}
 use Rattle.comparison.specs.Found.{Found}
 use Rattle.extractor.specs.Early.{Early}
@@ -31,41 +31,37 @@ use Rattle.extractor.specs.Compared.{Comparing}
 use Rattle.extractor.specs.Judged.{Judged, shows}
 
 module _ (p : Parameters) (t t′ : Transcript) (key : Key) (work out : List ℕ) (early : Early SHAKE256 p t t′ key work out) where
-  module _ (s : List ℕ) (made : s ≡ statementOf (drop 32 (t .message1)) (t .message3) (t .message2) (take 32 (t .message1))) (w : List ℕ) (r : Answer)
-      (w′ o : List ℕ) where
+  module _ (s : List ℕ) (made : s ≡ statementOf (drop 32 (t .message1)) (t .message3) (t .message2) (take 32 (t .message1))) (w o : List ℕ) (r : Answer)
+      (w′ o′ : List ℕ) where
     exchange-made : (leaf : ℕ) (m5 : List ℕ) → exchangeIn p s leaf m5 ≡ exchange (t .message1) (t .message2) (t .message3) leaf m5
     exchange-made leaf m5 =
         ap (λ (x : List ℕ). exchangeIn p x leaf m5) made
         ∙ exchange-in p (t .message1) (t .message2) (t .message3) (early .first .size1) (early .first .size2) (early .first .size3) leaf m5
 
-    pub first-judged : Judged p (exchangeIn p s (t .leaf) (t .message5)) key w r w′ o → Judged p (exchangeOf t) key w r w′ o
+    pub first-judged : Judged p (exchangeIn p s (t .leaf) (t .message5)) key w o r w′ o′ → Judged p (exchangeOf t) key w o r w′ o′
     unfolding exchangeOf
-    first-judged = subst (λ (e : Exchange). Judged p e key w r w′ o) (exchange-made (t .leaf) (t .message5))
+    first-judged = subst (λ (e : Exchange). Judged p e key w o r w′ o′) (exchange-made (t .leaf) (t .message5))
 
-    pub second-judged : Judged p (exchangeIn p s (t′ .leaf) (t′ .message5)) key w r w′ o → Judged p (exchangeOf t′) key w r w′ o
+    pub second-judged : Judged p (exchangeIn p s (t′ .leaf) (t′ .message5)) key w o r w′ o′ → Judged p (exchangeOf t′) key w o r w′ o′
     unfolding exchangeOf
     second-judged =
-        subst (λ (e : Exchange). Judged p e key w r w′ o)
+        subst (λ (e : Exchange). Judged p e key w o r w′ o′)
         (exchange-made (t′ .leaf) (t′ .message5)
         ∙ ap₂ (λ (m1 m2 : List ℕ). exchange m1 m2 (t .message3) (t′ .leaf) (t′ .message5)) (early .message1) (early .message2)
         ∙ ap (λ (m3 : List ℕ). exchange (t′ .message1) (t′ .message2) m3 (t′ .leaf) (t′ .message5)) (early .message3))
 
-  module _ (r r′ : Answer) (w w′ v v′ o o′ : List ℕ) (j : Judged p (exchangeOf t) key w r w′ (take (openedLength p) o))
-      (j′ : Judged p (exchangeOf t′) key v r′ v′ (take (openedLength p) o′)) where
-    shows′ : Shows p key (take 32 (t .message1)) (exchangeOf t′) (viewOf p (t′ .leaf) (auxIn p (t′ .message5)) (take (openedLength p) o′))
-    unfolding exchangeOf exchange
-    shows′ =
-        subst (λ (q : List ℕ). Shows p key q (exchangeOf t′) (viewOf p (t′ .leaf) (auxIn p (t′ .message5)) (take (openedLength p) o′)))
-        (ap (take 32) (sym (early .message1)))
-        (shows p (exchangeOf t′) key v r′ v′ (take (openedLength p) o′) j′ (early .below′) (early .second .size5))
+  -- what a transcript's opening shows
+  abbrev view : Transcript → List ℕ → View
+  view t o = viewOf p (t .leaf) (auxIn p (t .message5)) (take (openedLength p) o)
 
-    compared-is : comparison p (take 32 (t .message1)) (viewOf p (t .leaf) (auxIn p (t .message5)) (take (openedLength p) o))
-        (viewOf p (t′ .leaf) (auxIn p (t′ .message5)) (take (openedLength p) o′)) ≡ extract SHAKE256 p key (exchangeOf t) (exchangeOf t′)
+  module _ {r r′ : Answer} {w b w′ o v b′ v′ o′ : List ℕ} (j : Judged p (exchangeOf t) key w b r w′ o) (j′ : Judged p (exchangeOf t′) key v b′ r′ v′ o′) where
+    compared-is : comparison p (take 32 (t .message1)) (view t o) (view t′ o′) ≡ extract SHAKE256 p key (exchangeOf t) (exchangeOf t′)
     unfolding exchangeOf exchange
     compared-is =
-        comparison-is p (early .within) key (take 32 (t .message1)) (exchangeOf t) (exchangeOf t′)
-        (viewOf p (t .leaf) (auxIn p (t .message5)) (take (openedLength p) o)) (viewOf p (t′ .leaf) (auxIn p (t′ .message5)) (take (openedLength p) o′))
-        (shows p (exchangeOf t) key w r w′ (take (openedLength p) o) j (early .below) (early .first .size5)) shows′ (early .below) (early .below′) (early .other)
+        let salt : take 32 (t′ .message1) ≡ take 32 (t .message1) = ap (take 32) (sym (early .message1)) in
+        comparison-is p (early .within) key (take 32 (t .message1)) (exchangeOf t) (exchangeOf t′) (view t o) (view t′ o′)
+        (shows j _ refl (early .below) (early .first .size5)) (shows j′ _ salt (early .below′) (early .second .size5))
+        (early .below) (early .below′) (early .other)
 
     pub asked : length o ≡ 9760 → length o′ ≡ 9760
         → Comparing p (t .message1) (record { first = t .leaf; second = t′ .leaf }) (t .message5) o (t′ .message5) o′ out
@@ -84,8 +80,6 @@ module _ (p : Parameters) (t t′ : Transcript) (key : Key) (work out : List ℕ
       };
     }
 
-    pub found : (x : Extraction) (out′ : List ℕ)
-        → Found (comparison p (take 32 (t .message1)) (viewOf p (t .leaf) (auxIn p (t .message5)) (take (openedLength p) o))
-        (viewOf p (t′ .leaf) (auxIn p (t′ .message5)) (take (openedLength p) o′))) out x out′
+    pub found : (x : Extraction) (out′ : List ℕ) → Found (comparison p (take 32 (t .message1)) (view t o) (view t′ o′)) out x out′
         → Found (extract SHAKE256 p key (exchangeOf t) (exchangeOf t′)) out x out′
     found x out′ = subst (λ (y : Finding). Found y out x out′) compared-is

@@ -33,7 +33,6 @@ loop-again c =
     (k .0 ∙ v .0, k .1 .0 ∙ v .1, k .1 .1 .0 ∙ v .2, read-on (v .3) (f .feed-some .ensures))
 
 pub feed-rest-spec : {M : Type 1} → statement M
-feed-rest-spec =
-    tie.close
-    (tie.spec Inv-loop μ-loop (λ c. (refl, refl, refl, read-none _)) (λ c κs. search needs) (λ c. search needs) (λ c. search needs) (λ c. search needs)
-    returns (λ c. search needs) (λ c. search needs) loop-again (λ c. search needs) (λ c. search needs) (λ c. search needs) (λ c. search needs))
+feed-rest-spec = tie.close (tie.spec Inv-loop μ-loop (λ c. (refl, refl, refl, read-none _)) (λ c κs. search needs)
+    (λ c. search needs) (λ c. search needs) (λ c. search needs) returns (λ c. search needs) (λ c. search needs)
+    loop-again (λ c. search needs) (λ c. search needs) (λ c. search needs) (λ c. search needs))

@@ -15,7 +15,6 @@ returns c =
     record { text = take (r .read-full .result) (r .read-full .last .1 .0); after = f .feed .ensures; any = ap (λ (n : ℕ). not (eqb n 0)) (r .read-full .ensures .1) }
 
 pub feed-some-spec : {M : Type 1} → statement M
-feed-some-spec =
-    tie.close
-    (tie.spec (λ c κs. search needs) (λ c. search needs) (λ c κs. search needs) (λ c. search needs) (λ c. search needs) (λ c κs. search needs)
-    (λ c. search needs) (λ c. search needs) (λ c. search needs) returns)
+feed-some-spec = tie.close (tie.spec (λ c κs. search needs) (λ c. search needs) (λ c κs. search needs)
+    (λ c. search needs) (λ c. search needs) (λ c κs. search needs) (λ c. search needs) (λ c. search needs)
+    (λ c. search needs) returns)

@@ -3,7 +3,6 @@
 -- size-most            a matrix within the limits has at most 16,256 bytes
 -- finished h           the output from a scanner's state and the slices
 -- finish-listing       the output after a text t, from slices of at least 16,256, 254 and 254 bytes, is the listing of t
--- finish-pieces        so it is for a text that came in two pieces, and so in any number of them
 -- read-malformed, read-parameter, read-length, read-passed     the checks 10, 1 and 2 by their cases
 -- Read, read-done      what is known where they pass
 -- read-within, read-held       the parameters are within their limits, and the slices hold what they say
@@ -17,13 +16,13 @@ use native.Mathlib.Nat.{mul-le-mul-left}
 use native.Mathlib.Decide.{decLe}
 use native.Mathlib.Omega.{arith}
 use mathlib.Core.Bool.{Bool, true, false, _&&_, and-true}
-use mathlib.Core.List.{List, [], _∷_, _++_}
+use mathlib.Core.List.{List, [], _∷_}
 use lib.Dec.{eqb, leb, leb→le}
 use Rattle.lists.specs.Part.{putAt}
 use lib.ListN.{length, take, drop, getD, replicate, length-replicate, length-append}
 use borrow.Author.Tests.{le-leb, ne-eqb, eqb-true, leb-true}
 use Rattle.lists.specs.Checks.Laws.{and-left, and-right}
-use Rattle.lists.specs.Computed.{all, below}
+use Rattle.lists.specs.Computed.{below}
 use Rattle.answers.specs.declared.Refusal.{Refusal}
 use Rattle.answers.specs.declared.Answer.{Answer}
 use Rattle.answers.specs.declared.Answer.the-variants.{Done, Refused}
@@ -36,7 +35,7 @@ use Rattle.parameters.specs.Limits.Laws.{test-within}
 use Rattle.parameters.specs.Set.{parametersOf}
 use Rattle.relation.specs.Key.{weightOf}
 use Rattle.relation.specs.Admission.{keyLengths, keyChecks}
-use Rattle.text.specs.Fold.{fold, fold-append}
+use Rattle.text.specs.Fold.{fold}
 use Rattle.text.specs.Hex.{isHex, bytesOf}
 use Rattle.text.specs.Form.{hasForm, fieldAt}
 use Rattle.keytext.specs.declared.KeyScan.{KeyScan}
@@ -158,10 +157,6 @@ finish-listing t m y x hm hy hx = go (hasForm keyForm t) refl
         let k : Kept = record { numbers = start .numbers; lengths = start .lengths; matrix = m; y = y; xA = x } in
         let h : Held = fold step (held start m y x) t in
         finish-malformed (h .scan) (h .matrix) (h .y) (h .xA) (complete-form k t ∙ f) ∙ sym (listing-malformed t f)
-
-pub finish-pieces : (a b m y x : List ℕ) → 16_256 ≤ length m → 254 ≤ length y → 254 ≤ length x
-    → finished (fold step (fold step (held start m y x) a) b) ≡ listingOf (a ++ b)
-finish-pieces a b m y x hm hy hx = ap finished (sym (fold-append step (held start m y x) a b)) ∙ finish-listing (a ++ b) m y x hm hy hx
 
 -- ---- room
 

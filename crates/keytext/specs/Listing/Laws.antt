@@ -20,7 +20,6 @@ use Rattle.answers.specs.declared.Refusal.{Refusal}
 use Rattle.answers.specs.Number.{refusalNumber}
 use Rattle.polynomial.specs.Interpolant.{interpolantOf, vanishingOf}
 use Rattle.relation.specs.Key.{weightOf, locatorOf, quotientOf}
-use Rattle.text.specs.Split.{tab}
 use Rattle.text.specs.Decimal.{decimalText}
 use Rattle.text.specs.Hex.{hexText}
 use Rattle.text.specs.Hex.Laws.{length-hexText}

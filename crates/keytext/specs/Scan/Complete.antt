@@ -13,6 +13,7 @@ use mathlib.Core.Bool.{Bool, true, false, cond, _&&_, and-false, and-true}
 use mathlib.Core.List.{List, [], _∷_}
 use lib.Dec.{eqb, leb}
 use lib.ListN.{drop, getD}
+use lib.Seq.{drop-cons}
 use borrow.Author.Tests.{lt-ltb, le-ltb, le-leb, eq-eqb, ne-eqb}
 use Rattle.text.specs.Fold.{fold, fold-keeps}
 use Rattle.text.specs.Split.{tab, lineFeed, first, rest}
@@ -56,11 +57,7 @@ kinds-end (suc (suc (suc zero))) l = refl
 kinds-end (suc (suc (suc (suc i)))) l = absurd (omega arith)
 
 lines-shape : (i : ℕ) → i ≤ 3 → drop i keyForm ≡ kindsOf i ∷ drop (suc i) keyForm
-lines-shape zero l = refl
-lines-shape (suc zero) l = refl
-lines-shape (suc (suc zero)) l = refl
-lines-shape (suc (suc (suc zero))) l = refl
-lines-shape (suc (suc (suc (suc i)))) l = absurd (omega arith)
+lines-shape i l = drop-cons keyForm i [] (omega arith)
 
 -- ---- one field
 

@@ -12,6 +12,5 @@ whole : (c : tie.After-row-length) → let b : tie.After-side = search in let s 
 whole c = let b : tie.After-side = search in ap₂ _*_ (b .side .ensures) (c .row-length .ensures)
 
 pub axis-length-spec : {M : Type 1} → statement M
-axis-length-spec =
-    tie.close
-    (tie.spec (λ c κs. search needs) (λ c κs. search needs) (λ c. let s : tie.Start = search in omega (arith, whole c, axis-most _ (s .pre))) (λ c. whole c))
+axis-length-spec = tie.close (tie.spec (λ c κs. search needs) (λ c κs. search needs)
+    (λ c. let s : tie.Start = search in omega (arith, whole c, axis-most _ (s .pre))) (λ c. whole c))

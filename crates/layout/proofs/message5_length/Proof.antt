@@ -47,7 +47,5 @@ returns-2 c =
     omega (arith, whole (a .p) (a .leaf) false e, q .siblings-length .ensures, v .values-length .ensures, c .aux-length .ensures)
 
 pub message5-length-spec : {M : Type 1} → statement M
-message5-length-spec =
-    tie.close
-    (tie.spec (λ c κs. search needs) add-short (λ c κs. search needs) add-short-2 (λ c κs. search needs) returns (λ c κs. search needs) add-result
-    returns-2)
+message5-length-spec = tie.close (tie.spec (λ c κs. search needs) add-short (λ c κs. search needs) add-short-2
+    (λ c κs. search needs) returns (λ c κs. search needs) add-result returns-2)

@@ -1,9 +1,7 @@
 -- It is below the number of the sums, of which there are at most 9.
 use mathlib.Core.Path.{_≡_, refl}
-use mathlib.Core.Bool.{cond}
 use Prim.Native.Nat.{_+_, _*_, _≤_, _<_}
 use native.Mathlib.Omega.{arith}
-use borrow.Author.Needs.{needs}
 use borrow.Author.Tests.{eq-eqb, ne-eqb}
 use Rattle.layout.specs.Layout.{sumIndex}
 use Rattle.layout.specs.Layout.Laws.{index-lt}
@@ -24,7 +22,6 @@ returns-2 : tie.Need-returns-2
 returns-2 c = let s : tie.Start = search in let e : tie.Else1 = search in rw (ne-eqb (s .args .party) 0 (e .if1 .left)) refl
 
 pub sum-index-spec : {M : Type 1} → statement M
-sum-index-spec =
-    tie.close
-    (tie.spec returns (λ c. let e : tie.Else1 = search in omega (arith, bound e)) (λ c. let e : tie.Else1 = search in omega (arith, bound e))
+sum-index-spec = tie.close (tie.spec returns (λ c. let e : tie.Else1 = search in omega (arith, bound e))
+    (λ c. let e : tie.Else1 = search in omega (arith, bound e))
     (λ c. let e : tie.Else1 = search in omega (arith, bound e)) returns-2)

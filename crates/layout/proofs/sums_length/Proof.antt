@@ -13,7 +13,6 @@ whole : (c : tie.After-share-length) → let b : tie.After-sum-count = search in
 whole c = let b : tie.After-sum-count = search in ap₂ _*_ (b .sum-count .ensures) (c .share-length .ensures)
 
 pub sums-length-spec : {M : Type 1} → statement M
-sums-length-spec =
-    tie.close
-    (tie.spec (λ c κs. search needs) (λ c κs. search needs)
-    (λ c. let s : tie.Start = search in omega (arith, whole c, mul-le-mul (sums-most (s .args .p) (s .pre)) (share-most (s .args .p) (s .pre)))) (λ c. whole c))
+sums-length-spec = tie.close (tie.spec (λ c κs. search needs) (λ c κs. search needs)
+    (λ c. let s : tie.Start = search in omega (arith, whole c, mul-le-mul (sums-most (s .args .p) (s .pre)) (share-most (s .args .p) (s .pre))))
+    (λ c. whole c))

@@ -4,7 +4,8 @@
 -- side-is, leaves-is       'Side N = 2, n = 2^D leaves'
 -- bits-least               a party of an axis takes a bit or more
 -- others-pos, side-others  an axis has a party beside the last one
--- index-lt                 a party's sum is one of those that the work area holds
+-- index-lt, total-lt       a party's sum is one of those that the work area holds, and so is that of all leaves, at index D
+-- sum-fits                 a sum lies within the sums
 -- digit-last               the last leaf is in the last party of every axis
 -- digit-bit                at side 2 a digit is a bit of the leaf's number
 -- coordinate-bit           'Coordinate j (1 to D) of a leaf is bit j−1 of its number, plus 1'
@@ -12,7 +13,6 @@
 -- digits-inj               leaves with the same digit on every axis are the same
 -- isLast-true, isLast-false, isLast-last   the test for leaf n−1
 -- work-is                  'never shorter than 2·D·(k+2w+12t)'
--- message5-last, message5-other   the length of message 5, without aux and with it
 use mathlib.Core.Path.{_≡_, refl, sym, ap, ap₂, _∙_}
 use mathlib.Core.Bool.{Bool, true, false, cond}
 use Prim.Native.Nat.{ℕ, zero, suc, _+_, _-_, _*_, _/_, _%_, _^_, _<_, _≤_}
@@ -22,8 +22,9 @@ use borrow.Author.Tests.{eqb-true, eq-eqb, ne-eqb}
 use lib.Arith.{digits-div, digits-mod}
 use lib.Dec.{eqb, lit<}
 use lib.Pow.{pow-pos, pow-mono, shr-lt, shr-shr, split, ones-split, ones-lt}
+use Rattle.lists.specs.Part.Laws.{part-fits}
 use Rattle.parameters.specs.declared.Parameters.{Parameters}
-use Rattle.layout.specs.Layout.{bits, side, others, sumCount, sumIndex, levels, leaves, digit, coordinate, isLast, auxLength, shareLength, siblingsLength, valuesLength, message5Length, workLength}
+use Rattle.layout.specs.Layout.{bits, side, others, sumCount, sumIndex, levels, leaves, digit, coordinate, isLast, shareLength, sumsLength, workLength}
 
 module _ (p : Parameters) where
   pub side-pos : 0 < side p
@@ -61,6 +62,12 @@ module _ (p : Parameters) where
       either : (b : Bool) → cond b 0 1 ≤ 1
       either true = omega arith
       either false = omega arith
+
+  pub total-lt : p .axes < sumCount p
+  total-lt = let e : 1 * p .axes ≤ others p * p .axes = mul-le-mul-right (p .axes) others-pos in omega arith
+
+  pub sum-fits : (q : ℕ) → q < sumCount p → q * shareLength p + shareLength p ≤ sumsLength p
+  sum-fits q h = part-fits q (sumCount p) (shareLength p) h
 
   -- ---- digits
 
@@ -130,14 +137,6 @@ module _ (p : Parameters) where
   pub isLast-last : (i : ℕ) → isLast p i ≡ true → i ≡ leaves p - 1
   unfolding isLast
   isLast-last i e = eqb-true i (leaves p - 1) e
-
-  pub message5-last : (i : ℕ) → i ≡ leaves p - 1 → message5Length p i ≡ siblingsLength p + 32 + valuesLength p
-  unfolding message5Length
-  message5-last i e = rw (isLast-true i e) (omega arith)
-
-  pub message5-other : (i : ℕ) → (i ≡ leaves p - 1 → ⊥) → message5Length p i ≡ siblingsLength p + 32 + valuesLength p + auxLength p
-  unfolding message5Length
-  message5-other i e = rw (isLast-false i e)
 
   pub work-is : workLength p ≡ 2 * p .axes * (p .k + 2 * p .w + 12 * p .t)
   unfolding workLength bits

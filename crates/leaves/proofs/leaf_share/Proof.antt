@@ -41,7 +41,8 @@ unfolding shareAfter
 returns-2 c = let made : tie.After-share-bytes2 = search in let other : tie.Else1 = search in let test : tie.After-is-last = search in
     let s : tie.Start = search in let args = s .args in let drawn = bytesAfter (args .shares) (args .leaf) (take 16 (args .state .now)) in
     made .share-bytes2 .ensures ∙ ap drawn (s .pre .room)
-    ∙ ap (λ (t : Bool). cond t (drawn (valuesLength (args .p)) ++ args .aux .now) (drawn (shareLength (args .p)))) (sym (sym (test .is-last .ensures) ∙ other .if1 .left))
+    ∙ ap (λ (t : Bool). cond t (drawn (valuesLength (args .p)) ++ args .aux .now) (drawn (shareLength (args .p))))
+    (sym (sym (test .is-last .ensures) ∙ other .if1 .left))
 
 pub leaf-share-spec : {M : Type 1} → statement M
 leaf-share-spec = tie.close (tie.spec (λ c κs. search needs) (λ c κs. search needs) (λ c. search needs)

@@ -4,8 +4,8 @@
 -- commitments-begun     hashed on from the start of layer 4, they are these
 -- committed-none, committed-more, committed-digest   a sponge that absorbs them one after another, and its digest
 -- string5-ext           layer 5's string depends on the commitments alone that it holds
--- own-commitment        the prover's commitment of a leaf, from its state and aux
 -- commitments-message1  the prover's states and aux, and no leaf hidden: message 1
+-- opened-commitments    the commitments of an opening, from the states of its disclosed leaves, its aux and the hidden leaf's commitment
 -- commitments-string    the states of an opening's disclosed leaves, its aux and the hidden leaf's commitment: layer 5's string
 use mathlib.Core.Path.{_≡_, refl, sym, ap, ap₂, _∙_}
 use mathlib.Core.Bool.{cond}
@@ -66,20 +66,15 @@ module _ (p : Parameters) (prefix states : List ℕ) (hidden : ℕ) (given aux :
 
 -- ---- the prover's
 
-pub own-commitment : (p : Parameters) (x : List ℕ) (run : Run) (st aux : List ℕ) (i : ℕ) → st ≡ ownState SHAKE256 p x run i → aux ≡ ownAux SHAKE256 p x run
-    → commitment SHAKE256 p (run .prefix) i st aux ≡ ownCommitment SHAKE256 p x run i
-unfolding ownCommitment
-own-commitment p x run st aux i own aux-is = ap₂ (commitment SHAKE256 p (run .prefix) i) own aux-is
-
 module _ (p : Parameters) (x : List ℕ) (run : Run) (states : List ℕ) (hidden : ℕ) (given aux : List ℕ)
     (own : (i : ℕ) → i < leaves p → stateAt states i ≡ ownState SHAKE256 p x run i)
     (aux-is : aux ≡ ownAux SHAKE256 p x run)
     (none : leaves p ≤ hidden)
   where
     own-commitments : (i : ℕ) → i < leaves p → commitmentsOf p (run .prefix) states hidden given aux i ≡ ownCommitment SHAKE256 p x run i
+    unfolding ownCommitment
     own-commitments i h =
-        commitmentsOf-other p (run .prefix) states hidden given aux i (λ e. omega arith)
-        ∙ own-commitment p x run (stateAt states i) aux i (own i h) aux-is
+        commitmentsOf-other p (run .prefix) states hidden given aux i (λ e. omega arith) ∙ ap₂ (commitment SHAKE256 p (run .prefix) i) (own i h) aux-is
 
     pub commitments-message1 : run .prefix ++ SHAKE256 (string5 (run .prefix) (commitmentsOf p (run .prefix) states hidden given aux) (leaves p)) 32 ≡ message1 SHAKE256 p x run
     unfolding message1
@@ -94,7 +89,7 @@ module _ (p : Parameters) (e : Exchange) (states given aux : List ℕ)
     (given-is : given ≡ commitmentOf p e)
     (aux-is : aux ≡ auxOf p e)
   where
-    opened-commitments : (i : ℕ) → i < leaves p → commitmentsOf p (e .prefix) states (e .leaf) given aux i ≡ leafCommitment SHAKE256 p e i
+    pub opened-commitments : (i : ℕ) → i < leaves p → commitmentsOf p (e .prefix) states (e .leaf) given aux i ≡ leafCommitment SHAKE256 p e i
     unfolding leafCommitment leafString commitment
     opened-commitments i h = go (ℕ-discrete i (e .leaf))
       where

@@ -2,26 +2,19 @@
 --
 -- length-statesOf   32 bytes a leaf
 -- stateAt-statesOf  the state of leaf i
--- length-stateAt    it has 32 bytes
 use mathlib.Core.Path.{_≡_, sym, _∙_}
 use mathlib.Core.List.{List, [], append-nil}
 use Prim.Native.Nat.{ℕ, _*_, _<_}
 use native.Mathlib.Nat.{mul-comm}
-use native.Mathlib.Omega.{arith}
 use lib.ListN.{length, take, drop}
 use Rattle.shake256.specs.Fips.{SHAKE256}
 use Rattle.shake256.proofs.Laws.{length-SHAKE256}
 use Rattle.lists.specs.Part.{part}
-use Rattle.lists.specs.Part.Laws.{length-part}
 use Rattle.exchange.specs.Sequences.{joined}
 use Rattle.exchange.specs.Sequences.Laws.{length-joined, joined-at}
 use Rattle.exchange.specs.Leaf.{state}
 use Rattle.exchange.specs.Leaf.Laws.{length-state}
-use Rattle.leaves.specs.States.{stateAt}
-use Rattle.leaves.specs.States.{seedAt, statesOf}
-
-pub length-stateAt : (states : List ℕ) (n i : ℕ) → length states ≡ 32 * n → i < n → length (stateAt states i) ≡ 32
-length-stateAt states n i e h = length-part states (32 * i) 32 (omega arith)
+use Rattle.leaves.specs.States.{stateAt, seedAt, statesOf}
 
 module _ (prefix seeds : List ℕ) (n : ℕ) where
   sized : (i : ℕ) → i < n → length (state SHAKE256 prefix i (seedAt seeds i)) ≡ 32

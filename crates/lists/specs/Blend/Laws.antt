@@ -1,10 +1,8 @@
--- The laws of `blend`, where both lists are of one length. A loop that writes s over l, upwards or downwards, is at a blend.
+-- The laws of `blend`, where both lists are of one length. A loop that writes s over l is at a blend.
 --
 -- blend-none, blend-all      nothing is written yet; everything is
--- length-blend               the length stays
--- blend-late, blend-early    an element that is not written yet, and one that is
--- blend-up                   a turn upwards: v is written at i
--- blend-down                 a turn downwards, from i to i - 1
+-- blend-late                 an element that is not written yet
+-- blend-up                   a turn: v is written at i
 use mathlib.Core.Path.{_≡_, refl, ap, ap₂, _∙_}
 use Prim.Native.Nat.{ℕ, zero, suc, _+_, _-_, _≤_, _<_}
 use native.Mathlib.Nat.{le-of-suc-le-suc, not-suc-le-zero}
@@ -27,13 +25,6 @@ blend-all (suc i) [] l e h = refl
 blend-all (suc i) (a ∷ s) [] e h = absurd (omega (arith, e))
 blend-all (suc i) (a ∷ s) (b ∷ l) e h = ap (_∷_ a) (blend-all i s l (omega (arith, e)) (le-of-suc-le-suc h))
 
-pub length-blend : (i : ℕ) (s l : List ℕ) → length s ≡ length l → length (blend i s l) ≡ length l
-unfolding blend
-length-blend zero s l e = refl
-length-blend (suc i) [] l e = e
-length-blend (suc i) (a ∷ s) [] e = refl
-length-blend (suc i) (a ∷ s) (b ∷ l) e = ap suc (length-blend i s l (omega (arith, e)))
-
 -- ---- elements
 
 pub blend-late : (i k : ℕ) (s l : List ℕ) → length s ≡ length l → i ≤ k → getD (blend i s l) k 0 ≡ getD l k 0
@@ -45,14 +36,6 @@ blend-late (suc i) k (a ∷ s) [] e h = absurd (omega (arith, e))
 blend-late (suc i) zero (a ∷ s) (b ∷ l) e h = absurd (not-suc-le-zero h)
 blend-late (suc i) (suc k) (a ∷ s) (b ∷ l) e h = blend-late i k s l (omega (arith, e)) (le-of-suc-le-suc h)
 
-pub blend-early : (i k : ℕ) (s l : List ℕ) → length s ≡ length l → k < i → getD (blend i s l) k 0 ≡ getD s k 0
-unfolding blend
-blend-early zero k s l e h = absurd (not-suc-le-zero h)
-blend-early (suc i) k [] l e h = refl
-blend-early (suc i) k (a ∷ s) [] e h = absurd (omega (arith, e))
-blend-early (suc i) zero (a ∷ s) (b ∷ l) e h = refl
-blend-early (suc i) (suc k) (a ∷ s) (b ∷ l) e h = blend-early i k s l (omega (arith, e)) (le-of-suc-le-suc h)
-
 -- ---- a turn: p holds the blend
 
 up-suc : (i : ℕ) (s l : List ℕ) → length s ≡ length l → i < length l → set (blend i s l) i (getD s i 0) ≡ blend (suc i) s l
@@ -62,18 +45,5 @@ up-suc i [] (b ∷ l) e h = absurd (omega (arith, e))
 up-suc zero (a ∷ s) (b ∷ l) e h = refl
 up-suc (suc i) (a ∷ s) (b ∷ l) e h = ap (_∷_ a) (up-suc i s l (omega (arith, e)) (le-of-suc-le-suc h))
 
-down-suc : (i : ℕ) (l s : List ℕ) → length s ≡ length l → i < length l → set (blend (suc i) l s) i (getD s i 0) ≡ blend i l s
-unfolding blend
-down-suc i [] s e h = absurd (not-suc-le-zero h)
-down-suc i (b ∷ l) [] e h = absurd (omega (arith, e))
-down-suc zero (b ∷ l) (a ∷ s) e h = refl
-down-suc (suc i) (b ∷ l) (a ∷ s) e h = ap (_∷_ b) (down-suc i l s (omega (arith, e)) (le-of-suc-le-suc h))
-
 pub blend-up : (i v : ℕ) (s l p : List ℕ) → length s ≡ length l → i < length l → p ≡ blend i s l → v ≡ getD s i 0 → set p i v ≡ blend (i + 1) s l
 blend-up i v s l p e h ep ev = ap₂ (λ (q : List ℕ) (w : ℕ). set q i w) ep ev ∙ rw (add-one i) (up-suc i s l e h)
-
-pub blend-down : (i v : ℕ) (s l p : List ℕ) → length s ≡ length l → 0 < i → i ≤ length l → p ≡ blend i l s → v ≡ getD s (i - 1) 0
-    → set p (i - 1) v ≡ blend (i - 1) l s
-blend-down i v s l p e z h ep ev =
-    let n : i ≡ suc (i - 1) = omega arith in
-    ap₂ (λ (q : List ℕ) (w : ℕ). set q (i - 1) w) (ep ∙ ap (λ (j : ℕ). blend j l s) n) ev ∙ down-suc (i - 1) l s e (omega arith)

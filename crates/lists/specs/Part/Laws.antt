@@ -7,7 +7,7 @@
 -- putAt-none, putAt-more, putAt-all   a loop that copies has come to `paste d at s i` (lib.Seq)
 -- putAt-whole                         a write of all of d leaves nothing of d
 -- putAt-putAt                         two writes one after the other are one
--- lent-part                           what is lent as `&w[a..a + n]`
+-- lent-part, length-lent              what is lent as `&w[a..a + n]`, and its length
 -- lent-back                           what a lent middle part `&mut w[a..e]` leaves in w when it comes back
 -- tail-part, tail-back                what is lent as `&mut w[a..]`, and what it leaves in w when it comes back
 -- part-putAt-same, -before, -behind   what is read after a write: what was written, or what stood there
@@ -95,6 +95,9 @@ putAt-putAt d a b h =
 pub lent-part : (w : List ℕ) (a n : ℕ) → take (a + n - a) (drop a w) ≡ part w a n
 unfolding part
 lent-part w a n = let e : a + n - a ≡ n = omega arith in ap (λ (m : ℕ). take m (drop a w)) e
+
+pub length-lent : (a n : ℕ) (w : List ℕ) → a + n ≤ length w → length (take (a + n - a) (drop a w)) ≡ n
+length-lent a n w h = ap length (lent-part w a n) ∙ length-part w a n h
 
 pub lent-back : (w ys : List ℕ) (a e : ℕ) → a ≤ e → length ys ≡ e - a → take a w ++ (ys ++ drop (e - a) (drop a w)) ≡ putAt w a ys
 unfolding putAt

@@ -7,7 +7,6 @@
 -- xorList-append                      sums of joined lists
 -- take-, drop-, part-xorList          each part of a sum is the sum of the parts, with no condition on lengths
 -- xorList-none, xorList-more          a loop that adds s to d has come to `xorList d (take i s)`
--- part-xorAt-same                     the part that was added to
 use mathlib.Core.Path.{_≡_, refl, sym, ap, ap₂, _∙_}
 use Prim.Native.Nat.{ℕ, zero, suc, _+_, _≤_, _<_}
 use native.Mathlib.Nat.{not-suc-le-zero, le-of-suc-le-suc}
@@ -17,8 +16,8 @@ use mathlib.Core.List.{List, [], _∷_, _++_}
 use lib.ListN.{length, take, drop, getD, set, replicate}
 use Rattle.lists.specs.Xor.{_⊕_}
 use Rattle.lists.specs.Xor.Laws.{⊕-assoc, ⊕-comm, ⊕-zero, zero-⊕, ⊕-self}
-use Rattle.lists.specs.Part.{part, putAt}
-use Rattle.lists.specs.Part.Laws.{length-part, length-putAt, part-putAt-same}
+use Rattle.lists.specs.Part.{part}
+use Rattle.lists.specs.Part.Laws.{length-part, length-putAt}
 use Rattle.lists.specs.Sum.{xorList, xorAt}
 
 -- ---- elements and lengths
@@ -114,19 +113,9 @@ xorList-more d s i h k = rw (add-one i) (xorList-suc d s i h k)
 
 -- ---- xorAt
 
-module _ (d : List ℕ) (at : ℕ) (s : List ℕ) (fits : at + length s ≤ length d) where
-  added : length (xorList (part d at (length s)) s) ≡ length s
-  added =
-      let e : length (part d at (length s)) ≡ length s = length-part d at (length s) fits in
-      length-xorList (part d at (length s)) s (omega arith) ∙ e
-
-  pub length-xorAt : length (xorAt d at s) ≡ length d
-  unfolding xorAt
-  length-xorAt = let e = added in length-putAt d at (xorList (part d at (length s)) s) (omega arith)
-
-  pub part-xorAt-same : part (xorAt d at s) at (length s) ≡ xorList (part d at (length s)) s
-  unfolding xorAt
-  part-xorAt-same =
-      let e = added in
-      ap (part (putAt d at (xorList (part d at (length s)) s)) at) (sym e)
-      ∙ part-putAt-same d at (xorList (part d at (length s)) s) (omega arith)
+pub length-xorAt : (d : List ℕ) (at : ℕ) (s : List ℕ) → at + length s ≤ length d → length (xorAt d at s) ≡ length d
+unfolding xorAt
+length-xorAt d at s fits =
+    let e = length-part d at (length s) fits in
+    let f = length-xorList (part d at (length s)) s (omega arith) in
+    length-putAt d at (xorList (part d at (length s)) s) (omega arith)

@@ -1,21 +1,15 @@
 -- The laws of `zeroed`.
 --
--- length-zeroed               the length stays, where the zeros fit
 -- zeroed-none, zeroed-more    a loop that zeroes d has come to `zeroed i d`
 -- zeroed-all                  all of d zeroed
 -- zeroed-front                the front `&mut w[..n]` was lent and came back as zeros
 use mathlib.Core.Path.{_≡_, refl}
-use Prim.Native.Nat.{ℕ, _+_, _≤_, _<_}
-use native.Mathlib.Omega.{arith}
+use Prim.Native.Nat.{ℕ, _+_, _<_}
 use mathlib.Core.List.{List, _++_, append-nil}
-use lib.ListN.{length, drop, set, replicate, length-append, length-drop, length-replicate}
+use lib.ListN.{length, drop, set, replicate}
 use lib.Seq.{drop-length}
 use borrow.Author.Fill.{fill-more}
 use Rattle.lists.specs.Zeroed.{zeroed}
-
-pub length-zeroed : (n : ℕ) (d : List ℕ) → n ≤ length d → length (zeroed n d) ≡ length d
-unfolding zeroed
-length-zeroed n d h = simp (length-append, length-replicate, length-drop) (omega arith)
 
 pub zeroed-none : (d : List ℕ) → d ≡ zeroed 0 d
 unfolding zeroed

@@ -52,7 +52,8 @@ returns c = let zeros : tie.After-zero-front = search in let told : tie.After-re
     let sums : List ℕ = f .fill .last .1 .1 .1 .0 in (
       told .respond .ensures
           ∙ ap₂ (λ (q v : List ℕ). responseOf (a .p) q key (a .message2 .now) v) (tail-part (a .run .now) 16) (back f .again)
-          ∙ response-made (a .p) (take (a .p .m) (a .x .now)) (runIn (a .run .now)) (root-length (a .run .now) (h .run-fits)) sums (f .fill .ensures) key (a .message2 .now),
+          ∙ response-made (a .p) (take (a .p .m) (a .x .now)) (runIn (a .run .now)) (root-length (a .run .now) (h .run-fits)) sums (f .fill .ensures) key
+          (a .message2 .now),
       zeros .zero-front .ensures ∙ front-zeroed _ _ sums (a .work .now) (back f .size) (short n)
           ∙ ap (λ (k : ℕ). zeroed k (a .work .now)) (n .before .work-length .ensures),
     )

@@ -5,15 +5,14 @@ use Prim.Native.Nat.{ℕ, _+_, _*_, _≤_}
 use native.Mathlib.Omega.{arith}
 use lib.ListN.{length, take, replicate}
 use borrow.Author.Needs.{needs}
-use Rattle.lists.specs.Part.Laws.{lent-part, part-append-left}
+use Rattle.lists.specs.Part.Laws.{lent-part, length-lent, part-append-left}
 use Rattle.points.specs.Written.{front-length}
 use Rattle.layout.specs.Layout.Bounds.{leaves-most}
 use Rattle.exchange.specs.Values.{keyOf}
-use Rattle.seedtree.proofs.Lent.{lent-length}
 use Rattle.leaves.specs.States.{stateAt}
-use Rattle.messages.specs.Fronts.{Front, front-back}
+use Rattle.messages.specs.Fronts.{Rooms, rooms, Front, front-back}
 use Rattle.messages.specs.Opening.Laws.{opening-any}
-use Rattle.messages.specs.Own.Laws.{aux-most, ownStates-at}
+use Rattle.messages.specs.Own.Laws.{ownStates-at}
 use Rattle.messages.specs.Run.{runIn, root-length}
 use Rattle.messages.proofs.message5.Statement.{statement}
 use Rattle.messages.proofs.message5.Tie as tie
@@ -24,28 +23,21 @@ start n = search
 abbrev sized : tie.After-own-leaves → tie.After-aux-length
 sized c = search
 
-few : (n : tie.After-aux-length) → 32 * n .before .leaf-count .result ≤ 8192
-few n = let s = start n in omega (arith, n .before .leaf-count .ensures, leaves-most (s .args .p) (s .pre .0 .within))
+room : (n : tie.After-aux-length) → Rooms (start n .args .p) (n .before .states-length .result) (n .aux-length .result)
+room n = rooms (start n .pre .0 .within) (n .before .states-length .ensures) (n .aux-length .ensures)
 
-short : (n : tie.After-aux-length) → n .aux-length .result ≤ 796
-short n = let s = start n in omega (arith, n .aux-length .ensures, aux-most (s .args .p) (s .pre .0 .within))
-
-states-back : (c : tie.After-own-leaves) → Front (32 * sized c .before .leaf-count .result) (c .own-leaves .last .1 .1 .1 .1 .0) (replicate 8192 0)
-states-back c = front-back _ _ _ (c .own-leaves .kept .1 .1 .1 .1 .0) (few (sized c))
+states-back : (c : tie.After-own-leaves) → Front (sized c .before .states-length .result) (c .own-leaves .last .1 .1 .1 .1 .0) (replicate 8192 0)
+states-back c = front-back _ _ _ (c .own-leaves .kept .1 .1 .1 .1 .0) (room (sized c) .states)
 
 aux-back : (c : tie.After-own-leaves) → Front (sized c .aux-length .result) (c .own-leaves .last .1 .1 .1 .1 .1 .0) (replicate 796 0)
-aux-back c = front-back _ _ _ (c .own-leaves .kept .1 .1 .1 .1 .1 .0) (short (sized c))
+aux-back c = front-back _ _ _ (c .own-leaves .kept .1 .1 .1 .1 .1 .0) (room (sized c) .aux)
 
 -- the leaf's state lies within the states
 inside : (c : tie.After-own-leaves) → 32 * start (sized c) .args .leaf + 32 ≤ length (c .own-leaves .last .1 .1 .1 .1 .0)
-inside c = let n = sized c in omega (arith, states-back c .size, n .before .leaf-count .ensures, start n .pre .1 .is-leaf)
+inside c = let n = sized c in omega (arith, states-back c .size, n .before .states-length .ensures, start n .pre .1 .is-leaf)
 
 own-leaves-requires : tie.Need-own-leaves-requires
-own-leaves-requires c κs = let n : tie.After-aux-length = search in (
-  start n .pre .0,
-  sym (front-length _ _ (few n)) ∙ ap (_*_ 32) (n .before .leaf-count .ensures),
-  sym (front-length _ _ (short n)) ∙ n .aux-length .ensures,
-)
+own-leaves-requires c κs = let n : tie.After-aux-length = search in (start n .pre .0, room n .states-are, room n .aux-is)
 
 put-opening-requires : tie.Need-put-opening-requires
 put-opening-requires c κs = let own : tie.After-own-leaves = search in let n = sized own in let s = start n in let h = s .pre .0 in
@@ -56,7 +48,7 @@ put-opening-requires c κs = let own : tie.After-own-leaves = search in let n = 
         message2-is = asked .message2-is;
         number = omega (arith, asked .is-leaf, leaves-most (s .args .p) (h .within));
         matrix-is = asked .matrix-is;
-        state-is = lent-length _ (32 * s .args .leaf) 32 (omega (arith, inside own, states-back own .size, states-back own .there));
+        state-is = length-lent (32 * s .args .leaf) 32 _ (omega (arith, inside own, states-back own .size, states-back own .there));
         aux-is = sym (aux-back own .lent) ∙ n .aux-length .ensures;
       };
       is-leaf = asked .is-leaf;
@@ -76,10 +68,13 @@ returns c = let own : tie.After-own-leaves = search in let s = start (sized own)
 
 pub message5-spec : {M : Type 1} → statement M
 message5-spec = tie.close (tie.spec (λ c κs. search needs)
-    (λ c. let s : tie.Start = search in omega (arith, c .leaf-count .ensures, leaves-most (s .args .p) (s .pre .0 .within))) (λ c κs. search needs)
-    (λ c. let n : tie.After-aux-length = search in omega (arith, few n, n .before .leaf-count .ensures, start n .pre .1 .is-leaf)) (λ c. search few)
-    (λ c. front-length _ _ (search few)) (λ c. search short) (λ c. front-length _ _ (search short)) own-leaves-requires
-    (λ c. let own : tie.After-own-leaves = search in let n = sized own in omega (arith, few n, n .before .leaf-count .ensures, start n .pre .1 .is-leaf))
+    (λ c κs. search needs)
+    (λ c. let n : tie.After-aux-length = search in omega (arith, room n .states, n .before .states-length .ensures, start n .pre .1 .is-leaf))
+    (λ c. let n : tie.After-aux-length = search in room n .states)
+    (λ c. let n : tie.After-aux-length = search in front-length _ _ (room n .states)) (λ c. let n : tie.After-aux-length = search in room n .aux)
+    (λ c. let n : tie.After-aux-length = search in front-length _ _ (room n .aux)) own-leaves-requires
+    (λ c. let own : tie.After-own-leaves = search in let n = sized own in
+    omega (arith, room n .states, n .before .states-length .ensures, start n .pre .1 .is-leaf))
     (λ c. search needs) (λ c. search needs)
     (λ c. let own : tie.After-own-leaves = search in omega (arith, inside own, states-back own .size, states-back own .there))
     (λ c. let own : tie.After-own-leaves = search in aux-back own .there) (λ c. let own : tie.After-own-leaves = search in aux-back own .lent)

@@ -3,19 +3,14 @@
 -- ownStates-at       the state of leaf i
 -- sum-drawn          from these states: the sum that the exchange's aux is made from
 -- aux-made           and aux
--- aux-most           the longest aux
--- share-fits         there is room for a share in the work area
 use mathlib.Core.Path.{_≡_, sym, ap, _∙_}
 use mathlib.Core.Bool.{true}
 use mathlib.Core.List.{List, []}
-use Prim.Native.Nat.{ℕ, _≤_, _<_}
-use native.Mathlib.Omega.{arith}
+use Prim.Native.Nat.{ℕ, _<_}
 use lib.ListN.{length}
 use Rattle.shake256.specs.Fips.{SHAKE256}
 use Rattle.parameters.specs.declared.Parameters.{Parameters}
-use Rattle.parameters.specs.Limits.{Within}
-use Rattle.layout.specs.Layout.{leaves, auxLength, shareLength, workLength}
-use Rattle.layout.specs.Layout.Bounds.{sums-fit}
+use Rattle.layout.specs.Layout.{leaves}
 use Rattle.exchange.specs.Run.{Run}
 use Rattle.exchange.specs.Leaf.{share}
 use Rattle.exchange.specs.Parties.Laws.{total-ext}
@@ -25,7 +20,6 @@ use Rattle.messages.specs.Auxiliary.Laws.{ownAux-is}
 use Rattle.leaves.specs.States.{stateAt}
 use Rattle.leaves.specs.States.Seeds.{own-states}
 use Rattle.parties.specs.Drawn.{drawnShare}
-use Rattle.parties.specs.Sums.Index.{total-lt, sum-fits}
 use Rattle.messages.specs.Own.{ownStates, sumOf}
 
 module _ (p : Parameters) (x : List ℕ) (run : Run) (sixteen : length (run .root) ≡ 16) where
@@ -41,11 +35,3 @@ module _ (p : Parameters) (x : List ℕ) (run : Run) (sixteen : length (run .roo
 
   pub aux-made : auxFor p x (sumOf p (run .prefix) (ownStates p run)) ≡ ownAux SHAKE256 p x run
   aux-made = ap (auxFor p x) sum-drawn ∙ sym (ownAux-is SHAKE256 p x run)
-
--- ---- sizes
-
-pub aux-most : (p : Parameters) → Within p → auxLength p ≤ 796
-aux-most p h = omega (arith, h .m-most, h .k-most, h .w-most, h .t-most)
-
-pub share-fits : (p : Parameters) → Within p → shareLength p ≤ workLength p
-share-fits p h = omega (arith, sums-fit p h, sum-fits p (p .axes) (total-lt p))

@@ -1,22 +1,19 @@
 -- The laws of message 3 from the sums over the leaves.
 --
--- total-fits, rows-most   where the sum of all leaves ends, and the longest rows
 -- total-is          at index D stands the sum of all shares as hashed
 -- fill-made         aux comes from it, and is added into it
 -- parts-own         the parties of all axes, from the sums
 -- response-made     so h' is message 3
-use mathlib.Core.Path.{_≡_, sym, ap, ap₂, subst⁻¹, _∙_}
+use mathlib.Core.Path.{_≡_, sym, ap, ap₂, _∙_}
 use mathlib.Core.List.{List}
-use Prim.Native.Nat.{ℕ, _+_, _*_, _≤_, _<_}
-use native.Mathlib.Nat.{le-refl, le-of-eq, mul-le-mul}
+use Prim.Native.Nat.{ℕ, _*_, _<_}
+use native.Mathlib.Nat.{le-refl, le-of-eq}
 use native.Mathlib.Omega.{arith}
 use lib.ListN.{length, replicate}
 use Rattle.shake256.specs.Fips.{SHAKE256}
 use Rattle.lists.specs.Part.{part}
 use Rattle.parameters.specs.declared.Parameters.{Parameters}
-use Rattle.parameters.specs.Limits.{Within}
-use Rattle.layout.specs.Layout.{side, leaves, valuesLength, axisLength, auxLength, shareLength, sumsLength}
-use Rattle.layout.specs.Layout.Bounds.{axis-most}
+use Rattle.layout.specs.Layout.{side, leaves, valuesLength, auxLength, shareLength}
 use Rattle.layout.specs.Layout.Laws.{leaves-pos}
 use Rattle.exchange.specs.Run.{Run}
 use Rattle.exchange.specs.Leaf.{share}
@@ -29,27 +26,12 @@ use Rattle.leaves.specs.States.{stateAt}
 use Rattle.parties.specs.Drawn.{drawnShare}
 use Rattle.parties.specs.Totals.{disclosedOf, hides-none, party-hides-none}
 use Rattle.parties.specs.Sums.{partySums, withAux}
-use Rattle.parties.specs.Sums.Index.{total-lt, sum-fits, sums-small}
 use Rattle.parties.specs.Sums.Front.{Known, sum-total, party-filled}
 use Rattle.axes.specs.Announcing.{partyFrom}
 use Rattle.axes.specs.Announcing.Strings.{own-rows}
 use Rattle.messages.specs.Own.{ownStates, sumOf}
 use Rattle.messages.specs.Own.Laws.{ownStates-at, aux-made}
 use Rattle.messages.specs.Response.{Filled, responseOf}
-
--- ---- sizes, with n as the code has the length of a share, or of an axis's rows
-
-module _ (p : Parameters) (within : Within p) where
-  pub total-fits : (n : ℕ) → n ≡ shareLength p → (p .axes * n + n ≤ sumsLength p) × (sumsLength p ≤ 9 * 860)
-  total-fits n e = (subst⁻¹ (λ (k : ℕ). p .axes * k + k ≤ sumsLength p) e (sum-fits p (p .axes) (total-lt p)), sums-small p within)
-
-  pub rows-most : (n : ℕ) → n ≡ axisLength p → p .axes * n ≤ 1536
-  rows-most n e =
-      let a : p .axes ≤ 8 = within .axes-most in
-      let b : n ≤ 192 = omega (arith, axis-most p within) in
-      mul-le-mul a b
-
--- ---- the sums
 
 pub total-is : (p : Parameters) (prefix states : List ℕ)
     → part (partySums p (drawnShare p prefix states) (leaves p)) (p .axes * shareLength p) (shareLength p) ≡ sumOf p prefix states

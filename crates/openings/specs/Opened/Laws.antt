@@ -1,10 +1,9 @@
 -- The laws of what an opening gives.
 --
 -- opened-state         the state of a disclosed leaf
--- length-openedRow, length-openedRows, row-opened   a row has 24t bytes, and row j is found at its place
--- row-string           layer 6's string of an axis, from its row
+-- row-opened           row j is found at its place
 -- rows-string          layer 7's string, from the rows
-use mathlib.Core.Path.{_≡_, refl, ap, _∙_}
+use mathlib.Core.Path.{_≡_, ap}
 use mathlib.Core.List.{List, _∷_}
 use Prim.Native.Nat.{ℕ, _+_, _*_, _<_}
 use native.Mathlib.Omega.{arith}
@@ -15,14 +14,12 @@ use Rattle.parameters.specs.declared.Parameters.{Parameters}
 use Rattle.layout.specs.Layout.{side, leaves, rowLength, axisLength, message5Length}
 use Rattle.exchange.specs.Sequences.Laws.{joined-ext, length-joined, part-joined}
 use Rattle.exchange.specs.Strings.{string, string6, string7}
-use Rattle.exchange.specs.Tree.{openedSeeds}
 use Rattle.exchange.specs.Values.{Key}
 use Rattle.exchange.specs.Parties.{announcedBytes, axisString}
 use Rattle.exchange.specs.Parties.Laws.{length-announcedBytes}
-use Rattle.exchange.specs.Opening.{Exchange, pathOf, openedState, announced, responseString}
-use Rattle.seedtree.specs.Laid.{laid}
-use Rattle.leaves.specs.States.{stateAt, statesOf}
-use Rattle.leaves.specs.States.Seeds.{levels-is, opened-states}
+use Rattle.exchange.specs.Opening.{Exchange, openedState, announced, responseString}
+use Rattle.leaves.specs.States.{stateAt}
+use Rattle.leaves.specs.States.Seeds.{opened-states}
 use Rattle.axes.specs.RowStrings.{rowString, rowsString}
 use Rattle.reader.specs.Message5.Laws.{aux-inside}
 use Rattle.openings.specs.From.{statesFrom}
@@ -32,31 +29,21 @@ pub opened-state : (p : Parameters) (e : Exchange) → e .leaf < leaves p → le
     → (i : ℕ) → i < leaves p → (i ≡ e .leaf → ⊥) → stateAt (openedStates p e) i ≡ openedState SHAKE256 p e i
 unfolding openedStates statesFrom
 opened-state p e below long i h other =
-    let k = aux-inside p (e .leaf) (e .message5) long in
-    ap (λ (l : ℕ). stateAt (statesOf (e .prefix) (laid (openedSeeds SHAKE256 (e .prefix) l 1 (e .leaf) (pathOf p e))) (leaves p)) i) (levels-is p)
-    ∙ opened-states p e below (omega arith) i h other
+    let k = aux-inside p (e .leaf) (e .message5) long in opened-states p e below (omega arith) i h other
 
 module _ (p : Parameters) (e : Exchange) (key : Key) where
-  pub length-openedRow : (j : ℕ) → length (openedRow p e key j) ≡ axisLength p
+  length-openedRow : (j : ℕ) → length (openedRow p e key j) ≡ axisLength p
   unfolding openedRow
   length-openedRow j =
       length-joined (announcedBytes p (announced SHAKE256 p e key j)) (side p) (rowLength p) (λ c h. length-announcedBytes p _ c)
-
-  pub length-openedRows : length (openedRows p e key) ≡ p .axes * axisLength p
-  unfolding openedRows
-  length-openedRows = length-joined (openedRow p e key) (p .axes) (axisLength p) (λ j h. length-openedRow j)
 
   pub row-opened : (j : ℕ) → j < p .axes → part (openedRows p e key) (j * axisLength p) (axisLength p) ≡ openedRow p e key j
   unfolding openedRows
   row-opened j h = part-joined (openedRow p e key) (axisLength p) (p .axes) (λ j h. length-openedRow j) j h
 
-  pub row-string : (j : ℕ) → string 6 (e .prefix) ((j + 1) ∷ openedRow p e key j) ≡ axisString p (e .prefix) j (announced SHAKE256 p e key j)
-  unfolding openedRow axisString string6
-  row-string j = refl
-
   pub rows-string : rowsString SHAKE256 p (e .prefix) (openedRows p e key) ≡ responseString SHAKE256 p e key
-  unfolding responseString string7
+  unfolding responseString string7 openedRow axisString string6
   rows-string =
       ap (string 7 (e .prefix))
       (joined-ext (λ j. SHAKE256 (rowString p (e .prefix) (openedRows p e key) j) 32) (λ j. SHAKE256 (axisString p (e .prefix) j (announced SHAKE256 p e key j)) 32) (p .axes)
-      (λ j h. ap (λ (s : List ℕ). SHAKE256 s 32) (ap (λ (r : List ℕ). string 6 (e .prefix) ((j + 1) ∷ r)) (row-opened j h) ∙ row-string j)))
+      (λ j h. ap (λ (s : List ℕ). SHAKE256 s 32) (ap (λ (r : List ℕ). string 6 (e .prefix) ((j + 1) ∷ r)) (row-opened j h))))

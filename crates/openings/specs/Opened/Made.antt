@@ -1,9 +1,8 @@
 -- What the steps make is what the opening gives.
 --
--- made-states          the states of all leaves
 -- made-commitment      the digest of layer 5
 -- made-parties         the sums are those of the parties' disclosed leaves
--- made-rows            what the parties of every axis announce
+-- made-rows            what the parties of every axis announce, from these sums
 -- made-response        the digest of layer 7
 use mathlib.Core.Path.{_≡_, refl, ap, _∙_}
 use mathlib.Core.Bool.{not}
@@ -23,24 +22,20 @@ use Rattle.exchange.specs.Leaf.{share}
 use Rattle.exchange.specs.Values.{Key}
 use Rattle.exchange.specs.Parties.{total, partyOf}
 use Rattle.exchange.specs.Parties.Laws.{total-ext}
-use Rattle.exchange.specs.Opening.{Exchange, pathOf, commitmentOf, auxOf, openedShare, disclosed, commitmentString, responseString}
+use Rattle.exchange.specs.Opening.{Exchange, commitmentOf, auxOf, openedShare, disclosed, commitmentString, responseString}
 use Rattle.leaves.specs.States.{stateAt}
 use Rattle.leaves.specs.Commitments.Laws.{commitments-string}
 use Rattle.parties.specs.Totals.{disclosedOf}
 use Rattle.parties.specs.Sums.Front.{Known, filled, party-filled}
 use Rattle.axes.specs.Announcing.{partyFrom, rowOf}
 use Rattle.axes.specs.Announcing.Strings.{opened-row}
-use Rattle.reader.specs.Message5.{siblingsIn, valuesIn, auxIn}
+use Rattle.reader.specs.Message5.{valuesIn, auxIn}
 use Rattle.reader.specs.Message5.Laws.{aux-short, no-aux}
-use Rattle.openings.specs.From.{statesFrom, digestFrom, announcedFrom, rowsFrom, responseFrom}
+use Rattle.openings.specs.From.{digestFrom, announcedFrom, responseFrom}
 use Rattle.openings.specs.Opened.{openedStates, openedRow, openedRows}
 use Rattle.openings.specs.Opened.Laws.{opened-state, rows-string}
 
 module _ (p : Parameters) (e : Exchange) where
-  pub made-states : statesFrom p (e .prefix) (e .leaf) (siblingsIn p (e .message5)) ≡ openedStates p e
-  unfolding openedStates pathOf siblingsIn
-  made-states = refl
-
   pub made-response : (key : Key) → responseFrom p (e .prefix) (openedRows p e key) 32 ≡ SHAKE256 (responseString SHAKE256 p e key) 32
   unfolding responseFrom
   made-response key = ap (λ (s : List ℕ). SHAKE256 s 32) (rows-string p e key)
@@ -70,8 +65,9 @@ module _ (p : Parameters) (e : Exchange) where
     unfolding partyFrom sums
     made-parties j c hj hc = party-filled p (e .prefix) (openedStates p e) (e .leaf) (auxIn p (e .message5)) known j c hj hc ∙ shares-are j c
 
-    pub made-rows : (key : Key) → rowsFrom p key (e .prefix) (e .message2) (openedStates p e) (e .leaf) (valuesIn p (e .message5)) (auxIn p (e .message5)) ≡ openedRows p e key
-    unfolding rowsFrom announcedFrom openedRows openedRow sums
+    pub made-rows : (key : Key) → announcedFrom p key (e .message2) (filled p (e .prefix) (openedStates p e) (e .leaf) (auxIn p (e .message5))) (e .leaf) (valuesIn p (e .message5))
+        ≡ openedRows p e key
+    unfolding announcedFrom openedRows openedRow sums
     made-rows key =
         joined-ext (rowOf p key (e .message2) sums (e .leaf) (valuesIn p (e .message5))) (openedRow p e key) (p .axes)
         (opened-row SHAKE256 p e key sums (valuesIn p (e .message5)) below values made-parties)

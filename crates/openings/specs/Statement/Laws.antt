@@ -1,7 +1,6 @@
 -- The laws of what an opening is held to.
 --
 -- digest-in, response-in, message2-in, prefix-in   what was written is read back
--- length-statementOf     the length of the list
 -- length-message2In      the length of message 2 in it
 -- prefix-lent, message2-lent   the prefix and message 2, lent
 -- written                four writes one behind the other make the list
@@ -15,10 +14,9 @@ use lib.Seq.{take-at, drop-at, length-take-le}
 use Rattle.lists.specs.Part.{part, putAt}
 use Rattle.lists.specs.Part.Laws.{length-part, tail-part, putAt-putAt, putAt-whole}
 use Rattle.parameters.specs.declared.Parameters.{Parameters}
-use Rattle.layout.specs.Layout.{message2Length}
-use Rattle.exchange.specs.Opening.{Exchange, exchange}
+use Rattle.layout.specs.Layout.{message2Length, message2Place, prefixPlace}
+use Rattle.exchange.specs.Opening.{exchange}
 use Rattle.openings.specs.Statement.{statementOf, digestIn, responseIn, message2In, prefixIn, exchangeIn}
-use Rattle.layout.specs.Layout.{message2Place, prefixPlace}
 
 pub length-message2In : (p : Parameters) (s : List ℕ) → prefixPlace p ≤ length s → length (message2In p s) ≡ message2Length p
 unfolding message2In
@@ -35,10 +33,6 @@ module _ (p : Parameters) (s : List ℕ) {a : ℕ} (e : a ≡ prefixPlace p) whe
   message2-lent = let n : a - message2Place ≡ message2Length p = omega arith in ap (λ (k : ℕ). take k (drop message2Place s)) n
 
 module _ (p : Parameters) (h h′ m2 prefix : List ℕ) (first : length h ≡ 32) (second : length h′ ≡ 32) (third : length m2 ≡ message2Length p) where
-  pub length-statementOf : length (statementOf h h′ m2 prefix) ≡ prefixPlace p + length prefix
-  unfolding statementOf
-  length-statementOf = simp length-append (omega arith)
-
   pub digest-in : digestIn (statementOf h h′ m2 prefix) ≡ h
   unfolding statementOf digestIn
   digest-in = take-at h (h′ ++ (m2 ++ prefix)) 32 first
@@ -92,13 +86,11 @@ module _ (p : Parameters) (m1 m2 m3 : List ℕ) (first : length m1 ≡ 64) (seco
   pub exchange-in : (leaf : ℕ) (m5 : List ℕ) → exchangeIn p (statementOf (drop 32 m1) m3 m2 (take 32 m1)) leaf m5 ≡ exchange m1 m2 m3 leaf m5
   unfolding exchangeIn exchange
   exchange-in leaf m5 =
-      ap₂ (λ (prefix h : List ℕ). made prefix h (message2In p s) (responseIn s)) (prefix-in p (drop 32 m1) m3 m2 (take 32 m1) length-digest third second)
-      (digest-in p (drop 32 m1) m3 m2 (take 32 m1) length-digest third second)
-      ∙ ap₂ (made (take 32 m1) (drop 32 m1)) (message2-in p (drop 32 m1) m3 m2 (take 32 m1) length-digest third second)
-      (response-in p (drop 32 m1) m3 m2 (take 32 m1) length-digest third second)
-    where
-      s : List ℕ
-      s = statementOf (drop 32 m1) m3 m2 (take 32 m1)
-
-      made : List ℕ → List ℕ → List ℕ → List ℕ → Exchange
-      made prefix h m2 m3 = record { prefix = prefix; h = h; message2 = m2; message3 = m3; leaf = leaf; message5 = m5 }
+      let h : List ℕ = drop 32 m1 in
+      let pre : List ℕ = take 32 m1 in
+      rw (
+        prefix-in p h m3 m2 pre length-digest third second,
+        digest-in p h m3 m2 pre length-digest third second,
+        message2-in p h m3 m2 pre length-digest third second,
+        response-in p h m3 m2 pre length-digest third second,
+      )

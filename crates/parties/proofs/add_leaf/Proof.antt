@@ -8,7 +8,8 @@ use lib.ListN.{length}
 use Rattle.lists.specs.Sum.{xorAt}
 use Rattle.layout.specs.Layout.{shareLength}
 use Rattle.parties.specs.Sums.{addedOn}
-use Rattle.parties.specs.Sums.Index.{total-lt, sum-fits, sums-small}
+use Rattle.layout.specs.Layout.Laws.{total-lt, sum-fits}
+use Rattle.layout.specs.Layout.Bounds.{sums-small}
 use Rattle.parties.specs.Sums.Adding.{addedTo, added-none, added-more, added-all}
 use Rattle.parties.proofs.add_leaf.Statement.{statement}
 use Rattle.parties.proofs.add_leaf.Tie as tie
@@ -29,7 +30,8 @@ loop-again c = let e : tie.After-add-to-party Inv-loop μ-loop = search in let t
     )
 
 -- the sum of all leaves lies within the sums
-at : (r : tie.After-share-length Inv-loop μ-loop) → let s : tie.Start Inv-loop μ-loop = search in s .args .p .axes * r .share-length .result ≡ s .args .p .axes * shareLength (s .args .p)
+at : (r : tie.After-share-length Inv-loop μ-loop) → let s : tie.Start Inv-loop μ-loop = search in
+    s .args .p .axes * r .share-length .result ≡ s .args .p .axes * shareLength (s .args .p)
 at r = let s : tie.Start Inv-loop μ-loop = search in ap (_*_ (s .args .p .axes)) (r .share-length .ensures)
 
 fits : (r : tie.After-share-length Inv-loop μ-loop) → let s : tie.Start Inv-loop μ-loop = search in

@@ -7,9 +7,9 @@ use borrow.Author.Tests.{lt-ltb, le-ltb}
 use lib.ListN.{length}
 use Rattle.lists.specs.Sum.{xorAt}
 use Rattle.layout.specs.Layout.{others, sumIndex, digit, shareLength}
-use Rattle.layout.specs.Layout.Laws.{index-lt}
+use Rattle.layout.specs.Layout.Laws.{index-lt, sum-fits}
+use Rattle.layout.specs.Layout.Bounds.{sums-small}
 use Rattle.parties.specs.Sums.{addedOn}
-use Rattle.parties.specs.Sums.Index.{sum-fits, sums-small}
 use Rattle.parties.proofs.add_to_party.Statement.{statement}
 use Rattle.parties.proofs.add_to_party.Tie as tie
 
@@ -18,7 +18,8 @@ below t = let o : tie.After-others = search in let d : tie.After-coordinate = se
     omega (arith, t .if1 .taken, o .others .ensures, d .coordinate .ensures)
 
 at : (r : tie.After-share-length) → let i : tie.After-sum-index = search in let s : tie.Start = search in
-    i .sum-index .result * r .share-length .result ≡ sumIndex (s .args .p) (s .args .axis) (digit (s .args .p) (s .args .axis) (s .args .leaf)) * shareLength (s .args .p)
+    i .sum-index .result * r .share-length .result ≡ sumIndex (s .args .p) (s .args .axis) (digit (s .args .p) (s .args .axis) (s .args .leaf)) * shareLength
+    (s .args .p)
 at r = let i : tie.After-sum-index = search in let d : tie.After-coordinate = search in let s : tie.Start = search in
     ap₂ _*_ (i .sum-index .ensures ∙ ap (sumIndex (s .args .p) (s .args .axis)) (d .coordinate .ensures)) (r .share-length .ensures)
 
@@ -31,7 +32,8 @@ returns : tie.Need-returns
 unfolding addedOn
 returns c = let e : tie.After-xor-at = search in let r : tie.After-share-length = search in let t : tie.Then1 = search in
     let s : tie.Start = search in let a = s .args in
-    rw (lt-ltb (digit (a .p) (a .axis) (a .leaf)) (others (a .p)) (below t)) (e .xor-at .ensures ∙ ap (λ (n : ℕ). xorAt (a .sums .now) n (a .share .now)) (at r))
+    rw (lt-ltb (digit (a .p) (a .axis) (a .leaf)) (others (a .p)) (below t))
+    (e .xor-at .ensures ∙ ap (λ (n : ℕ). xorAt (a .sums .now) n (a .share .now)) (at r))
 
 returns-2 : tie.Need-returns-2
 unfolding addedOn

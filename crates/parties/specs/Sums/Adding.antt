@@ -17,13 +17,13 @@ use Rattle.lists.specs.Sum.{xorList, xorAt}
 use Rattle.lists.specs.Sum.Laws.{length-xorList}
 use Rattle.parameters.specs.declared.Parameters.{Parameters}
 use Rattle.layout.specs.Layout.{others, sumCount, sumIndex, sumsLength, digit, shareLength}
-use Rattle.layout.specs.Layout.Laws.{index-lt}
+use Rattle.layout.specs.Layout.Laws.{index-lt, total-lt, sum-fits}
 use Rattle.exchange.specs.Sequences.{joined}
 use Rattle.exchange.specs.Sequences.Laws.{joined-ext, joined-parts}
 use Rattle.exchange.specs.Parties.{partyOf}
 use Rattle.parties.specs.Blocks.{xorAt-joined}
 use Rattle.parties.specs.Sums.{axisAt, partyAt, inSum, sumAt, addedOn, addedLeaf}
-use Rattle.parties.specs.Sums.Index.{index-at, axis-index, party-index, index-other, total-lt, sum-fits}
+use Rattle.parties.specs.Sums.Index.{index-at, axis-index, party-index, index-other}
 
 -- a sum with s added where the test says so
 abbrev pub picked : Bool → List ℕ → List ℕ → List ℕ

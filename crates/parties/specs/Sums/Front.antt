@@ -20,7 +20,7 @@ use Rattle.shake256.specs.Fips.{SHAKE256}
 use Rattle.shake256.proofs.Laws.{length-SHAKE256}
 use Rattle.parameters.specs.declared.Parameters.{Parameters}
 use Rattle.layout.specs.Layout.{side, others, sumCount, sumIndex, sumsLength, leaves, auxLength, shareLength, atX}
-use Rattle.layout.specs.Layout.Laws.{index-lt, side-others}
+use Rattle.layout.specs.Layout.Laws.{index-lt, side-others, total-lt, sum-fits}
 use Rattle.exchange.specs.Leaf.{share}
 use Rattle.exchange.specs.Leaf.Laws.{length-share-le}
 use Rattle.exchange.specs.Parties.{total, partyOf}
@@ -30,7 +30,7 @@ use Rattle.parties.specs.Totals.{disclosedOf, total-picks, less-ext, las
 use Rattle.parties.specs.Drawn.{drawnShare}
 use Rattle.parties.specs.Drawn.Laws.{drawnShare-short}
 use Rattle.parties.specs.Sums.{inSum, disclosedAt, sumAt, partySums, less, withLast, withAux}
-use Rattle.parties.specs.Sums.Index.{in-total, in-index, index-other, total-lt, sum-fits}
+use Rattle.parties.specs.Sums.Index.{in-total, in-index, index-other}
 use Rattle.parties.specs.Sums.Leaves.{length-sum, length-sums, sums-at}
 
 -- ---- aux is added

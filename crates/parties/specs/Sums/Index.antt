@@ -4,24 +4,18 @@
 -- axis-index, party-index the axis and the party at the index of a party's sum
 -- index-other             which is not D
 -- in-total, in-index      the leaves of the sum at index D, and at the index of a party's sum
--- total-lt                D is an index
--- sum-fits                a sum lies within the sums
--- sums-small              the sums are short
 use mathlib.Core.Path.{_≡_, refl, ap, ap₂, _∙_}
 use mathlib.Core.Bool.{Bool, true, _||_, cond}
 use Prim.Native.Nat.{ℕ, zero, suc, _+_, _-_, _*_, _/_, _%_, _≤_, _<_}
-use native.Mathlib.Nat.{zero-mul, mul-le-mul, mul-le-mul-right, mod-lt, div-add-mod', div-lt-iff-lt-mul}
+use native.Mathlib.Nat.{zero-mul, mul-le-mul-right, mod-lt, div-add-mod', div-lt-iff-lt-mul}
 use native.Mathlib.Decide.{decLt}
 use native.Mathlib.Omega.{arith}
 use borrow.Author.Tests.{eq-eqb, ne-eqb, lt-ltb, le-ltb}
 use lib.Arith.{digits-div, digits-mod}
 use lib.Dec.{eqb}
-use Rattle.lists.specs.Part.Laws.{part-fits}
 use Rattle.parameters.specs.declared.Parameters.{Parameters}
-use Rattle.parameters.specs.Limits.{Within}
-use Rattle.layout.specs.Layout.{others, sumCount, sumIndex, sumsLength, shareLength}
-use Rattle.layout.specs.Layout.Laws.{others-pos}
-use Rattle.layout.specs.Layout.Bounds.{sums-most, share-most}
+use Rattle.layout.specs.Layout.{others, sumCount, sumIndex}
+use Rattle.layout.specs.Layout.Laws.{total-lt}
 use Rattle.exchange.specs.Parties.{partyOf}
 use Rattle.parties.specs.Sums.{rank, axisAt, partyAt, inSum}
 
@@ -62,12 +56,6 @@ module _ (p : Parameters) where
   index-other j (suc c) h e =
       let o : 1 * p .axes ≤ suc c * p .axes = mul-le-mul-right (p .axes) (omega arith) in omega (arith, behind c j)
 
-  few : p .axes ≤ others p * p .axes
-  few = let e : 1 * p .axes ≤ others p * p .axes = mul-le-mul-right (p .axes) (others-pos p) in omega arith
-
-  pub total-lt : p .axes < sumCount p
-  total-lt = let e = few in omega arith
-
   pub index-at : (q : ℕ) → q < sumCount p → (q ≡ p .axes → ⊥) → At p q
   index-at q h other = go (decLt q (p .axes))
     where
@@ -85,7 +73,7 @@ module _ (p : Parameters) where
       go (yes l) =
           let r = rank-less q l in
           let z : partyAt p q < 1 = div-lt-iff-lt-mul {k = p .axes} {x = rank p q} {y = 1} (omega arith) .1 (omega arith) in
-          made (omega arith) (omega (arith, few)) (rw (eq-eqb (partyAt p q) 0 (omega arith)) (omega arith))
+          made (omega arith) (omega (arith, total-lt p)) (rw (eq-eqb (partyAt p q) 0 (omega arith)) (omega arith))
       go (no l) =
           let r = rank-more q (omega arith) in
           let pos : 0 < p .axes = positive (p .axes) refl in
@@ -105,9 +93,3 @@ module _ (p : Parameters) where
   in-index j c i h =
       ap (λ (b : Bool). b || partyOf p (axisAt p (sumIndex p j c)) (partyAt p (sumIndex p j c)) i) (ne-eqb (sumIndex p j c) (p .axes) (index-other j c h))
       ∙ ap₂ (λ (j c : ℕ). partyOf p j c i) (axis-index j c h) (party-index j c h)
-
-  pub sum-fits : (q : ℕ) → q < sumCount p → q * shareLength p + shareLength p ≤ sumsLength p
-  sum-fits q h = part-fits q (sumCount p) (shareLength p) h
-
-  pub sums-small : Within p → sumsLength p ≤ 9 * 860
-  sums-small h = mul-le-mul (sums-most p h) (share-most p h)

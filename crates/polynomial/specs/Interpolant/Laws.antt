@@ -4,9 +4,9 @@
 --   distinct-ascending                no two of them are equal
 --   ascending-distinct, points-distinct     no two of them are equal bytes
 --   length-interpolant                S has m coefficients
---   interpolant-takes                 S(f_i) = x_i for all i
+--   interpolant-values                S(f_i) = x_i for all i, over the field of bytes
 --   interpolant-unique                no other m bytes as coefficients have these values
---   interpolant-values, -only         both over the field of bytes
+--   interpolant-only                  the same over the field of bytes
 --   interpolant-xor                   S of a sum is the sum of both S, for all numbers: "Addition is xor"
 --   bytes-interpolant                 S of bytes has bytes as coefficients
 --   product-in-field, -monic, -zero   a product of X + f over any numbers: over the field of bytes, its leading 1, its zeros
@@ -14,7 +14,6 @@
 --   vanishing-in-field                F over the field of bytes
 --   vanishing-monic                   F is m low coefficients and a leading 1
 --   vanishing-leading                 the same over the field of bytes
---   vanishing-zero, vanishing-not     F is zero at each f_i, and at no other byte
 --   bytes-vanishing                   F has bytes as coefficients
 use mathlib.Core.Path.{_≡_, refl, sym, ap, ap₂, _∙_}
 use mathlib.Core.List.{List, [], _∷_, _++_}
@@ -33,7 +32,6 @@ use Rattle.algebra.specs.Polynomial.Lengths.{length-product, length-interpolate
 use Rattle.algebra.specs.Polynomial.Linear.{interpolate-sum}
 use Rattle.algebra.specs.Polynomial.Interpolation.{interpolate-values, interpolate-unique}
 use Rattle.algebra.specs.Polynomial.Products.{product-roots, leading-product}
-use Rattle.algebra.specs.Polynomial.Quotients.{vanishing-elsewhere}
 use Rattle.algebra.specs.Polynomial.Maps.{map-eval, map-interpolate, map-product}
 use Rattle.bytefield.specs.Product.{byteOps}
 use Rattle.bytefield.specs.Product.Laws.{byte-linear, xorList-plus}
@@ -121,16 +119,6 @@ module _ (x : List ℕ) (short : length x < 256) where
   values-in-field p [] = refl
   values-in-field p (f ∷ fs) = ap₂ _∷_ (map-eval byteOps (ops byteRing) byte byte-homomorphism p f) (values-in-field p fs)
 
-  bytes-values : (p fs : List ℕ) → Bytes p → Bytes (values byteOps p fs)
-  bytes-values p [] h = tt
-  bytes-values p (f ∷ fs) h = (byte-eval p f h, bytes-values p fs h)
-
-  pub interpolant-takes : Bytes x → values byteOps (interpolantOf x) (interpolationPoints (length x)) ≡ x
-  interpolant-takes h =
-      bytes-equal (values byteOps (interpolantOf x) (interpolationPoints (length x))) x
-      (bytes-values (interpolantOf x) (interpolationPoints (length x)) (bytes-interpolant x h)) h
-      (values-in-field (interpolantOf x) (interpolationPoints (length x)) ∙ interpolant-values)
-
   pub interpolant-unique : (p : List ℕ) → Bytes x → Bytes p → length p ≡ length x
       → values byteOps p (interpolationPoints (length x)) ≡ x → p ≡ interpolantOf x
   interpolant-unique p h k l e =
@@ -196,12 +184,3 @@ vanishing-leading m =
 pub vanishing-monic : (m : ℕ) → vanishingOf m ≡ take m (vanishingOf m) ++ (1 ∷ [])
 unfolding vanishingOf
 vanishing-monic m = product-monic m (interpolationPoints m) (length-ascending 1 m)
-
-pub vanishing-zero : (m : ℕ) → Each (λ f. eval (ops byteRing) (inField (vanishingOf m)) f ≡ byteRing .zero) (inField (interpolationPoints m))
-vanishing-zero m = rw (vanishing-in-field m) (product-roots byteRing (byteRing .one ∷ []) (inField (interpolationPoints m)))
-
-pub vanishing-not : (m : ℕ) (x : Byte) → Each (λ f. x ≡ f → ⊥) (inField (interpolationPoints m))
-    → eval (ops byteRing) (inField (vanishingOf m)) x ≡ byteRing .zero → ⊥
-vanishing-not m x n e =
-    vanishing-elsewhere byteField (inField (interpolationPoints m)) x n
-    (ap (λ (p : List Byte). eval (ops byteRing) p x) (sym (vanishing-in-field m)) ∙ e)

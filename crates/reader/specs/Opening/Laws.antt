@@ -1,15 +1,14 @@
 -- The parts taken one after another are those of message 5.
 --
 -- front-is                     what was written at the start is the front
--- room-asked                   room for the longest parts is room enough
+-- room-asked                   room for the sibling seeds and for the longest α and β is room enough
 -- siblings-taken, values-taken what is read stands in the fronts
--- siblings-front, values-front the same, where the length is written out
 -- rest-inside, rest-is         what is left is aux
 -- front-read                   a front that is lent, filled and comes back is a write at the start
 -- seeds-length, points-length  the fronts that are lent for the sibling seeds, and for α and β
 -- siblings-read, commitment-read, values-read, left-read   what each part becomes, and how much was left
-use mathlib.Core.Path.{_≡_, refl, sym, ap, _∙_}
-use Prim.Native.Nat.{ℕ, _+_, _-_, _*_, _≤_}
+use mathlib.Core.Path.{_≡_, sym, ap, _∙_}
+use Prim.Native.Nat.{ℕ, _+_, _-_, _≤_}
 use native.Mathlib.Nat.{zero-add}
 use native.Mathlib.Omega.{arith}
 use mathlib.Core.List.{List, _++_}
@@ -30,10 +29,11 @@ pub front-is : (w x : List ℕ) (n : ℕ) → length x ≡ n → take n (putAt w
 unfolding putAt
 front-is w x n e = take-at x (drop (0 + length x) w) n e
 
-pub room-asked : (p : Parameters) → Within p → (m5 s c v : List ℕ) → auxPlace p ≤ length m5 → length s ≡ 128 → length c ≡ 32 → length v ≡ 64 → Asked p m5 s c v
+pub room-asked : (p : Parameters) → Within p → (m5 s c v : List ℕ) → auxPlace p ≤ length m5 → siblingsLength p ≤ length s → length c ≡ 32 → length v ≡ 64
+    → Asked p m5 s c v
 room-asked p within m5 s c v long in-s in-c in-v = record {
   within = within;
-  siblings-fit = let e = siblings-end p in omega arith;
+  siblings-fit = in-s;
   commitment-is = in-c;
   values-fit = omega arith;
   long = long;
@@ -44,14 +44,8 @@ module _ (p : Parameters) (leaf : ℕ) (m5 : List ℕ) (long : length m5 ≡ mes
   pub siblings-taken : (n : ℕ) → n ≡ siblingsLength p → (w : List ℕ) {w′ : List ℕ} → w′ ≡ putAt w 0 (siblingsIn p m5) → take n w′ ≡ siblingsIn p m5
   siblings-taken n en w e = ap (take n) e ∙ front-is w (siblingsIn p m5) n (length-siblingsIn p leaf m5 long ∙ sym en)
 
-  pub siblings-front : (w : List ℕ) {w′ : List ℕ} → w′ ≡ putAt w 0 (siblingsIn p m5) → take (16 * p .axes) w′ ≡ siblingsIn p m5
-  siblings-front = siblings-taken (16 * p .axes) (sym (siblings-end p))
-
   pub values-taken : (n : ℕ) → n ≡ valuesLength p → (w : List ℕ) {w′ : List ℕ} → w′ ≡ putAt w 0 (valuesIn p m5) → take n w′ ≡ valuesIn p m5
   values-taken n en w e = ap (take n) e ∙ front-is w (valuesIn p m5) n (length-valuesIn p leaf m5 long ∙ sym en)
-
-  pub values-front : (w : List ℕ) {w′ : List ℕ} → w′ ≡ putAt w 0 (valuesIn p m5) → take (valuesLength p) w′ ≡ valuesIn p m5
-  values-front = values-taken (valuesLength p) refl
 
 module _ (p : Parameters) (m5 : List ℕ) (long : auxPlace p ≤ length m5) {n : ℕ} (rest : n ≡ length (auxIn p m5)) where
   pub rest-inside : n ≤ length m5

@@ -6,7 +6,6 @@
 --   apart                no point of E is outside E
 --   length-locator       Q has w + 1 coefficients
 --   locator-monic        they are w low coefficients and a leading 1
---   locator-zero, locator-not     Q is zero at the points of E, and at no other byte
 --   bytes-locator        Q has bytes as coefficients
 --   quotient-factors     P is S divided by X + f for each point f outside E
 --   quotient-ratios      P takes at each point of E the value of x there over the distances of the point from those outside E
@@ -21,15 +20,15 @@ use lib.Dec.{lit<}
 use lib.ListN.{length, take, replicate, length-append, length-map}
 use lib.Seq.{take-at}
 use Rattle.algebra.specs.Ring.{ops}
-use Rattle.algebra.specs.Each.{Each, Disjoint}
+use Rattle.algebra.specs.Each.{Disjoint}
 use Rattle.algebra.specs.Marks.{pick, leave}
 use Rattle.algebra.specs.Marks.Laws.{length-pick, map-pick}
 use Rattle.algebra.specs.Marks.Laws.{length-leave, distinct-leave, pick-apart, map-leave}
-use Rattle.algebra.specs.Polynomial.{eval, times, product, quotient, vanishing, interpolate}
+use Rattle.algebra.specs.Polynomial.{times, product, quotient, vanishing, interpolate}
 use Rattle.algebra.specs.Polynomial.Lengths.{length-product}
 use Rattle.algebra.specs.Polynomial.Lengths as lengths
-use Rattle.algebra.specs.Polynomial.Products.{product-roots, leading-product}
-use Rattle.algebra.specs.Polynomial.Quotients.{vanishing-elsewhere, relation}
+use Rattle.algebra.specs.Polynomial.Products.{leading-product}
+use Rattle.algebra.specs.Polynomial.Quotients.{relation}
 use Rattle.algebra.specs.Polynomial.Ratios.{distances, ratios, map-ratios, quotient-interpolates}
 use Rattle.algebra.specs.Polynomial.Maps.{map-times, map-product, map-quotient, map-interpolate}
 use Rattle.bytefield.specs.Product.{byteOps}
@@ -82,14 +81,6 @@ module _ (w : ℕ) (x : List ℕ) where
   locator-in-field =
       map-product byteOps (ops byteRing) byte byte-homomorphism (1 ∷ []) (pick (positions w x) (interpolationPoints (length x)))
       ∙ ap₂ (λ (o : Byte) (l : List Byte). product (ops byteRing) (o ∷ []) l) byte-one (map-pick byte (positions w x) (interpolationPoints (length x)))
-
-  pub locator-zero : Each (λ f. eval (ops byteRing) (inField (locatorOf w x)) f ≡ byteRing .zero) (pick (positions w x) points)
-  locator-zero = rw locator-in-field (product-roots byteRing (byteRing .one ∷ []) (pick (positions w x) points))
-
-  pub locator-not : (r : Byte) → Each (λ f. r ≡ f → ⊥) (pick (positions w x) points)
-      → eval (ops byteRing) (inField (locatorOf w x)) r ≡ byteRing .zero → ⊥
-  locator-not r n e =
-      vanishing-elsewhere byteField (pick (positions w x) points) r n (ap (λ (p : List Byte). eval (ops byteRing) p r) (sym locator-in-field) ∙ e)
 
   as-many : length (positions w x) ≡ length (interpolationPoints (length x))
   as-many = length-positions w x ∙ sym (length-ascending 1 (length x))

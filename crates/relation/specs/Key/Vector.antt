@@ -2,10 +2,9 @@
 --
 --   length-rows, length-vector    lengths
 --   rows-xor                      H'(a + b) = H'a + H'b
---   vector-xor                    the vector of summed parts of a key is the sum of their vectors
 --   bytes-rows, bytes-vector      they have bytes as entries
 use mathlib.Core.Path.{_≡_, refl, sym, ap, ap₂, _∙_}
-use mathlib.Core.List.{List, [], _∷_, _++_}
+use mathlib.Core.List.{List, [], _∷_}
 use Prim.Native.Nat.{ℕ, zero, suc, _+_, _<_}
 use native.Mathlib.Omega.{arith}
 use lib.Dec.{lit<}
@@ -13,7 +12,7 @@ use lib.ListN.{length, drop, length-append}
 use Rattle.lists.specs.Xor.{_⊕_}
 use Rattle.lists.specs.Xor.Laws.{zero-⊕, ⊕-lt}
 use Rattle.lists.specs.Sum.{xorList}
-use Rattle.lists.specs.Sum.Laws.{length-xorList, xorList-comm, xorList-assoc, xorList-append}
+use Rattle.lists.specs.Sum.Laws.{length-xorList}
 use Rattle.bytefield.specs.Product.{_⊗_}
 use Rattle.bytefield.specs.Product.Laws.{⊗-lt, bytefield}
 use Rattle.polynomial.specs.Bytes.{Bytes}
@@ -54,23 +53,6 @@ rows-xor (suc n) h x y l =
     ap₂ _∷_ (dot-xor h x y l)
     (ap (λ (k : ℕ). rows n (drop k h) (xorList x y)) (length-xorList x y (omega (arith, l))) ∙ rows-xor n (drop (length x) h) x y l
     ∙ ap (λ (k : ℕ). xorList (rows n (drop (length x) h) x) (rows n (drop k h) y)) l)
-
-xorList-four : (a b c d : List ℕ) → xorList (xorList a b) (xorList c d) ≡ xorList (xorList a c) (xorList b d)
-xorList-four a b c d =
-    xorList-assoc a b (xorList c d)
-    ∙ ap (xorList a) (sym (xorList-assoc b c d) ∙ ap (λ (l : List ℕ). xorList l d) (xorList-comm b c) ∙ xorList-assoc c b d)
-    ∙ sym (xorList-assoc a c (xorList b d))
-
-pub vector-xor : (h y z a b : List ℕ) → length a ≡ length b → length y ≡ length z
-    → vectorOf h (xorList y z) (xorList a b) ≡ xorList (vectorOf h y a) (vectorOf h z b)
-unfolding vectorOf
-vector-xor h y z a b l m =
-    let n : length (xorList y z) ≡ length y = length-xorList y z (omega (arith, m)) in
-    ap (λ (k : ℕ). xorList a b ++ xorList (rows k h (xorList a b)) (xorList y z)) n
-    ∙ ap (λ (r : List ℕ). xorList a b ++ xorList r (xorList y z)) (rows-xor (length y) h a b l)
-    ∙ ap (_++_ (xorList a b)) (xorList-four (rows (length y) h a) (rows (length y) h b) y z)
-    ∙ sym (xorList-append a b (xorList (rows (length y) h a) y) (xorList (rows (length y) h b) z) l)
-    ∙ ap (λ (k : ℕ). xorList (a ++ xorList (rows (length y) h a) y) (b ++ xorList (rows k h b) z)) m
 
 -- ---- bytes
 

@@ -38,7 +38,8 @@ written root e = ap (part (putAt (replicate 32 0) 0 root) 0) (sym e) ∙ part-pu
 loop-holds : tie.Need-loop-holds Inv-loop μ-loop
 loop-holds c = let start : tie.Start Inv-loop μ-loop = search in let args = start .args in let pair = c .before .put-at .last .0 in
     let w = c .before .before .before .root-way .result in let way-is = c .before .before .before .root-way .ensures in
-    let seed : part pair 0 16 ≡ args .root .now = ap (λ (l : List ℕ). part l 0 16) (c .before .put-at .ensures) ∙ written (args .root .now) (start .pre .seed) in
+    let seed : part pair 0 16 ≡ args .root .now = ap (λ (l : List ℕ). part l 0 16) (c .before .put-at .ensures) ∙ written (args .root .now)
+    (start .pre .seed) in
     let at-root : Inv (args .prefix .now) (args .d) (args .root .now) (args .leaf) (args .out .now) (args .out .now) w pair 0 0 = record {
       on = subst (OnWay (args .d) 0) (sym way-is) (onWay-root (args .d) (args .leaf) (start .pre .is-leaf));
       owned = omega arith;
@@ -77,7 +78,8 @@ loop-again c = let sided : tie.After-side Inv-loop μ-loop = search in let made 
     let out-is : copied .put-at2 .last .0 ≡ putAt out (16 * k) (part both (16 - 16 * side w) 16) = copied .put-at2 .ensures
     ∙ ap (putAt out (16 * k)) (lent-part both (16 - 16 * sided .side .result) 16 ∙ ap (λ (n : ℕ). part both (16 - 16 * n) 16) side-is) in
     let next-is : c .next .result ≡ next w = c .next .ensures in
-    let further : Inv prefix d (args .root .now) (args .leaf) (args .out .now) (copied .put-at2 .last .0) (c .next .result) both (16 * sided .side .result) (k + 1) = record {
+    let further : Inv prefix d (args .root .now) (args .leaf) (args .out .now) (copied .put-at2 .last .0) (c .next .result) both (16 * sided .side .result)
+    (k + 1) = record {
       on = subst (OnWay d (k + 1)) (sym next-is) (onWay-next d k w less (inv .on));
       owned = omega (arith, side-is, side-le w);
       long = copied .put-at2 .kept .0 ∙ inv .long;
@@ -89,14 +91,16 @@ loop-again c = let sided : tie.After-side Inv-loop μ-loop = search in let made 
     } in
     let one-less : k + 1 ≡ d - (head .loop .left - 1) = omega (arith, in-loop .loop-test .taken, head .loop .inv .0) in (
       omega (arith, head .loop .inv .0),
-      subst (Inv prefix d (args .root .now) (args .leaf) (args .out .now) (copied .put-at2 .last .0) (c .next .result) both (16 * sided .side .result)) one-less further,
+      subst (Inv prefix d (args .root .now) (args .leaf) (args .out .now) (copied .put-at2 .last .0) (c .next .result) both (16 * sided .side .result)) one-less
+          further,
     )
 
 returns : tie.Need-returns Inv-loop μ-loop
 returns c = let start : tie.Start Inv-loop μ-loop = search in let head = c .before .loop in let args = start .args in let inv = head .inv .1 in
     let last : args .d - head .left ≡ args .d = omega arith in
     sym (inv .rest
-    ∙ siblings-all SHAKE256 (args .prefix .now) length-SHAKE256 (args .d) (args .d - head .left) (head .way .node) (part (head .pair) (head .own) 16) (head .way .leaf) (head .out) last
+    ∙ siblings-all SHAKE256 (args .prefix .now) length-SHAKE256 (args .d) (args .d - head .left) (head .way .node) (part (head .pair) (head .own) 16)
+    (head .way .leaf) (head .out) last
     (inv .long ∙ start .pre .size))
 
 pub sibling-seeds-spec : {M : Type 1} → statement M

@@ -16,8 +16,7 @@ use native.Mathlib.Nat.{add-zero, one-mul, pow-suc, mul-assoc, mul-add, mul-one}
 use native.Mathlib.Omega.{arith}
 use lib.ListN.{length, getD, take, drop, length-append, take-append-drop}
 use lib.Seq.{take-at, drop-at}
-use Rattle.algebra.specs.Each.Laws.{each-from}
-use Rattle.algebra.specs.Each.Laws.{each-at}
+use Rattle.algebra.specs.Each.Laws.{each-from, each-at}
 use Rattle.lists.specs.Part.{part}
 use Rattle.exchange.specs.Tree.{children, leftSeed, rightSeed, leafSeeds}
 use Rattle.exchange.specs.Tree.Laws.{length-leafSeeds, length-leftSeed, length-rightSeed, length-leafSeed}

@@ -3,8 +3,6 @@
 -- side-le          0 or 1
 -- skipped-le       at most half of the leaves
 -- skipped-least    at most the leaf's number
--- rootWay-size     2^d leaves below the root
--- next-size        half as many below the next node
 -- level-less       one level less below the next node
 -- onWay-root       the root is on the way
 -- onWay-half       half of the leaves, below the next node
@@ -12,7 +10,7 @@
 -- onWay-twice      the leaves are two halves
 -- onWay-next       the next node is on the way
 -- onWay-node       node numbers of the next level are below 512
-use mathlib.Core.Path.{_≡_, refl, ap, _∙_}
+use mathlib.Core.Path.{_≡_, ap, _∙_}
 use mathlib.Core.Bool.{Bool, true, false, cond}
 use Prim.Native.Nat.{ℕ, suc, _+_, _-_, _*_, _/_, _^_, _≤_, _<_}
 use native.Mathlib.Nat.{two-pow-succ, pow-succ'}
@@ -33,21 +31,13 @@ second-le i half x = go (ltb i half)
     go true = omega arith
     go false = omega arith
 
-second-least : (i half : ℕ) → second i half half ≤ i
+second-rest : (i half : ℕ) → (second i half half ≤ i) × (i < half + half → i - second i half half < half)
 unfolding second
-second-least i half = go (decLt i half)
+second-rest i half = go (decLt i half)
   where
-    go : Dec (i < half) → cond (ltb i half) 0 half ≤ i
-    go (yes a) = rw (lt-ltb i half a) (omega arith)
-    go (no a) = rw (le-ltb i half (omega arith)) (omega arith)
-
-second-rest : (i half : ℕ) → i < half + half → i - second i half half < half
-unfolding second
-second-rest i half h = go (decLt i half)
-  where
-    go : Dec (i < half) → i - cond (ltb i half) 0 half < half
-    go (yes a) = rw (lt-ltb i half a) (omega arith)
-    go (no a) = rw (le-ltb i half (omega arith)) (omega arith)
+    go : Dec (i < half) → (cond (ltb i half) 0 half ≤ i) × (i < half + half → i - cond (ltb i half) 0 half < half)
+    go (yes a) = rw (lt-ltb i half a) (omega arith, λ h. omega arith)
+    go (no a) = rw (le-ltb i half (omega arith)) (omega arith, λ h. omega arith)
 
 pub side-le : (w : Way) → side w ≤ 1
 unfolding side
@@ -59,15 +49,7 @@ skipped-le w = second-le (w .leaf) (w .size / 2) (w .size / 2)
 
 pub skipped-least : (w : Way) → skipped w ≤ w .leaf
 unfolding skipped
-skipped-least w = second-least (w .leaf) (w .size / 2)
-
-pub rootWay-size : (d leaf : ℕ) → rootWay d leaf .size ≡ 2 ^ d
-unfolding rootWay
-rootWay-size d leaf = refl
-
-pub next-size : (w : Way) → next w .size ≡ w .size / 2
-unfolding next
-next-size w = refl
+skipped-least w = second-rest (w .leaf) (w .size / 2) .0
 
 -- ---- places on the way
 
@@ -105,7 +87,7 @@ module _ (d k : ℕ) (w : Way) (h : k < d) (on : OnWay d k w) where
       record {
         within = omega arith;
         leaves = onWay-half;
-        leaf = second-rest (w .leaf) (w .size / 2) (omega (arith, onWay-twice, on .leaf));
+        leaf = second-rest (w .leaf) (w .size / 2) .1 (omega (arith, onWay-twice, on .leaf));
         node = omega (arith, second-le (w .leaf) (w .size / 2) 1, on .node);
       }
 

@@ -10,13 +10,18 @@ use Rattle.shake256.proofs.give_some.Statement.{statement}
 use Rattle.shake256.proofs.give_some.Tie as tie
 
 returns : tie.Need-returns
-returns c = let start = c .before .before .before .before .before .before .before .before in let a = start .args in
-    let lane = given-lane (a .lanes .now) (a .at) (c .before .before .before .before .before .if1 .taken) in
+returns c =
+    let then1 : tie.Then1 = search in
+    let start : tie.Start = search in
+    let a = start .args in
+    let lane = given-lane (a .lanes .now) (a .at) (then1 .if1 .taken) in
     let is = c .before .before .store .ensures ∙ ap (sets (a .out .now) (a .i)) lane in
     record { some = omega arith; within = omega (arith, start); room = omega (arith, start); is = is }
 
 returns-2 : tie.Need-returns-2
-returns-2 c = let start = c .before .before .before .before in let a = start .args in
+returns-2 c =
+    let start : tie.Start = search in
+    let a = start .args in
     let is = ap (λ (b : ℕ). sets (a .out .now) (a .i) (b ∷ [])) (c .byte-of .ensures) in
     record { some = omega arith; within = omega (arith, start); room = omega (arith, start); is = is }
 

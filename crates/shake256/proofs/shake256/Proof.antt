@@ -6,7 +6,8 @@ use Rattle.shake256.proofs.shake256.Statement.{statement}
 use Rattle.shake256.proofs.shake256.Tie as tie
 
 returns : tie.Need-returns
-returns c = let start = c .before .before .before .before .before .before .before .before .before in
+returns c =
+    let start : tie.Start = search in
     cc (squeezed-SHAKE256 (start .args .message .now) (length (start .args .output .now)))
 
 pub shake256-spec : {M : Type 1} → statement M

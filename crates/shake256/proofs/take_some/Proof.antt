@@ -12,7 +12,9 @@ use Rattle.shake256.proofs.take_some.Statement.{statement}
 use Rattle.shake256.proofs.take_some.Tie as tie
 
 returns : tie.Need-returns
-returns c = let start = c .before .before .before .before .before in let a = start .args .lanes .now in let s = start .args .s .now in
+returns c =
+    let start : tie.Start = search in
+    let a = start .args .lanes .now in let s = start .args .s .now in
     let n = start .args .at in let i = start .args .i in let within : i + 8 ≤ length s = omega arith in
     let eight : length (take 8 (drop i s)) ≡ 8 = length-take-le 8 (drop i s) (simp length-drop (omega arith)) in
     let lane = taken-lane a n (take 8 (drop i s)) (c .before .before .before .if1 .taken) (omega (arith, eight)) in
@@ -21,7 +23,9 @@ returns c = let start = c .before .before .before .before .before in let a = sta
 
 returns-2 : tie.Need-returns-2
 unfolding xorBytes
-returns-2 c = let start = c .before .before .before .before .before in let a = start .args in
+returns-2 c =
+    let start : tie.Start = search in
+    let a = start .args in
     let part = sym (part-cons (a .s .now) (a .i) 0 (omega (arith, start))) in
     let is = c .xor-byte .ensures ∙ ap (xorBytes (a .lanes .now) (a .at)) part in
     record { some = omega arith; within = omega (arith, start); room = omega (arith, start); is = is }

@@ -18,13 +18,17 @@ abbrev μ-loop : tie.MeasureT-loop
 
 loop-again : tie.Need-loop-again Inv-loop μ-loop
 loop-again c =
-    let head = c .before .before .before .before .before in let start = head .before .before .before in let m = start .args .message .now in
+    let head : tie.At-loop Inv-loop μ-loop = search in
+    let start : tie.Start Inv-loop μ-loop = search in
+    let m = start .args .message .now in
     let e = c .before .before .end in
     let part = absorbed-part (start .args .s) (head .loop .t) m (head .loop .i) (e .result) (e .ensures .0) (head .loop .inv .1 .1) in
     (e .ensures .1, (omega arith, c .absorb .ensures ∙ part))
 
 returns : tie.Need-returns Inv-loop μ-loop
-returns c = let head = c .before .before .before in let start = head .before .before .before in let m = start .args .message .now in
+returns c =
+    let start : tie.Start Inv-loop μ-loop = search in
+    let head = c .before .before .before in let m = start .args .message .now in
     c .absorb2 .ensures ∙ absorbed-part (start .args .s) (head .loop .t) m (head .loop .i) (length m) (head .loop .inv .0) (head .loop .inv .1 .1) ∙
     ap (absorbed (start .args .s)) (take-length m)
 

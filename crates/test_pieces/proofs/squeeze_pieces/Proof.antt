@@ -20,8 +20,11 @@ abbrev μ-loop : tie.MeasureT-loop
 μ-loop output₀ spans t₀ i₀ k₀ output t i k = length spans - k
 
 loop-again : tie.Need-loop-again Inv-loop μ-loop
-loop-again c = let head = c .before .before .before .before .before .before .before in let start = head .before .before .before in
-    let e = c .before .before .before .before .end in let q = c .before .before .squeeze in let d = start .args .output .now in
+loop-again c =
+    let after-end : tie.After-end Inv-loop μ-loop = search in
+    let head : tie.At-loop Inv-loop μ-loop = search in
+    let start : tie.Start Inv-loop μ-loop = search in
+    let e = after-end .end in let q = c .before .before .squeeze in let d = start .args .output .now in
     let o = head .loop .output in let i = head .loop .i in let inv = head .loop .inv .1 .1 in let same : length o ≡ length d = inv .0 in
     let within : e .result ≤ length d = omega (arith, e .ensures .1) in
     let part : length (take (e .result - i) (drop i o)) ≡ e .result - i = length-take-le (e .result - i) (drop i o)
@@ -32,7 +35,10 @@ loop-again c = let head = c .before .before .before .before .before .before .bef
     (within, (omega arith, (ap length is ∙ length-front (start .args .s) d (e .result) within, (q .ensures .1 ∙ sponge, is))))
 
 returns : tie.Need-returns Inv-loop μ-loop
-returns c = let head = c .before .before .before .before .before in let start = head .before .before .before in let q = c .before .before .squeeze2 in
+returns c =
+    let head : tie.At-loop Inv-loop μ-loop = search in
+    let start : tie.Start Inv-loop μ-loop = search in
+    let q = c .before .before .squeeze2 in
     let d = start .args .output .now in let o = head .loop .output in let i = head .loop .i in let inv = head .loop .inv .1 .1 in
     let same : length o ≡ length d = inv .0 in
     let part : length (take (length o - i) (drop i o)) ≡ length o - i = length-take-le (length o - i) (drop i o) (simp length-drop (omega arith)) in

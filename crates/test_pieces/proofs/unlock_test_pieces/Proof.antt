@@ -6,7 +6,8 @@ use Rattle.test_pieces.proofs.unlock_test_pieces.Statement.{statement}
 use Rattle.test_pieces.proofs.unlock_test_pieces.Tie as tie
 
 returns : tie.Need-returns
-returns c = let start = c .before .before .before .before .before .before .before .before .before .before .before in
+returns c =
+    let start : tie.Start = search in
     cc (squeezed-SHAKE256 (start .args .message .now) (length (start .args .output .now)))
 
 pub unlock-test-pieces-spec : {M : Type 1} → statement M

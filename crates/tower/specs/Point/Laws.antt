@@ -7,7 +7,7 @@ use Rattle.lists.specs.Xor.{_⊕_}
 use Rattle.lists.specs.Xor.Laws.{⊕-lt}
 use Rattle.bytefield.specs.Product.{_⊗_}
 use Rattle.bytefield.specs.Product.Laws.{⊗-lt}
-use Rattle.tower.specs.Point.{pointOps, Quad, four}
+use Rattle.tower.specs.Point.{pointOps, Quad}
 
 abbrev pub Bytes : Quad → Type 0
 Bytes x = (x .0 .0 < 256) × (x .0 .1 < 256) × (x .1 .0 < 256) × (x .1 .1 < 256)

@@ -9,7 +9,8 @@ use Rattle.unlock.proofs.on_default_key.Tie as tie
 exchange-requires : tie.Need-exchange-requires
 unfolding limits withinLimits
 exchange-requires c κs =
-    let s = c .before .before .before .before .before .before .before .before .shipped-set in test-within (s .result) (ap withinLimits (s .ensures))
+    let s : tie.After-shipped-set = search in
+    test-within (s .shipped-set .result) (ap withinLimits (s .shipped-set .ensures))
 
 pub on-default-key-spec : {M : Type 1} → statement M
 on-default-key-spec = tie.close (tie.spec (λ c κs. search needs) (λ c. search needs) (λ c κs. search needs) (λ c κs. search needs)

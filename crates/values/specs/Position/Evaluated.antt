@@ -8,11 +8,9 @@
 -- vanishing-made       the value of the low coefficients of F, which stand behind those of S
 -- length-words, end-lent, words-kept    how many words there are where three parts are lent one after another
 -- word-front, -middle, -end    what stands in the parts: the words of Q, of S and F, and of P
--- at-point             all of them at an equal point
 -- evaluation-asked     n polynomials that stand in blocks of one size, at one place of each, can be evaluated
--- first-half, second-half, length-tables    what stands in the two tables of multiples
 -- factor-made          ε·F(r)
-use mathlib.Core.Path.{_≡_, refl, sym, ap, ap₂, _∙_, subst}
+use mathlib.Core.Path.{_≡_, sym, ap, ap₂, _∙_}
 use mathlib.Core.Bool.{Bool, true, false, cond}
 use mathlib.Core.List.{List, [], _∷_, _++_, append-nil, append-assoc}
 use Prim.Native.Nat.{ℕ, zero, _+_, _-_, _*_, _≤_, _<_}
@@ -41,7 +39,7 @@ use Rattle.points.specs.Multiples.{wordOf}
 use Rattle.points.specs.Multiples.Laws.{wordOf-sum}
 use Rattle.values.specs.Evaluation.{pointPower, valuesOf, EvaluationAsked}
 use Rattle.values.specs.Evaluation.Laws.{value-snoc}
-use Rattle.values.specs.Position.{Valued, firstHalf, secondHalf, RowsOf}
+use Rattle.values.specs.Position.{RowsOf}
 
 pub inside-part : (s : List ℕ) (at size from n : ℕ) → from + n ≤ size → bytesAt s (from + at) n ≡ bytesAt (part s at size) from n
 inside-part s at size from n h =
@@ -175,11 +173,6 @@ module _ (w u s : List ℕ) (n b : ℕ) (fits : b ≤ length w) (lu : length u �
         ap (λ (x : List ℕ). getD x (b + i) 0) words-made ∙ ap (λ (k : ℕ). getD ((u ++ s) ++ v) (k + i) 0) (sym length-front)
         ∙ getD-append-add (u ++ s) v i 0
 
-pub at-point : (p : Parameters) (key : Key) (first : Bool) (shares : List ℕ) (n : ℕ) (x y : Point) (words : List ℕ) (leading : ℕ) (f : List ℕ) → x ≡ y
-    → Valued p key first shares n x words leading × (f ≡ bytesOf (value (F p) x)) → Valued p key first shares n y words leading × (f ≡ bytesOf (value (F p) y))
-at-point p key first shares n x y words leading f e v =
-    subst (λ (z : Point). Valued p key first shares n z words leading × (f ≡ bytesOf (value (F p) z))) e v
-
 -- ---- what the evaluations ask
 
 pub evaluation-asked : (total n size from len entries : ℕ)
@@ -187,24 +180,6 @@ pub evaluation-asked : (total n size from len entries : ℕ)
     → EvaluationAsked total n size from len entries
 evaluation-asked total n size from len entries (few, near, short, h, e, sized) =
     let inside : 0 < n → from + (n - 1) * size + len ≤ total = λ z. let f = part-fits (n - 1) n size (omega arith) in omega arith in search arith
-
--- ---- the two tables: the front and then the rest of d are lent, and become u and v
-
-module _ (u v d : List ℕ) (lu : length u ≡ 128) (lv : length v ≡ 128) where
-  abbrev tables₂ : List ℕ
-  tables₂ = take 128 (u ++ drop 128 d) ++ (v ++ drop 128 (drop 128 (u ++ drop 128 d)))
-
-  both : tables₂ ≡ u ++ (v ++ drop 128 (drop 128 (u ++ drop 128 d)))
-  both = ap (λ (x : List ℕ). x ++ (v ++ drop 128 (drop 128 (u ++ drop 128 d)))) (take-at u (drop 128 d) 128 lu)
-
-  pub first-half : firstHalf tables₂ ≡ u
-  first-half = ap firstHalf both ∙ take-at u _ 128 lu
-
-  pub second-half : secondHalf tables₂ ≡ v
-  second-half = ap secondHalf both ∙ ap (take 128) (drop-at u _ 128 lu) ∙ take-at v _ 128 lv
-
-  pub length-tables : length d ≡ 256 → length tables₂ ≡ 256
-  length-tables l = ap length both ∙ simp (length-append, length-drop) (omega arith)
 
 -- ---- ε·F(r)
 

@@ -26,7 +26,7 @@ use Rattle.values.specs.Announced.{gamma, announcedOf}
 use Rattle.values.specs.Filled.{Filled, length-point, filled-keep, filled-more, filled-block}
 use Rattle.values.specs.Shares.{blockOf}
 use Rattle.points.specs.Blocks.{within-blocks}
-use Rattle.values.specs.Position.{writtenAt, announcedAt, EachAnnounced}
+use Rattle.values.specs.Position.{factorsAt, Each, EachAnnounced}
 
 -- three blocks of points, each filled up to position n
 pub record Announced (p : Parameters) (α β γ : ℕ → Point) (out : List ℕ) (n : ℕ) : Type 0 where
@@ -39,8 +39,9 @@ module _ (p : Parameters) (α β γ : ℕ → Point) (out : List ℕ) where
   announced-none : length out ≡ rowLength p → Announced p α β γ out 0
   announced-none e = record { sized = e; alphas = λ i h. absurd (omega arith); betas = λ i h. absurd (omega arith); gammas = λ i h. absurd (omega arith) }
 
-  announced-turn : (next : List ℕ) (l : ℕ) → l < p .t → next ≡ writtenAt p l (α l) (β l) (γ l) out → Announced p α β γ out l → Announced p α β γ next (l + 1)
-  unfolding writtenAt
+  announced-turn : (next : List ℕ) (l : ℕ) → l < p .t → next ≡ putAt (factorsAt p l (α l) (β l) out) (atV p + 4 * l) (bytesOf (γ l))
+      → Announced p α β γ out l → Announced p α β γ next (l + 1)
+  unfolding factorsAt
   announced-turn next l h en g =
       let n = g .sized in
       let t = factorLength p + 4 * l in
@@ -105,21 +106,19 @@ module _ (p : Parameters) (before out u next : List ℕ) (n i b room : ℕ) (er 
   pub left-turn : Left p before out i n → Left p before next (i + 1) n
   left-turn h j k m = other j m (λ e. omega arith) ∙ h j (omega arith) m
 
-  module _ (key : Key) (message2 : List ℕ) (first : Bool) (shares : List ℕ) (l : ℕ) where
-    pub each-turn : u ≡ announcedAt p key message2 first (shareOf p shares i) l (take (b + room - b) (drop b out))
-        → Left p before out i n → EachAnnounced p key message2 first shares l before out i → EachAnnounced p key message2 first shares l before next (i + 1)
-    unfolding part
-    each-turn e left h j k = go (ℕ-discrete j i)
-      where
-        same : u ≡ announcedAt p key message2 first (shareOf p shares i) l (blockOf p before i)
-        same =
-            let s : b + room - b ≡ rowLength p = omega arith in
-            e ∙ ap₂ (λ (m m′ : ℕ). announcedAt p key message2 first (shareOf p shares i) l (take m (drop m′ out))) s eb
-            ∙ ap (announcedAt p key message2 first (shareOf p shares i) l) (left i (omega arith) below)
+  pub each-turn : (f : ℕ → List ℕ → List ℕ) → u ≡ f i (take (b + room - b) (drop b out)) → Left p before out i n → Each p f before out i
+      → Each p f before next (i + 1)
+  unfolding part
+  each-turn f e left h j k = go (ℕ-discrete j i)
+    where
+      same : u ≡ f i (blockOf p before i)
+      same =
+          let s : b + room - b ≡ rowLength p = omega arith in
+          e ∙ ap₂ (λ (m m′ : ℕ). f i (take m (drop m′ out))) s eb ∙ ap (f i) (left i (omega arith) below)
 
-        go : Dec (j ≡ i) → blockOf p next j ≡ announcedAt p key message2 first (shareOf p shares j) l (blockOf p before j)
-        go (yes q) = ap (blockOf p next) q ∙ own ∙ same ∙ ap (λ (m : ℕ). announcedAt p key message2 first (shareOf p shares m) l (blockOf p before m)) (sym q)
-        go (no q) = other j (omega arith) q ∙ h j (omega arith)
+      go : Dec (j ≡ i) → blockOf p next j ≡ f j (blockOf p before j)
+      go (yes q) = ap (blockOf p next) q ∙ own ∙ same ∙ ap (λ (m : ℕ). f m (blockOf p before m)) (sym q)
+      go (no q) = other j (omega arith) q ∙ h j (omega arith)
 
 -- ---- all positions
 

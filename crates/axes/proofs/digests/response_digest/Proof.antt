@@ -7,7 +7,7 @@ use borrow.Author.Needs.{needs}
 use lib.ListN.{length}
 use Rattle.lists.specs.Part.Laws.{part-fits}
 use Rattle.parameters.specs.declared.Parameters.{Parameters}
-use Rattle.layout.specs.Layout.{axisLength}
+use Rattle.layout.specs.Layout.{axisLength, rowsLength}
 use Rattle.axes.specs.Streamed.{streamed, streamed-none, streamed-turn, streamed-end}
 use Rattle.axes.proofs.digests.response_digest.Statement.{statement}
 use Rattle.axes.proofs.digests.response_digest.Tie as tie
@@ -20,7 +20,7 @@ abbrev μ-loop : tie.MeasureT-loop
 μ-loop p prefix rows out axes all₀ width b₀ j₀ all b j = p .axes - j
 
 -- row j lies within the slice
-inside : (p : Parameters) (rows : List ℕ) (j b : ℕ) → length rows ≡ p .axes * axisLength p → b ≡ j * axisLength p → j < p .axes → b + axisLength p ≤ length rows
+inside : (p : Parameters) (rows : List ℕ) (j b : ℕ) → length rows ≡ rowsLength p → b ≡ j * axisLength p → j < p .axes → b + axisLength p ≤ length rows
 inside p rows j b sized e h = omega (arith, part-fits j (p .axes) (axisLength p) h)
 
 loop-holds : tie.Need-loop-holds Inv-loop μ-loop

@@ -1,11 +1,9 @@
 -- The sessions that calls reach from a fresh one.
 --
 -- Reached cs, reached     what the calls cs tell is that of a stage, whose calls passed their checks, and the session is the stage's
--- reached-is              the session after the calls is the one that the history tells
--- reached-passed          the begin, points, response and leaf since then passed their checks
 -- guard-idle              in every session reached from a fresh one by any calls the guard changes nothing
 -- since-stage             the calls since the last begin decide what the history tells
-use mathlib.Core.Path.{_≡_, refl, sym, ap, subst, _∙_}
+use mathlib.Core.Path.{_≡_, refl, sym, ap, _∙_}
 use mathlib.Core.List.{List, [], _∷_}
 use Prim.Native.Nat.{ℕ}
 use Rattle.calls.specs.Verifier.{Verifier, fresh, standing}
@@ -43,12 +41,6 @@ module _ (hash : List ℕ → ℕ → List ℕ) where
         where
           m : Moves hash (r .stage) c
           m = moves hash (r .stage) (r .passed) c
-
-  pub reached-passed : (cs : List Call) → Passed (telling (made hash cs))
-  reached-passed cs = let r = reached cs in subst Passed (sym (r .tells)) (r .passed)
-
-  pub reached-is : (cs : List Call) → after hash cs ≡ session (telling (made hash cs))
-  reached-is cs = let r = reached cs in r .session-at ∙ ap session (sym (r .tells))
 
   pub guard-idle : (cs : List Call) → standing (after hash cs) ≡ after hash cs .phase
   guard-idle cs =

@@ -7,14 +7,14 @@ use borrow.Author.Needs.{needs}
 use Rattle.lists.specs.Part.{part}
 use Rattle.lists.specs.Part.Laws.{part-fits}
 use Rattle.lists.specs.Equal.{eqList}
-use Rattle.layout.specs.Layout.{axisLength}
+use Rattle.layout.specs.Layout.{axisLength, rowsLength}
 use Rattle.shake256.specs.Fips.{SHAKE256}
 use Rattle.exchange.specs.Strings.{string}
 use Rattle.comparison.specs.Comparison.{digestAt}
 use Rattle.comparison.proofs.digests.same_digest.Statement.{statement}
 use Rattle.comparison.proofs.digests.same_digest.Tie as tie
 
-fits : (s : tie.Start) (n : ℕ) → n ≡ axisLength (s .args .p) → s .args .axis * n + n ≤ s .args .p .axes * axisLength (s .args .p)
+fits : (s : tie.Start) (n : ℕ) → n ≡ axisLength (s .args .p) → s .args .axis * n + n ≤ rowsLength (s .args .p)
 fits s n e = omega (arith, part-fits (s .args .axis) (s .args .p .axes) n (s .pre .1), ap (_*_ (s .args .p .axes)) e)
 
 part-axis-digest-end-2 : tie.Need-part-axis-digest-end-2

@@ -1,17 +1,15 @@
 -- Each return has what the searches before it found (`Steps`); the rows are parts of what the openings give (`rows-lent`).
 use mathlib.Core.Path.{_≡_, sym, ap, subst}
 use mathlib.Core.List.{List}
-use Prim.Native.Nat.{ℕ, _-_, _*_, _≤_}
+use Prim.Native.Nat.{ℕ, _-_, _≤_}
 use native.Mathlib.Omega.{arith}
 use borrow.Author.Needs.{needs}
 use lib.ListN.{length, take, drop}
-use Rattle.layout.specs.Layout.{axisLength}
+use Rattle.layout.specs.Layout.{rowsLength, openedLength}
 use Rattle.exchange.specs.Extractor.{Finding}
 use Rattle.openings.specs.Parts.{rowsIn}
-use Rattle.layout.specs.Layout.{openedLength}
-use Rattle.openings.specs.Parts.Laws.{length-rowsIn}
+use Rattle.openings.specs.Parts.Laws.{length-rowsIn, rows-lent}
 use Rattle.comparison.specs.Comparison.Steps.{response-apart, row-apart, rows-equal}
-use Rattle.comparison.specs.Opened.Laws.{rows-lent}
 use Rattle.comparison.specs.Found.{Found, named}
 use Rattle.comparison.proofs.findings.compare.Statement.{statement}
 use Rattle.comparison.proofs.findings.compare.Tie as tie
@@ -23,10 +21,10 @@ abbrev lent : tie.After-rows-end → List ℕ → List ℕ
 lent c o = take (c .rows-end .result - c .before .states-length .result) (drop (c .before .states-length .result) o)
 
 rows : (c : tie.After-rows-end) (o : List ℕ) → lent c o ≡ rowsIn (back c .args .p) o
-rows c o = rows-lent (back c .args .p) o _ _ (c .before .states-length .ensures) (c .rows-end .ensures)
+rows c o = rows-lent (back c .args .p) o (c .before .states-length .ensures) (c .rows-end .ensures)
 
 fits : (c : tie.After-rows-end) (o : List ℕ) → length o ≡ openedLength (back c .args .p)
-    → back c .args .p .axes * axisLength (back c .args .p) ≤ length (lent c o)
+    → rowsLength (back c .args .p) ≤ length (lent c o)
 fits c o l = omega (arith, ap length (rows c o), length-rowsIn (back c .args .p) o l)
 
 returns : tie.Need-returns

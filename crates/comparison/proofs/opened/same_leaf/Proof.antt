@@ -5,9 +5,9 @@ use native.Mathlib.Omega.{arith}
 use borrow.Author.Needs.{needs}
 use borrow.Author.Tests.{not-true, not-false}
 use lib.ListN.{length}
+use Rattle.lists.specs.Part.Laws.{lent-part}
 use Rattle.lists.specs.Equal.{eqList}
 use Rattle.comparison.specs.Comparison.{stateAt}
-use Rattle.comparison.specs.Opened.Laws.{state-lent}
 use Rattle.comparison.specs.Comparison.Leaf.{leaf-apart, leaf-last, leaf-other}
 use Rattle.comparison.proofs.opened.same_leaf.Statement.{statement}
 use Rattle.comparison.proofs.opened.same_leaf.Tie as tie
@@ -23,7 +23,7 @@ back c = search
 
 compared : (c : tie.After-equal)
     → c .equal .result ≡ eqList (stateAt (back c .args .opened .now) (back c .args .leaf)) (stateAt (back c .args .other-opened .now) (back c .args .leaf))
-compared c = c .equal .ensures ∙ ap₂ eqList (state-lent _ (back c .args .leaf)) (state-lent _ (back c .args .leaf))
+compared c = c .equal .ensures ∙ ap₂ eqList (lent-part _ (32 * back c .args .leaf) 32) (lent-part _ (32 * back c .args .leaf) 32)
 
 returns-2 : tie.Need-returns-2
 returns-2 c = let test : tie.Else1 = search in let s = back (test .before) in

@@ -5,11 +5,9 @@ use native.Mathlib.Omega.{arith}
 use borrow.Author.Needs.{needs}
 use lib.ListN.{length, take}
 use lib.Seq.{length-take-le}
-use Rattle.layout.specs.Layout.{workLength}
+use Rattle.layout.specs.Layout.{openedLength, statementLength, workLength}
 use Rattle.exchange.specs.Values.{keyOf}
-use Rattle.layout.specs.Layout.{openedLength}
 use Rattle.openings.specs.Statement.{exchangeIn}
-use Rattle.layout.specs.Layout.{statementLength}
 use Rattle.openings.specs.Checked.{Checked}
 use Rattle.extractor.specs.Judged.Laws.{judged}
 use Rattle.extractor.proofs.judge.judge.Statement.{statement}
@@ -46,12 +44,12 @@ returns : tie.Need-returns
 returns c =
     let checked : tie.After-check-opening = search in let all : tie.After-opened-length = search in let area : tie.After-work-length = search in
     let size : tie.After-statement-length = search in let s = back all in
-    judged _ _ _ _ _ _ (subst (λ (n : ℕ). Checked (s .args .p)
+    judged (subst (λ (n : ℕ). Checked (s .args .p)
     (exchangeIn (s .args .p) (take n (s .args .statement .now)) (s .args .leaf) (s .args .message5 .now))
     (keyOf (s .args .matrix .now) (s .args .y .now)) (checked .check-opening .result) (checked .check-opening .last .1 .1 .1 .1 .1 .1 .0)
     (checked .check-opening .last .1 .1 .1 .1 .1 .1 .1 .0)) (size .statement-length .ensures) (checked .check-opening .ensures))
-    (checked .check-opening .kept .1 .1 .1 .1 .1 .1 .1 .0 ∙ opened-size s _ (all .opened-length .ensures) ∙ all .opened-length .ensures) _ _
-    (area .work-length .ensures) _
+    (checked .check-opening .kept .1 .1 .1 .1 .1 .1 .1 .0 ∙ opened-size s _ (all .opened-length .ensures) ∙ all .opened-length .ensures)
+    (s .args .work .now) (s .args .opened .now) (area .work-length .ensures) (all .opened-length .ensures)
 
 pub judge-spec : {M : Type 1} → statement M
 judge-spec = tie.close (tie.spec (λ c κs. search needs) (λ c κs. search needs) (λ c κs. search needs)

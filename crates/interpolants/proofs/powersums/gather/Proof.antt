@@ -3,7 +3,7 @@ use mathlib.Core.Path.{_≡_, refl}
 use Prim.Native.Nat.{_+_, _*_, _-_, _≤_}
 use native.Mathlib.Omega.{arith}
 use borrow.Author.Needs.{needs}
-use lib.ListN.{length, take}
+use lib.ListN.{length}
 use Rattle.interpolants.specs.Sums.{total}
 use Rattle.interpolants.specs.Added.{Added, added-first, added-next}
 use Rattle.interpolants.specs.Classes.{scaledBy, progression, classSum}
@@ -11,12 +11,12 @@ use Rattle.interpolants.proofs.powersums.gather.Statement.{statement}
 use Rattle.interpolants.proofs.powersums.gather.Tie as tie
 
 abbrev Inv-loop : tie.InvT-loop
-Inv-loop c₀ a m scales class tables q₀ c q =
+Inv-loop c₀ rows n scales class tables q₀ c q =
     (q ≤ 17) × (length c ≡ length c₀)
-    × Added 17 (λ o. total (λ q. progression (scaledBy (take m a) scales (class + 15 * q)) 0 (class + 15 * q) o) q) c₀ c
+    × Added 17 (λ k. total (λ q. progression (scaledBy rows n scales (class + 15 * q)) 0 (class + 15 * q) (16 - k)) q) c₀ c
 
 abbrev μ-loop : tie.MeasureT-loop
-μ-loop c₀ a m scales class tables q₀ c q = 17 - q
+μ-loop c₀ rows n scales class tables q₀ c q = 17 - q
 
 loop-again : tie.Need-loop-again Inv-loop μ-loop
 loop-again c = let r : tie.After-add-entry Inv-loop μ-loop = search in let p : tie.At-loop Inv-loop μ-loop = search in

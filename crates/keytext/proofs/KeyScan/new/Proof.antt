@@ -1,6 +1,5 @@
 -- The scanners of the kinds start too.
 use borrow.Author.Needs.{needs}
-use Rattle.keytext.specs.Scan.{start}
 use Rattle.keytext.proofs.KeyScan.new.Statement.{statement}
 use Rattle.keytext.proofs.KeyScan.new.Tie as tie
 

@@ -43,7 +43,8 @@ loop-again : tie.Need-loop-again Inv-loop μ-loop
 loop-again c = let first : tie.After-begin Inv-loop μ-loop = search in let start : tie.Start Inv-loop μ-loop = search in
     let head = c .before .before in let counted = head .before in let args = start .args in let i = head .loop .i in
     let f = commitmentsOf (args .p) (args .prefix .now) (args .states .now) (args .hidden-leaf) (args .given .now) (args .aux .now) in
-    let is = commitments-begun (args .p) (args .prefix .now) (args .states .now) (args .hidden-leaf) (args .given .now) (args .aux .now) i (first .begin .result) (first .begin .ensures) in
+    let is = commitments-begun (args .p) (args .prefix .now) (args .states .now) (args .hidden-leaf) (args .given .now) (args .aux .now) i
+    (first .begin .result) (first .begin .ensures) in
     (omega arith, c .absorb-commitment .ensures ∙ ap₂ absorbed (head .loop .inv .1) is ∙ committed-more (args .prefix .now) f i)
 
 returns : tie.Need-returns Inv-loop μ-loop

@@ -5,8 +5,8 @@ use native.Mathlib.Omega.{arith}
 use borrow.Author.Needs.{needs}
 use lib.ListN.{length}
 use Rattle.lists.specs.Part.{putAt}
-use Rattle.lists.specs.Part.Laws.{lent-part}
-use Rattle.seedtree.proofs.Lent.{lent-length, part-back}
+use Rattle.lists.specs.Part.Laws.{lent-part, length-lent}
+use Rattle.seedtree.proofs.Lent.{part-back}
 use Rattle.leaves.specs.After.{stateAfter}
 use Rattle.leaves.specs.After.Laws.{length-bytesAfter}
 use Rattle.leaves.specs.States.{seedAt}
@@ -23,6 +23,7 @@ returns c = let filled : tie.After-leaf-state = search in let read : tie.After-s
 pub put-state-spec : {M : Type 1} → statement M
 put-state-spec = tie.close (tie.spec (λ c. search needs) (λ c. search needs) (λ c. search needs) (λ c. search needs) (λ c. search needs)
     (λ c. search needs) (λ c. search needs)
-    (λ c κs. let s : tie.Start = search in lent-length (s .args .states .now) (16 * (s .args .n + s .args .leaf)) 16 (omega (arith, s .pre .0 .room, s .pre .1)))
+    (λ c κs. let s : tie.Start = search in length-lent (16 * (s .args .n + s .args .leaf)) 16 (s .args .states .now)
+    (omega (arith, s .pre .0 .room, s .pre .1)))
     (λ c. search needs) (λ c. search needs) (λ c. search needs) (λ c. search needs) (λ c. search needs) (λ c κs. search needs) (λ c. search needs)
     returns)

@@ -27,7 +27,9 @@ loop-again c = let after-product : tie.After-product Inv-loop μ-loop = search i
       omega arith,
       c .before .before .put-point .ensures
           ∙ write-turn (productsOf (s .args .p) (s .args .drawn .now)) (s .args .out .now) _ _ (h .l) n (h .inv .1)
-          (product-made (s .args .p) (s .args .drawn .now) (h .l) _ _ _ (after-point-at .point-at .ensures) (after-point-at2 .point-at2 .ensures ∙ ap (λ (n : ℕ). bytesOf (pointAt (s .args .drawn .now) (n + 4 * h .l))) (b .factor-length .ensures)) (after-product .product .ensures)),
+          (product-made (s .args .p) (s .args .drawn .now) (h .l) _ _ _ (after-point-at .point-at .ensures)
+          (after-point-at2 .point-at2 .ensures ∙ ap (λ (n : ℕ). bytesOf (pointAt (s .args .drawn .now) (n + 4 * h .l))) (b .factor-length .ensures))
+          (after-product .product .ensures)),
       c .before .before .put-point .kept .0 ∙ h .inv .2,
     )
 

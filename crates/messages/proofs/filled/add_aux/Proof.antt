@@ -8,7 +8,7 @@ use Rattle.lists.specs.Sum.{xorAt}
 use Rattle.lists.specs.Part.Laws.{lent-part}
 use Rattle.layout.specs.Layout.{sumsLength}
 use Rattle.messages.specs.Auxiliary.{auxFor}
-use Rattle.messages.specs.Response.Laws.{total-fits}
+use Rattle.layout.specs.Layout.Bounds.{total-fits}
 use Rattle.messages.proofs.filled.add_aux.Statement.{statement}
 use Rattle.messages.proofs.filled.add_aux.Tie as tie
 

@@ -16,7 +16,8 @@ put-at-requires c κs = let s : tie.Start = search in let a = s .args in
 
 returns-2 : tie.Need-returns-2
 returns-2 c = let else1 : tie.Else1 = search in let after-is-last : tie.After-is-last = search in let s : tie.Start = search in let a = s .args in
-    aux-put (isLast (a .p) (a .leaf)) (a .at) (a .aux .now) (a .out .now) (s .pre .1) _ (sym (after-is-last .is-last .ensures) ∙ else1 .if1 .left) (c .before .before .put-at .ensures)
+    aux-put (isLast (a .p) (a .leaf)) (a .at) (a .aux .now) (a .out .now) (s .pre .1) _ (sym (after-is-last .is-last .ensures) ∙ else1 .if1 .left)
+    (c .before .before .put-at .ensures)
 
 pub put-aux-spec : {M : Type 1} → statement M
 put-aux-spec = tie.close (tie.spec (λ c κs. search needs) returns put-at-requires (λ c. search needs) returns-2)

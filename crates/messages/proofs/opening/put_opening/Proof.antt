@@ -53,7 +53,8 @@ put-aux-requires c κs = let second : tie.After-put-leaf = search in let first :
           (second .put-leaf .last .1 .1 .1 .1 .1 .1 .1 .0) (fits v) (first .sibling-seeds .kept .1 .1 .1 .1 .0) (second .put-leaf .kept .1 .1 .1 .1 .1 .1 .1 .0)
           ∙ s .pre .out-is ∙ opening-length p (s .args .leaf)
           ∙ ap₂ (λ (n m : ℕ). n + (32 + m) + tail) (sym (v .before .siblings-length .ensures)) (sym (v .values-length .ensures))
-          ∙ ap (λ (k : ℕ). v .before .siblings-length .result + (32 + v .values-length .result) + cond (isLast p (s .args .leaf)) 0 k) (sym (s .pre .of .aux-is)),
+          ∙ ap (λ (k : ℕ). v .before .siblings-length .result + (32 + v .values-length .result) + cond (isLast p (s .args .leaf)) 0 k)
+          (sym (s .pre .of .aux-is)),
     )
 
 returns : tie.Need-returns
@@ -61,7 +62,8 @@ unfolding openingOf
 returns c = let second : tie.After-put-leaf = search in let first : tie.After-sibling-seeds = search in let v : tie.After-values-length = search in
     let d : tie.After-levels = search in let s = start v in let a = s .args in let rest : List ℕ = cond (isLast (a .p) (a .leaf)) [] (a .aux .now) in
     pieces-made (v .before .siblings-length .result) (32 + v .values-length .result) (a .out .now) (first .sibling-seeds .last .1 .1 .1 .1 .0)
-    (second .put-leaf .last .1 .1 .1 .1 .1 .1 .1 .0) (fits v) (first .sibling-seeds .kept .1 .1 .1 .1 .0) (second .put-leaf .kept .1 .1 .1 .1 .1 .1 .1 .0) rest _
+    (second .put-leaf .last .1 .1 .1 .1 .1 .1 .1 .0) (fits v) (first .sibling-seeds .kept .1 .1 .1 .1 .0)
+    (second .put-leaf .kept .1 .1 .1 .1 .1 .1 .1 .0) rest _
     (c .before .before .put-aux .ensures) ∙ ap₂ (λ (y z : List ℕ). y ++ (z ++ rest)) (first .sibling-seeds .ensures
     ∙ ap₂ (λ (q : List ℕ) (n : ℕ). siblingSeeds SHAKE256 q n 1 (take 16 (a .run .now)) (a .leaf)) (tail-part (a .run .now) 16) (d .levels .ensures))
     (second .put-leaf .ensures

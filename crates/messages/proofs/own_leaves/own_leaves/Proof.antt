@@ -8,10 +8,11 @@ use borrow.Author.Needs.{needs}
 use Rattle.lists.specs.Part.Laws.{tail-part}
 use Rattle.lists.specs.Zeroed.{zeroed}
 use Rattle.points.specs.Written.{front-length}
+use Rattle.layout.specs.Layout.Bounds.{share-fits}
 use Rattle.messages.specs.Auxiliary.{auxFor}
 use Rattle.messages.specs.Fronts.{x-fits, x-length, x-light, front-zeroed, Front, front-back}
 use Rattle.messages.specs.Own.{sumOf}
-use Rattle.messages.specs.Own.Laws.{share-fits, aux-made}
+use Rattle.messages.specs.Own.Laws.{aux-made}
 use Rattle.messages.specs.Run.{runIn, root-length}
 use Rattle.messages.proofs.own_leaves.own_leaves.Statement.{statement}
 use Rattle.messages.proofs.own_leaves.own_leaves.Tie as tie

@@ -14,7 +14,7 @@ use Rattle.layout.specs.Layout.Bounds.{levels-most, leaves-most}
 use Rattle.exchange.specs.Tree.{leafSeeds}
 use Rattle.seedtree.specs.Laid.{laid}
 use Rattle.leaves.specs.States.{statesOf}
-use Rattle.leaves.specs.States.Seeds.{half-back, levels-is}
+use Rattle.leaves.specs.States.Seeds.{half-back}
 use Rattle.messages.specs.Own.{ownStates}
 use Rattle.messages.proofs.own_leaves.own_states.Statement.{statement}
 use Rattle.messages.proofs.own_leaves.own_states.Tie as tie
@@ -33,9 +33,10 @@ unfolding ownStates
 returns c = let filled : tie.After-leaf-states = search in let seeded : tie.After-leaf-seeds = search in let d : tie.After-levels = search in
     let counted : tie.After-leaf-count = search in let s : tie.Start = search in let run = s .args .run .now in
     filled .leaf-states .ensures
-    ∙ ap₂ (statesOf _) (half-back (s .args .states .now) _ (16 * counted .leaf-count .result) (omega arith) ∙ seeded .leaf-seeds .ensures) (counted .leaf-count .ensures)
+    ∙ ap₂ (statesOf _) (half-back (s .args .states .now) _ (16 * counted .leaf-count .result) (omega arith) ∙ seeded .leaf-seeds .ensures)
+    (counted .leaf-count .ensures)
     ∙ ap₂ (λ (q : List ℕ) (k : ℕ). statesOf q (laid (leafSeeds SHAKE256 q k 1 (take 16 run))) (leaves (s .args .p))) (tail-part run 16)
-    (d .levels .ensures ∙ levels-is (s .args .p))
+    (d .levels .ensures)
 
 pub own-states-spec : {M : Type 1} → statement M
 own-states-spec = tie.close (tie.spec (λ c κs. search needs) (λ c κs. search needs) (λ c. search needs) (λ c. search needs) (λ c. search needs)

@@ -6,7 +6,8 @@ use native.Mathlib.Omega.{arith}
 use borrow.Author.Needs.{needs}
 use Rattle.lists.specs.Sum.{xorAt}
 use Rattle.layout.specs.Layout.{shareLength}
-use Rattle.parties.specs.Sums.Index.{total-lt, sum-fits, sums-small}
+use Rattle.layout.specs.Layout.Laws.{total-lt, sum-fits}
+use Rattle.layout.specs.Layout.Bounds.{sums-small}
 use Rattle.openings.proofs.commitment.sum_leaves.Statement.{statement}
 use Rattle.openings.proofs.commitment.sum_leaves.Tie as tie
 

@@ -1,13 +1,13 @@
 -- The sums stand in the front of the work area, the rows go to the middle of `opened`, and all of the work area is zeroed (`zeroed-all`).
 use mathlib.Core.Path.{_≡_, refl, sym, ap, ap₂, _∙_}
 use mathlib.Core.List.{List}
-use Prim.Native.Nat.{ℕ, _-_, _*_}
+use Prim.Native.Nat.{ℕ, _-_}
 use native.Mathlib.Omega.{arith}
 use borrow.Author.Needs.{needs}
 use lib.ListN.{length, take, drop, replicate}
 use lib.Seq.{length-take-le}
 use Rattle.lists.specs.Zeroed.Laws.{zeroed-all}
-use Rattle.layout.specs.Layout.{axisLength}
+use Rattle.layout.specs.Layout.{rowsLength}
 use Rattle.layout.specs.Layout.Bounds.{sums-fit}
 use Rattle.exchange.specs.Sequences.{joined}
 use Rattle.exchange.specs.Values.{keyOf}
@@ -38,7 +38,7 @@ abbrev starts-of : tie.After-rows-end → tie.After-states-length
 starts-of c = search
 
 middle : (c : tie.After-rows-end) → let n = starts-of c .states-length .result in let s = start-of c in
-    length (take (c .rows-end .result - n) (drop n (s .args .opened .now))) ≡ s .args .p .axes * axisLength (s .args .p)
+    length (take (c .rows-end .result - n) (drop n (s .args .opened .now))) ≡ rowsLength (s .args .p)
 middle c = let s = start-of c in
     ap length (rows-lent (s .args .p) (s .args .opened .now) (starts-of c .states-length .ensures) (c .rows-end .ensures)) ∙ length-rowsIn
     (s .args .p) (s .args .opened .now) (s .pre .sized-opened)

@@ -42,7 +42,8 @@ returns c = let drawn : tie.After-drawn-length = search in let start : tie.Start
       λ prefix b.
           take-at ys (drop size (args .out .now)) size (filled .kept .1 .1 .1 .0 ∙ front drawn)
           ∙ filled .ensures ∙ draw-begun (args .shares) prefix (args .leaf) _ _ b
-          ∙ ap₂ (λ (s : List ℕ) (n : ℕ). SHAKE256 (string3 prefix (args .leaf) (take 16 s)) n) (lent (args .states .now) (args .leaf)) (front drawn ∙ drawn .drawn-length .ensures)
+          ∙ ap₂ (λ (s : List ℕ) (n : ℕ). SHAKE256 (string3 prefix (args .leaf) (take 16 s)) n) (lent (args .states .now) (args .leaf))
+          (front drawn ∙ drawn .drawn-length .ensures)
           ∙ sym (drawnShare-is (args .p) prefix (args .states .now) (args .leaf)),
     )
 

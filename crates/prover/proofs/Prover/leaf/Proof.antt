@@ -3,9 +3,9 @@ use mathlib.Core.Path.{_≡_, _∙_}
 use borrow.Author.Needs.{needs}
 use Rattle.shake256.specs.Fips.{SHAKE256}
 use Rattle.exchange.specs.Values.{keyOf}
-use Rattle.calls.specs.Prover.{leafChecks}
+use Rattle.calls.specs.Prover.{leafChecks, leaf}
 use Rattle.prover.specs.Arguments.Laws.{passed, failed}
-use Rattle.prover.specs.Checks.{leaf-refused, leaf-done, leaf-facts}
+use Rattle.prover.specs.Checks.{refused-call, done-call, leaf-facts}
 use Rattle.prover.specs.Held.{held}
 use Rattle.prover.proofs.Arrays.{x-length}
 use Rattle.prover.proofs.Prover.leaf.Statement.{statement}
@@ -20,9 +20,9 @@ answers : (c : tie.After-leaf-checks) → (let a = start c .args in c .leaf-chec
 answers c = let s = start c .args .self in c .leaf-checks .ensures (s .salt) (s .root) (s .message2)
 
 returns : tie.Need-returns
+unfolding leaf
 returns c = let called : tie.After-leaf-checks = search in let a = start called .args in
-    leaf-refused SHAKE256 (held (a .self)) (a .work .now) (a .out .now) (keyOf (a .matrix .now) (a .y .now)) _ (a .leaf) (answers called)
-    (failed (c .before .is-done .ensures) (c .if1 .taken))
+    refused-call _ _ (held (a .self)) (a .out .now) (a .work .now) _ (answers called) (failed (c .before .is-done .ensures) (c .if1 .taken))
 
 opened-requires : tie.Need-opened-requires
 opened-requires c κs = let e : tie.Else1 = search in let called : tie.After-leaf-checks = search in let a = start called .args in
@@ -30,11 +30,11 @@ opened-requires c κs = let e : tie.Else1 = search in let called : tie.After-lea
     (passed (e .before .is-done .ensures) (e .if1 .left))
 
 returns-2 : tie.Need-returns-2
+unfolding leaf
 returns-2 c = let made : tie.After-opened = search in let e : tie.Else1 = search in let called : tie.After-leaf-checks = search in
     let a = start called .args in
     made .opened .ensures
-    ∙ leaf-done SHAKE256 (held (a .self)) (a .work .now) (a .out .now) (keyOf (a .matrix .now) (a .y .now)) _ (a .leaf) (answers called)
-    (passed (e .before .is-done .ensures) (e .if1 .left))
+    ∙ done-call _ _ (held (a .self)) (a .out .now) (a .work .now) _ (answers called) (passed (e .before .is-done .ensures) (e .if1 .left))
 
 pub leaf-spec : {M : Type 1} → statement M
 leaf-spec = tie.close (tie.spec (λ c. search needs) (λ c κs. let s : tie.Start = search in x-length (s .args .self) (s .good .0))

@@ -1,8 +1,6 @@
--- The tests in a row.
-use mathlib.Core.Path.{_∙_, ap}
-use mathlib.Core.Bool.{_&&_}
-use lib.Dec.{eqb}
+-- Each return has the tests that the definition is made of.
 use borrow.Author.Needs.{needs}
+use borrow.Author.Tests.{eq-eqb, ne-eqb}
 use Rattle.layout.specs.Lent.{lent}
 use Rattle.prover.specs.Arguments.{beginTests}
 use Rattle.prover.proofs.arguments.begin_lengths.Statement.{statement}
@@ -10,11 +8,24 @@ use Rattle.prover.proofs.arguments.begin_lengths.Tie as tie
 
 returns : tie.Need-returns
 unfolding lent beginTests
-returns c = let salt : tie.After-both3 = search in let root : tie.After-both2 = search in let out : tie.After-both = search in
-    let key : tie.After-lent = search in let s : tie.Start = search in let a = s .args in
-    c .both4 .ensures ∙ ap (_&&_ (eqb (a .x-a) (a .p .k))) (salt .both3 .ensures ∙ ap (_&&_ (eqb (a .others .salt) 32))
-    (root .both2 .ensures ∙ ap (_&&_ (eqb (a .others .root) 16)) (out .both .ensures ∙ ap (_&&_ (eqb (a .others .out) 64)) (key .lent .ensures))))
+returns c = let out : tie.Then4 = search in let root : tie.Then3 = search in let salt : tie.Then2 = search in let x : tie.Then1 = search in
+    let a = eq-eqb _ _ (root .if3 .taken) in
+    rw (eq-eqb _ _ (x .if1 .taken), eq-eqb _ _ (salt .if2 .taken), a, eq-eqb _ _ (out .if4 .taken)) (c .lent .ensures)
+
+returns-2 : tie.Need-returns-2
+unfolding beginTests
+returns-2 c = let root : tie.Then3 = search in let salt : tie.Then2 = search in let x : tie.Then1 = search in
+    rw (eq-eqb _ _ (x .if1 .taken), eq-eqb _ _ (salt .if2 .taken), eq-eqb _ _ (root .if3 .taken), ne-eqb _ _ (c .if4 .left))
+
+returns-3 : tie.Need-returns-3
+unfolding beginTests
+returns-3 c = let salt : tie.Then2 = search in let x : tie.Then1 = search in
+    rw (eq-eqb _ _ (x .if1 .taken), eq-eqb _ _ (salt .if2 .taken), ne-eqb _ _ (c .if3 .left))
+
+returns-4 : tie.Need-returns-4
+unfolding beginTests
+returns-4 c = let x : tie.Then1 = search in rw (eq-eqb _ _ (x .if1 .taken), ne-eqb _ _ (c .if2 .left))
 
 pub begin-lengths-spec : {M : Type 1} → statement M
-begin-lengths-spec = tie.close (tie.spec (λ c κs. search needs) (λ c κs. search needs) (λ c κs. search needs) (λ c κs. search needs)
-    (λ c κs. search needs) returns)
+unfolding beginTests
+begin-lengths-spec = tie.close (tie.spec (λ c κs. search needs) returns returns-2 returns-3 returns-4 (λ c. rw (ne-eqb _ _ (c .if1 .left))))

@@ -30,7 +30,8 @@ returns c = let made : tie.After-message3 = search in let run : tie.After-run-of
     let key = keyOf (a .matrix .now) (a .y .now) in
     answered-made (held (a .s)) key (a .work .now) (a .out .now) (a .message2 .now) _ _ _
     (c .responded .ensures ∙ ap (nextAnswered (held (a .s))) (c .before .padded64 .ensures))
-    (made .message3 .ensures .0 ∙ ap (λ (r : Run). message3 SHAKE256 (a .s .parameters) (heldX (held (a .s))) r key (a .message2 .now)) (run .run-of .ensures .0))
+    (made .message3 .ensures .0 ∙ ap (λ (r : Run). message3 SHAKE256 (a .s .parameters) (heldX (held (a .s))) r key (a .message2 .now))
+    (run .run-of .ensures .0))
     (made .message3 .ensures .1)
 
 pub answered-spec : {M : Type 1} → statement M

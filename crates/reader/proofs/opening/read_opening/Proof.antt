@@ -46,7 +46,6 @@ returns c =
     )
 
 pub read-opening-spec : {M : Type 1} → statement M
-read-opening-spec =
-    tie.close
-    (tie.spec (λ c κs. search needs) (λ c κs. search needs) slice-relend-prefix-read-parts slice-aggregate-read-parts slice-relend-prefix-read-parts-2
-    slice-aggregate-read-parts-2 (λ c κs. search needs) (λ c. search needs) (λ c. search needs) (λ c. search needs) returns)
+read-opening-spec = tie.close (tie.spec (λ c κs. search needs) (λ c κs. search needs) slice-relend-prefix-read-parts
+    slice-aggregate-read-parts slice-relend-prefix-read-parts-2 slice-aggregate-read-parts-2 (λ c κs. search needs)
+    (λ c. search needs) (λ c. search needs) (λ c. search needs) returns)

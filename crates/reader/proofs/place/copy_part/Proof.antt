@@ -12,25 +12,16 @@ use Rattle.reader.proofs.place.copy_part.Tie as tie
 returns : tie.Need-returns
 unfolding taken
 returns c =
-    let picked = c .before .before .before .before .before .lesser in
-    let args = c .before .before .before .before .before .before .before .before .args in
+    let picked : tie.After-lesser = search in
+    let start : tie.Start = search in
+    let args = start .args in
     let m = args .message .now in
     let out = args .out .now in
-    let e = ap (λ (n : ℕ). args .at + n) (picked .ensures) in (
-      behind-lesser m (args .at) out (args .at + picked .result) e,
-      c .before .before .put-at .ensures ∙ ap (putAt out 0) (part-lesser m (args .at) (length out) (args .at + picked .result) e),
+    let e = ap (λ (n : ℕ). args .at + n) (picked .lesser .ensures) in (
+      behind-lesser m (args .at) out (args .at + picked .lesser .result) e,
+      c .before .before .put-at .ensures ∙ ap (putAt out 0) (part-lesser m (args .at) (length out) (args .at + picked .lesser .result) e),
     )
 
 pub copy-part-spec : {M : Type 1} → statement M
-copy-part-spec =
-    tie.close
-    (tie.spec
-    (λ c. search needs)
-    (λ c κs. search needs)
-    (λ c. search needs)
-    (λ c. search needs)
-    (λ c. search needs)
-    (λ c. search needs)
-    (λ c κs. search needs)
-    (λ c. search needs)
-    returns)
+copy-part-spec = tie.close (tie.spec (λ c. search needs) (λ c κs. search needs) (λ c. search needs)
+    (λ c. search needs) (λ c. search needs) (λ c. search needs) (λ c κs. search needs) (λ c. search needs) returns)

@@ -61,14 +61,16 @@ loop-again c = let head : tie.At-loop Inv-loop μ-loop = search in let start : t
       },
       λ prefix b. made .ensures prefix b
           ∙ ap₂ (λ (s : List ℕ) (n : ℕ). putAt s 0 (grown SHAKE256 prefix n (head .loop .first) s)) (inv .1 prefix b) count-is
-          ∙ ap (λ (n : ℕ). putAt (reached SHAKE256 prefix (args .v) (args .seeds .now) i) 0 (grown SHAKE256 prefix (2 ^ i) n (reached SHAKE256 prefix (args .v) (args .seeds .now) i))) first-is
+          ∙ ap (λ (n : ℕ). putAt (reached SHAKE256 prefix (args .v) (args .seeds .now) i) 0
+          (grown SHAKE256 prefix (2 ^ i) n (reached SHAKE256 prefix (args .v) (args .seeds .now) i))) first-is
           ∙ reached-more SHAKE256 prefix length-SHAKE256 i (args .v) (args .seeds .now) (one-seed start),
     )
 
 returns : tie.Need-returns Inv-loop μ-loop
 returns c prefix b = let head = c .before .loop in let start = c .before .before .before in let d = start .args .seeds .now in
     let last : head .i ≡ start .args .l = omega (arith, head .inv .0 .within) in
-    head .inv .1 prefix b ∙ ap (reached SHAKE256 prefix (start .args .v) d) last ∙ reached-all SHAKE256 prefix (start .args .l) (start .args .v) d (start .pre .size)
+    head .inv .1 prefix b ∙ ap (reached SHAKE256 prefix (start .args .v) d) last ∙ reached-all SHAKE256 prefix (start .args .l) (start .args .v) d
+    (start .pre .size)
 
 pub descend-spec : {M : Type 1} → statement M
 descend-spec = tie.close (tie.spec Inv-loop μ-loop loop-holds (λ c κs. room (c .before))

@@ -6,7 +6,7 @@ use lib.ListN.{length, take}
 use lib.Seq.{take-all}
 use Rattle.fips.specs.Parameters.{rate}
 use Rattle.shake256.specs.Stream.{ready, absorbed}
-use Rattle.shake256.proofs.Sponges.{made-ready}
+use Rattle.shake256.proofs.Sponges.{emptied, made-ready}
 use Rattle.shake256.proofs.Turns.{absorbed-more}
 use Rattle.shake256.proofs.Sponge.absorb.Statement.{statement}
 use Rattle.shake256.proofs.Sponge.absorb.Tie as tie
@@ -18,7 +18,7 @@ abbrev μ-loop : tie.MeasureT-loop
 μ-loop s t₀ i₀ t i = length s - i
 
 at-join : (c : tie.Joined1 Inv-loop μ-loop) → (c .if1 .t ≡ ready (c .before .before .loop .t)) × (c .if1 .t .at < rate)
-at-join c = made-ready (c .before .before .loop .t) (c .if1 .t) (λ w. (omega (arith, w .0 .taken), w .2 ∙ w .1 .ensures))
+at-join c = made-ready (c .before .before .loop .t) (c .if1 .t) (λ w. (omega (arith, w .0 .taken), w .3 ∙ emptied (w .2 .ensures)))
     (λ w. (omega (arith, w .0 .left), w .1)) (c .if1 .came)
 
 loop-again : tie.Need-loop-again Inv-loop μ-loop

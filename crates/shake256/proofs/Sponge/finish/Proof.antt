@@ -8,18 +8,19 @@ use Rattle.fips.specs.Parameters.{rate, domain, final}
 use Rattle.shake256.specs.Bytes.{xorAt}
 use Rattle.shake256.specs.declared.Sponge.{Sponge}
 use Rattle.shake256.specs.Stream.{ready, finished}
-use Rattle.shake256.proofs.Sponges.{mk, made-ready}
+use Rattle.shake256.proofs.Sponges.{mk, emptied, made-ready}
 use Rattle.shake256.proofs.Sponge.finish.Statement.{statement}
 use Rattle.shake256.proofs.Sponge.finish.Tie as tie
 
 at-join : (c : tie.Joined1) → (c .if1 .t ≡ ready (c .before .args .self)) × (c .if1 .t .at < rate)
 at-join c =
-    made-ready (c .before .args .self) (c .if1 .t) (λ w. (omega (arith, w .0 .taken), w .2 ∙ w .1 .ensures)) (λ w. (omega (arith, w .0 .left), w .1))
+    made-ready (c .before .args .self) (c .if1 .t) (λ w. (omega (arith, w .0 .taken), w .3 ∙ emptied (w .2 .ensures))) (λ w. (omega (arith, w .0 .left), w .1))
     (c .if1 .came)
 
 returns : tie.Need-returns
 unfolding finished
-returns c = let join = c .before .before .before .before in
+returns c =
+    let join : tie.Joined1 = search in
     (λ t. mk (c .xor-byte2 .ensures t) rate) ∙ ap (λ (l : List ℕ). mk (xorAt l (rate - 1) final) rate)
     (c .before .before .xor-byte .ensures ∙ ap (λ (z : Sponge). xorAt (z .lanes) (z .at) domain) (at-join join .0))
 

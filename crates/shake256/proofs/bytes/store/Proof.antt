@@ -10,11 +10,17 @@ use Rattle.shake256.proofs.bytes.store.Statement.{statement}
 use Rattle.shake256.proofs.bytes.store.Tie as tie
 
 returns : tie.Need-returns
-returns c = let start = c .before .before .before .before .before .before .before .before .before in let o = start .args .out .now in
+returns c =
+    let after-byte-of4 : tie.After-byte-of4 = search in
+    let after-byte-of3 : tie.After-byte-of3 = search in
+    let after-byte-of2 : tie.After-byte-of2 = search in
+    let after-byte-of : tie.After-byte-of = search in
+    let start : tie.Start = search in
+    let o = start .args .out .now in
     let i = start .args .i in
-    sets-eight o i _ _ _ _ _ _ _ _ ∙ (λ t. sets o i (c .before .before .before .before .before .before .before .byte-of .ensures t ∷
-    c .before .before .before .before .before .before .byte-of2 .ensures t ∷ c .before .before .before .before .before .byte-of3 .ensures t ∷
-    c .before .before .before .before .byte-of4 .ensures t ∷ c .before .before .before .byte-of5 .ensures t ∷ c .before .before .byte-of6 .ensures t ∷
+    sets-eight o i _ _ _ _ _ _ _ _ ∙ (λ t. sets o i (after-byte-of .byte-of .ensures t ∷
+    after-byte-of2 .byte-of2 .ensures t ∷ after-byte-of3 .byte-of3 .ensures t ∷
+    after-byte-of4 .byte-of4 .ensures t ∷ c .before .before .before .byte-of5 .ensures t ∷ c .before .before .byte-of6 .ensures t ∷
     c .before .byte-of7 .ensures t ∷ c .byte-of8 .ensures t ∷ []))
 
 pub store-spec : {M : Type 1} → statement M

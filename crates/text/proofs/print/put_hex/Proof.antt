@@ -1,4 +1,5 @@
 -- The loop's invariant: the hex of the first i bytes stands in out from index at on, stored digit by digit (`hexText-more`).
+use borrow.Author.Needs.{needs}
 use mathlib.Core.Path.{_≡_, refl, ap, _∙_}
 use Prim.Native.Nat.{ℕ, _+_, _*_, _-_, _≤_}
 use native.Mathlib.Omega.{arith}
@@ -39,9 +40,6 @@ loop-again c =
       simp (length-set) (p .loop .inv .2),
     )
 
-same-length : tie.Need-same-length Inv-loop μ-loop
-same-length c = c .before .loop .inv .2
-
 returns : tie.Need-returns Inv-loop μ-loop
 returns c =
     let start : tie.Start Inv-loop μ-loop = search in
@@ -54,4 +52,4 @@ returns c =
 pub put-hex-spec : {M : Type 1} → statement M
 put-hex-spec = tie.close (tie.spec Inv-loop μ-loop loop-holds (λ c. omega arith) (λ c. omega arith) (λ c. omega arith)
     hex-digit-requires (λ c. omega arith) (λ c κs. omega arith) (λ c. omega arith) slice-write-out-2
-    (λ c. omega arith) (λ c. omega arith) loop-again same-length returns)
+    (λ c. omega arith) (λ c. omega arith) loop-again (λ c. search needs) returns)

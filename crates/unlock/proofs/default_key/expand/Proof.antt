@@ -12,10 +12,15 @@ use Rattle.unlock.proofs.default_key.expand.Tie as tie
 returns : tie.Need-returns
 unfolding title
 returns c =
-    let s = c .before .before in let f = s .before .before in let a = f .before .before .before .before in let at = a .before .before .before .args in
+    let f : tie.After-finish = search in
+    let after-absorb2 : tie.After-absorb2 = search in
+    let after-absorb : tie.After-absorb = search in
+    let a : tie.After-new = search in
+    let start : tie.Start = search in
+    let s = c .before .before in let at = start .args in
     let label = at .label .now in let n = length (at .out .now) in
-    s .squeeze .ensures .0 ∙ ap (λ (z : Sponge). squeezed z n) (f .finish .ensures ∙ ap finished (f .before .absorb2 .ensures ∙ ap
-    (λ (z : Sponge). absorbed z label) (f .before .before .absorb .ensures ∙ ap (λ (z : Sponge). absorbed z title) (a .new .ensures)))) ∙
+    s .squeeze .ensures .0 ∙ ap (λ (z : Sponge). squeezed z n) (f .finish .ensures ∙ ap finished (after-absorb2 .absorb2 .ensures ∙ ap
+    (λ (z : Sponge). absorbed z label) (after-absorb .absorb .ensures ∙ ap (λ (z : Sponge). absorbed z title) (a .new .ensures)))) ∙
     expanded-pieces label n
 
 pub expand-spec : {M : Type 1} → statement M

@@ -12,7 +12,9 @@ use Rattle.unlock.proofs.default_key.leaf.Tie as tie
 
 returns : tie.Need-returns
 unfolding leafLabel
-returns c = let p = c .before .before .before .before .before .before .args .p in
+returns c =
+    let start : tie.Start = search in
+    let p = start .args .p in
     c .remainder .ensures ∙ ap₂ _%_ (ap (λ (s : List ℕ). getD s 0 0) (c .before .before .before .expand .ensures))
     (c .before .leaf-count .ensures ∙ leaves-is p)
 

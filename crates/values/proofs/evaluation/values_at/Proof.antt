@@ -1,6 +1,6 @@
 -- The loop's invariant: with left coefficients to come, the values are those of the coefficients before them, the power is r to their
 -- number, and n + 1 products were made for each. A turn adds one coefficient at the top of each polynomial, which adds its product with the
--- power. The point r is known in the loop by the table of its multiples.
+-- power. The point r is known by the table of its multiples.
 use mathlib.Core.Path.{_≡_, ap, _∙_}
 use mathlib.Core.List.{List}
 use Prim.Native.Nat.{ℕ, _+_, _-_, _*_, _≤_}
@@ -21,11 +21,11 @@ Held s n stride from table values power count at j =
     × (length values ≡ n) × (at ≡ from + j) × (count ≡ j * (n + 1))
 
 abbrev Inv-loop : tie.InvT-loop
-Inv-loop s n stride from len values₀ tables table power₀ count₀ at₀ left₀ values power count at left =
+Inv-loop s n stride from len table values₀ power₀ count₀ at₀ left₀ values power count at left =
     (left ≤ len) × Held s n stride from table values power count at (len - left)
 
 abbrev μ-loop : tie.MeasureT-loop
-μ-loop s n stride from len values₀ tables table power₀ count₀ at₀ left₀ values power count at left = left
+μ-loop s n stride from len table values₀ power₀ count₀ at₀ left₀ values power count at left = left
 
 loop-holds : tie.Need-loop-holds Inv-loop μ-loop
 loop-holds c = let k : tie.After-clear Inv-loop μ-loop = search in let s : tie.Start Inv-loop μ-loop = search in let n = s .pre .0 .sized in
@@ -45,8 +45,7 @@ loop-holds c = let k : tie.After-clear Inv-loop μ-loop = search in let s : tie.
 
 next-term-requires : tie.Need-next-term-requires Inv-loop μ-loop
 next-term-requires c κs =
-    let p : tie.At-loop Inv-loop μ-loop = search in let m : tie.After-multiples-of Inv-loop μ-loop = search in
-    let s : tie.Start Inv-loop μ-loop = search in let t : length (m .multiples-of .last .0) ≡ 128 = m .multiples-of .kept .0 in let i = p .loop .inv .1 in
+    let p : tie.At-loop Inv-loop μ-loop = search in let s : tie.Start Inv-loop μ-loop = search in let i = p .loop .inv .1 in
     let ready = terms-ready _ _ _ _ _ _ (s .args .len - p .loop .left) _ _ _ (s .pre .0) (omega arith) (i .2) (i .1) (i .3) in search needs
 
 loop-again : tie.Need-loop-again Inv-loop μ-loop
@@ -66,16 +65,14 @@ loop-again c = let t : tie.After-next-term Inv-loop μ-loop = search in let p : 
     )
 
 returns : tie.Need-returns Inv-loop μ-loop
-returns c = let p : tie.At-loop Inv-loop μ-loop = search in let m : tie.After-multiples-of Inv-loop μ-loop = search in
-    let s : tie.Start Inv-loop μ-loop = search in let x = point (s .args .r) in let i = p .loop .inv .1 in
-    let b = i .0 x (m .multiples-of .ensures) in let e : s .args .len - p .loop .left ≡ s .args .len = omega arith in
+returns c = let p : tie.At-loop Inv-loop μ-loop = search in let s : tie.Start Inv-loop μ-loop = search in let i = p .loop .inv .1 in
+    let e : s .args .len - p .loop .left ≡ s .args .len = omega arith in
     let n : p .loop .count ≡ s .args .len * (s .args .n + 1) = rw e at (i .3) in (
-      rw e at (b .0),
-      rw e at (b .1),
+      λ x t. rw e at (i .0 x t),
       omega arith,
       λ h. let b = count-twice (s .args .n) (s .args .len) h in omega arith,
     )
 
 pub values-at-spec : {M : Type 1} → statement M
-values-at-spec = tie.close (tie.spec Inv-loop μ-loop (λ c κs. search needs) (λ c. search needs) (λ c κs. search needs) loop-holds (λ c. search needs)
-    next-term-requires (λ c. search needs) (λ c. search needs) (λ c. search needs) loop-again (λ c. search needs) returns)
+values-at-spec = tie.close (tie.spec Inv-loop μ-loop (λ c κs. search needs) loop-holds next-term-requires (λ c. search needs) (λ c. search needs)
+    (λ c. search needs) loop-again (λ c. search needs) returns)

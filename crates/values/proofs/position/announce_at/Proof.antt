@@ -10,9 +10,9 @@ use Rattle.tower.specs.Field.{point, bytesOf}
 use Rattle.tower.specs.Field.Laws.{point-bytesOf}
 use Rattle.exchange.specs.Reading.{pointAt}
 use Rattle.exchange.specs.Values.{pointOf, multiplierOf}
+use Rattle.points.specs.Multiples.{multiplesOf}
 use Rattle.points.specs.Written.{front-length, front-kept}
 use Rattle.values.specs.Position.{Valued}
-use Rattle.values.specs.Position.Evaluated.{at-point}
 use Rattle.values.specs.Products.{evaluations-few}
 use Rattle.values.proofs.position.announce_at.Statement.{statement}
 use Rattle.values.proofs.position.announce_at.Tie as tie
@@ -60,16 +60,16 @@ evaluate-requires c κs =
 
 announce-valued-requires : tie.Need-announce-valued-requires
 announce-valued-requires c κs =
-    let d : tie.After-evaluate = search in let s = start d in let (f, position, et) = s .pre in let sized-words = sym (again d) in
-    (search, omega (arith, d .evaluate .ensures .1, evaluations-few (s .args .p) (s .args .group .n) (f .within) (f .few)), et)
+    let d : tie.After-evaluate = search in let m : tie.After-multiples-of = search in let s = start d in let (f, position, et) = s .pre in let sized-words = sym (again d) in
+    (search, omega (arith, d .evaluate .ensures .1, evaluations-few (s .args .p) (s .args .group .n) (f .within) (f .few)), m .multiples-of .kept .0, et)
 
 returns : tie.Need-returns
 unfolding pointOf multiplierOf
-returns c = let b : tie.After-announce-valued = search in let d : tie.After-evaluate = search in let r : tie.After-point-at2 = search in
+returns c = let b : tie.After-announce-valued = search in let d : tie.After-evaluate = search in let t : tie.After-multiples-of = search in let r : tie.After-point-at2 = search in
     let m = back-to-multiplier d in let o : tie.After-points-length = search in let s = start d in let a = s .args in (
       λ key given.
-          let v = at-point (a .p) key (a .group .first) (a .shares .now) (a .group .n) _ _ _ _ _ (ap point (r .point-at2 .ensures) ∙ point-bytesOf _)
-          (d .evaluate .ensures .0 key given) in
+          let v = d .evaluate .ensures .0 key (pointOf (a .p) (a .message2 .now) (a .l)) given
+          (t .multiples-of .ensures ∙ ap multiplesOf (ap point (r .point-at2 .ensures) ∙ point-bytesOf _)) in
           b .announce-valued .ensures .0 key (a .message2 .now) (a .group .first)
           (subst (λ (w : List ℕ). Valued (a .p) key (a .group .first) (a .shares .now) (a .group .n) (pointOf (a .p) (a .message2 .now) (a .l)) w
           (d .evaluate .result .leading))
@@ -80,6 +80,7 @@ returns c = let b : tie.After-announce-valued = search in let d : tie.After-eval
 
 pub announce-at-spec : {M : Type 1} → statement M
 announce-at-spec = tie.close (tie.spec (λ c. search needs) (λ c. search needs) (λ c κs. search needs) (λ c. search needs) (λ c. search needs)
-    (λ c κs. search needs) (λ c. search needs) (λ c κs. search needs) (λ c. search needs)
-    (λ c. let r : tie.After-point-at = search in lent (back-to-start r)) evaluate-requires (λ c. let d : tie.After-evaluate = search in room d)
-    (λ c. let d : tie.After-evaluate = search in again d) announce-valued-requires (λ c. search needs) returns)
+    (λ c κs. search needs) (λ c. search needs) (λ c κs. search needs) (λ c. search needs) (λ c κs. search needs) (λ c. search needs)
+    (λ c. search needs) (λ c. let r : tie.After-point-at = search in lent (back-to-start r)) evaluate-requires
+    (λ c. let d : tie.After-evaluate = search in room d) (λ c. let d : tie.After-evaluate = search in again d) (λ c. search needs)
+    announce-valued-requires (λ c. search needs) returns)

@@ -7,7 +7,7 @@ use native.Mathlib.Omega.{arith}
 use borrow.Author.Needs.{needs}
 use lib.ListN.{length, take, drop, length-take, length-drop, length-append}
 use Rattle.lists.specs.Xor.{_⊕_}
-use Rattle.tower.specs.Field.{point, bytesOf}
+use Rattle.tower.specs.Field.{Point, bytesOf}
 use Rattle.packed.specs.Word.{bytes}
 use Rattle.points.specs.Multiples.Laws.{bytes-wordOf}
 use Rattle.points.specs.Written.{front-length}
@@ -96,7 +96,7 @@ few : (v : tie.After-values-at3) → let b = back-to-second v in let d = back-to
     d .values-at .result .made + b .values-at2 .result .made + v .values-at3 .result .made ≤ 13005
 few v = let b = back-to-second v in let d = back-to-first b in let s = start d in
     let a = evaluations-few (s .args .p) (s .args .group .n) (s .pre .0 .within) (s .pre .0 .few) in
-    omega (arith, d .values-at .ensures .2, b .values-at2 .ensures .2, v .values-at3 .ensures .2)
+    omega (arith, d .values-at .ensures .1, b .values-at2 .ensures .1, v .values-at3 .ensures .1)
 
 -- all words are there
 kept : (v : tie.After-values-at3) → let b = back-to-second v in let d = back-to-first b in
@@ -113,25 +113,25 @@ inside c = let v : tie.After-values-at3 = search in let b = back-to-second v in 
 returns : tie.Need-returns
 returns c = let a : tie.After-leading-word = search in let f : tie.After-sum = search in let o : tie.After-point-of = search in
     let v : tie.After-values-at3 = search in let b = back-to-second v in let d = back-to-first b in let r = back-to-p d in let s = back-to-start r in
-    let q = s .args .p in let x = point (s .args .r) in let first = s .args .group .first in let shares = s .args .shares .now in let k = n d in
-    let e = back-to-size r .share-length .ensures in let at : ℕ → ℕ → List ℕ = λ size from. valuesOf shares k size from (q .w) x in
+    let q = s .args .p in let first = s .args .group .first in let shares = s .args .shares .now in let k = n d in
+    let e = back-to-size r .share-length .ensures in let at : Point → ℕ → ℕ → List ℕ = λ x size from. valuesOf shares k size from (q .w) x in
     let small = s .pre .0 .within .k-most in let ps = v .values-at3 .last .1 .1 .1 .1 .1 .1 .0 in
     let middle = word-middle (w d) (qs d) (ss b) k _ (fits d) (length-qs d) (length-ss b) ps in (
-      λ key given. (
+      λ key x given table. (
         record {
           locators = λ i h. ap (λ (z : ℕ). z ⊕ a .leading-word .result) (word-front (w d) (qs d) (ss b) k _ (fits d) (length-qs d) (length-ss b) ps i h)
-              ∙ locators-made q k shares x first _ _ _ (d .values-at .ensures .0 ∙ ap₂ at e (back-to-q r .at-q .ensures)) (d .values-at .ensures .1)
+              ∙ locators-made q k shares x first _ _ _ (d .values-at .ensures .0 x table .0 ∙ ap₂ (at x) e (back-to-q r .at-q .ensures)) (d .values-at .ensures .0 x table .1)
               (a .leading-word .ensures) i h;
-          interpolants = λ i h. middle i (omega arith) ∙ interpolants-made q k shares x key first _ _ small given (b .values-at2 .ensures .0) i h;
+          interpolants = λ i h. middle i (omega arith) ∙ interpolants-made q k shares x key first _ _ small given (b .values-at2 .ensures .0 x table .0) i h;
           quotients = λ i h. word-end (w d) (qs d) (ss b) k _ (fits d) (length-qs d) (length-ss b) ps i
-              ∙ quotients-made q k shares x _ (v .values-at3 .ensures .0 ∙ ap₂ at e (r .at-p .ensures)) i h;
+              ∙ quotients-made q k shares x _ (v .values-at3 .ensures .0 x table .0 ∙ ap₂ (at x) e (r .at-p .ensures)) i h;
         },
         sum-made _ _ _ _ _
             (o .point-of .ensures ∙ ap (bytes 4) (middle k (omega arith)
-            ∙ vanishing-made q k shares x key first _ _ small given (b .values-at2 .ensures .0)) ∙ bytes-wordOf _)
-            (b .values-at2 .ensures .1) (f .sum .ensures) ∙ ap bytesOf (sym (vanishing-value q x)),
+            ∙ vanishing-made q k shares x key first _ _ small given (b .values-at2 .ensures .0 x table .0)) ∙ bytes-wordOf _)
+            (b .values-at2 .ensures .0 x table .1) (f .sum .ensures) ∙ ap bytesOf (sym (vanishing-value q x)),
       ),
-      omega (arith, d .values-at .ensures .2, b .values-at2 .ensures .2, v .values-at3 .ensures .2),
+      omega (arith, d .values-at .ensures .1, b .values-at2 .ensures .1, v .values-at3 .ensures .1),
     )
 
 pub evaluate-spec : {M : Type 1} → statement M

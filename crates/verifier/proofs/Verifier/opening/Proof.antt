@@ -13,7 +13,8 @@ abbrev start : tie.After-opening-checks → tie.Start
 start c = search
 
 -- what the checks answer, of the session
-answers : (c : tie.After-opening-checks) → (let a = start c .args in c .opening-checks .result ≡ openingChecks SHAKE256 (held (a .self)) (a .message5 .now) (keyOf (a .matrix .now) (a .y .now)) (a .work .now))
+answers : (c : tie.After-opening-checks) → (let a = start c .args in c .opening-checks .result ≡ openingChecks SHAKE256 (held (a .self)) (a .message5 .now)
+    (keyOf (a .matrix .now) (a .y .now)) (a .work .now))
 answers c = let s = start c .args .self in c .opening-checks .ensures (s .message1) (s .message2) (s .message3)
 
 returns : tie.Need-returns

@@ -20,12 +20,20 @@ leaf-count-requires c κs = let f = c in
 returns-2 : tie.Need-returns-2
 unfolding leafChecks
 returns-2 c = let f = c .before .before in
-    λ m1 m2 m3. rw (state-passed _ _ _ (sym (f .before .before .state-checks .ensures m1 m2 m3) ∙ f .enum-told .given .1) _, ← c .before .leaf-count .ensures, le-ltb _ _ (c .if1 .taken))
+    λ m1 m2 m3. rw (
+      state-passed _ _ _ (sym (f .before .before .state-checks .ensures m1 m2 m3) ∙ f .enum-told .given .1) _,
+      ← c .before .leaf-count .ensures,
+      le-ltb _ _ (c .if1 .taken),
+    )
 
 returns-3 : tie.Need-returns-3
 unfolding leafChecks
 returns-3 c = let f = c .before .before in
-    λ m1 m2 m3. rw (state-passed _ _ _ (sym (f .before .before .state-checks .ensures m1 m2 m3) ∙ f .enum-told .given .1) _, ← c .before .leaf-count .ensures, lt-ltb _ _ (c .if1 .left))
+    λ m1 m2 m3. rw (
+      state-passed _ _ _ (sym (f .before .before .state-checks .ensures m1 m2 m3) ∙ f .enum-told .given .1) _,
+      ← c .before .leaf-count .ensures,
+      lt-ltb _ _ (c .if1 .left),
+    )
 
 pub leaf-checks-spec : {M : Type 1} → statement M
 leaf-checks-spec = tie.close (tie.spec (λ c κs. search needs) (λ c. search needs) (λ c. search needs) returns leaf-count-requires returns-2 returns-3)

@@ -20,12 +20,20 @@ message2-length-requires c κs = let f = c in
 returns-2 : tie.Need-returns-2
 unfolding pointsChecks
 returns-2 c = let f = c .before .before in
-    λ m1 m2 m3. rw (state-passed _ _ _ (sym (f .before .before .state-checks .ensures m1 m2 m3) ∙ f .enum-told .given .1) _, ← c .before .message2-length .ensures, ne-eqb _ _ (c .if1 .taken))
+    λ m1 m2 m3. rw (
+      state-passed _ _ _ (sym (f .before .before .state-checks .ensures m1 m2 m3) ∙ f .enum-told .given .1) _,
+      ← c .before .message2-length .ensures,
+      ne-eqb _ _ (c .if1 .taken),
+    )
 
 returns-3 : tie.Need-returns-3
 unfolding pointsChecks
 returns-3 c = let f = c .before .before in
-    λ m1 m2 m3. rw (state-passed _ _ _ (sym (f .before .before .state-checks .ensures m1 m2 m3) ∙ f .enum-told .given .1) _, ← c .before .message2-length .ensures, eq-eqb _ _ (c .if1 .left))
+    λ m1 m2 m3. rw (
+      state-passed _ _ _ (sym (f .before .before .state-checks .ensures m1 m2 m3) ∙ f .enum-told .given .1) _,
+      ← c .before .message2-length .ensures,
+      eq-eqb _ _ (c .if1 .left),
+    )
 
 pub points-checks-spec : {M : Type 1} → statement M
 points-checks-spec = tie.close (tie.spec (λ c κs. search needs) (λ c. search needs) (λ c. search needs) returns message2-length-requires returns-2

@@ -13,12 +13,18 @@ returns c = let f = c .before in λ m1 m2 m3. rw (eq-eqb _ _ (sym (f .before .st
 returns-2 : tie.Need-returns-2
 unfolding standing
 returns-2 c = let f = c .before .before in let g = f .before in let s : tie.Start = search in
-    λ m1 m2 m3. rw (ne-eqb _ _ (λ e. f .if1 .left (g .before .step .ensures ∙ e ∙ sym (g .step2 .ensures))), sym (c .before .intact .ensures (s .args .phase) m1 m2 m3) ∙ not-true _ (c .if2 .taken))
+    λ m1 m2 m3. rw (
+      ne-eqb _ _ (λ e. f .if1 .left (g .before .step .ensures ∙ e ∙ sym (g .step2 .ensures))),
+      sym (c .before .intact .ensures (s .args .phase) m1 m2 m3) ∙ not-true _ (c .if2 .taken),
+    )
 
 returns-3 : tie.Need-returns-3
 unfolding standing
 returns-3 c = let f = c .before .before in let g = f .before in let s : tie.Start = search in
-    λ m1 m2 m3. rw (ne-eqb _ _ (λ e. f .if1 .left (g .before .step .ensures ∙ e ∙ sym (g .step2 .ensures))), sym (c .before .intact .ensures (s .args .phase) m1 m2 m3) ∙ not-false _ (c .if2 .left))
+    λ m1 m2 m3. rw (
+      ne-eqb _ _ (λ e. f .if1 .left (g .before .step .ensures ∙ e ∙ sym (g .step2 .ensures))),
+      sym (c .before .intact .ensures (s .args .phase) m1 m2 m3) ∙ not-false _ (c .if2 .left),
+    )
 
 pub standing-spec : {M : Type 1} → statement M
 standing-spec = tie.close (tie.spec (λ c κs. search needs) (λ c κs. search needs) returns (λ c κs. search needs) returns-2 returns-3)

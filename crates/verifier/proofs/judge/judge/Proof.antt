@@ -44,7 +44,8 @@ message3-length c = sym (length-map (c .args .s .message3) _) ∙ c .good .0 .1 
 points-fit : (c : tie.After-message2-length) → c .message2-length .result ≤ length (start-of c .args .s .message2)
 points-fit c = let start = start-of c in omega (arith, message2-length start, start .pre .within .t-most, c .message2-length .ensures)
 
-points-lent : (c : tie.After-message2-length) → length (take (c .message2-length .result) (start-of c .args .s .message2)) ≡ message2Length (start-of c .args .s .parameters)
+points-lent : (c : tie.After-message2-length) → length (take (c .message2-length .result) (start-of c .args .s .message2))
+    ≡ message2Length (start-of c .args .s .parameters)
 points-lent c = length-take-le _ _ (points-fit c) ∙ c .message2-length .ensures
 
 stated-fit : (c : tie.After-statement-length) → c .statement-length .result ≤ 160
@@ -115,7 +116,8 @@ returns c = let checked : tie.After-check-opening = search in let put : tie.Afte
     let result : Exchange → Answer = λ e. verdict SHAKE256 p e (keyOf (start .args .matrix .now) (start .args .y .now)) in
     let ys = checked .check-opening .last .1 .1 .1 .1 .1 .1 .0 in (
       checked .check-opening .ensures .answer ∙ ap (λ (l : List ℕ). result (exchangeIn p l (s .leaf) m5)) (lent-is put ∙ put .put-statement .ensures)
-          ∙ ap result (exchange-in p (s .message1) (take (points .message2-length .result) (s .message2)) (s .message3) (message1-length start) (points-lent points) (message3-length start) (s .leaf) m5)
+          ∙ ap result (exchange-in p (s .message1) (take (points .message2-length .result) (s .message2)) (s .message3) (message1-length start)
+          (points-lent points) (message3-length start) (s .leaf) m5)
           ∙ ap (λ (n : ℕ). result (exchange (s .message1) (take n (s .message2)) (s .message3) (s .leaf) m5)) (points .message2-length .ensures),
       ap (λ (n : ℕ). ys ++ drop n work) (back-to-area put .work-length .ensures) ∙ zeroed-front work ys (workLength p) (checked .check-opening .ensures .zeros),
     )
