@@ -9,19 +9,19 @@
 -- RowAsked           the share, its block, α̂ and β̂
 use mathlib.Core.Path.{_≡_}
 use mathlib.Core.List.{List}
-use Prim.Native.Nat.{ℕ, _-_, _*_, _≤_}
+use Prim.Native.Nat.{ℕ, _*_, _≤_}
 use lib.ListN.{length}
 use Rattle.parameters.specs.declared.Parameters.{Parameters}
 use Rattle.parameters.specs.Limits.{Within}
-use Rattle.layout.specs.Layout.{sumsLength, blocksLength, valuesLength, rowLength, shareLength, message2Length, rowsLength}
+use Rattle.layout.specs.Layout.{sumsLength, blocksLength, valuesLength, rowLength, shareLength, message2Length, rowsLength, yLength, matrixLength}
 pub mod Laws
 
 pub record RowsAsked (p : Parameters) (sums m2 matrix y hidden rows : List ℕ) : Type 0 where
   pub within : Within p
   pub sized-parts : length sums ≡ sumsLength p
   pub sized-m2 : length m2 ≡ message2Length p
-  pub sized-matrix : length matrix ≡ (p .m - p .k) * p .k
-  pub sized-y : length y ≡ p .m - p .k
+  pub sized-matrix : length matrix ≡ matrixLength p
+  pub sized-y : length y ≡ yLength p
   pub sized-hidden : length hidden ≡ valuesLength p
   pub sized-rows : length rows ≡ rowsLength p
 
@@ -30,16 +30,16 @@ pub record SomeAsked (p : Parameters) (n : ℕ) (sums m2 matrix y blocks : List 
   pub few : n ≤ 9
   pub sized-parts : length sums ≡ n * shareLength p
   pub sized-m2 : length m2 ≡ message2Length p
-  pub sized-matrix : length matrix ≡ (p .m - p .k) * p .k
-  pub sized-y : length y ≡ p .m - p .k
+  pub sized-matrix : length matrix ≡ matrixLength p
+  pub sized-y : length y ≡ yLength p
   pub sized-blocks : length blocks ≡ n * rowLength p
 
 pub record EvaluateAsked (p : Parameters) (sums m2 matrix y blocks : List ℕ) : Type 0 where
   pub within : Within p
   pub sized-parts : length sums ≡ sumsLength p
   pub sized-m2 : length m2 ≡ message2Length p
-  pub sized-matrix : length matrix ≡ (p .m - p .k) * p .k
-  pub sized-y : length y ≡ p .m - p .k
+  pub sized-matrix : length matrix ≡ matrixLength p
+  pub sized-y : length y ≡ yLength p
   pub sized-blocks : length blocks ≡ blocksLength p
 
 pub record AllAsked (p : Parameters) (sums hidden rows : List ℕ) : Type 0 where

@@ -1,5 +1,9 @@
 // How many products of the points field the announcement of shares makes, for a program that prints it: the evaluation is run
 // and its own count answered.
+use layout::LONGEST_MESSAGE2;
+use layout::LONGEST_SUMS;
+use layout::MOST_BLOCKS;
+use layout::MOST_COEFFICIENTS;
 use parameters::Parameters;
 ghost use mathlib.Core.Path.{_≡_};
 ghost use Prim.Native.Nat.{_≤_};
@@ -13,10 +17,10 @@ fn count(p: Parameters, n: usize) -> usize
     ensures { λ r. ⌜ r ≡ productsOf p n ⌝ }
 {
     let tables = bytefield::field_tables();
-    let shares = [0u8; 7740];
-    let rows = [0u8; 2550];
-    let message2 = [0u8; 64];
-    let mut out = [0u8; 864];
+    let shares = [0u8; LONGEST_SUMS];
+    let rows = [0u8; MOST_COEFFICIENTS];
+    let message2 = [0u8; LONGEST_MESSAGE2];
+    let mut out = [0u8; MOST_BLOCKS];
     let a = n * layout::share_length(p);
     let b = (n + 1) * p.m;
     let c = layout::message2_length(p);

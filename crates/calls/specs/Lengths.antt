@@ -7,16 +7,16 @@
 -- openingLengths    the verifier's opening
 use mathlib.Core.Bool.{Bool}
 use mathlib.Core.List.{List, [], _∷_}
-use Prim.Native.Nat.{ℕ, _*_, _-_}
+use Prim.Native.Nat.{ℕ}
 use lib.Dec.{eqb, leb}
 use lib.ListN.{length}
 use Rattle.parameters.specs.declared.Parameters.{Parameters}
-use Rattle.layout.specs.Layout.{message2Length, message5Length, workLength}
+use Rattle.layout.specs.Layout.{message2Length, message5Length, workLength, yLength, matrixLength}
 use Rattle.exchange.specs.Values.{Key}
 
 abbrev pub keyLengths : Parameters → Key → List ℕ → List Bool
 keyLengths p key work =
-    eqb (length (key .matrix)) ((p .m - p .k) * p .k) ∷ eqb (length (key .y)) (p .m - p .k) ∷ leb (workLength p) (length work) ∷ []
+    eqb (length (key .matrix)) (matrixLength p) ∷ eqb (length (key .y)) (yLength p) ∷ leb (workLength p) (length work) ∷ []
 
 abbrev pub beginLengths : Parameters → List ℕ → List ℕ → List ℕ → Key → List ℕ → List ℕ → List Bool
 beginLengths p xA salt root key work out =

@@ -19,14 +19,14 @@
 -- States                   the output is every leaf's state: what the openings disclose, and what their commitments are made of
 use mathlib.Core.Path.{_≡_}
 use mathlib.Core.List.{List, [], _∷_, _++_}
-use Prim.Native.Nat.{ℕ, zero, suc, _+_, _-_, _*_, _<_}
+use Prim.Native.Nat.{ℕ, zero, suc, _-_, _*_, _<_}
 use lib.ListN.{length, take, drop, replicate}
 use Rattle.lists.specs.Sum.{xorList}
 use Rattle.tower.specs.Field.{Point}
 use Rattle.parameters.specs.declared.Parameters.{Parameters}
 use Rattle.parameters.specs.Limits.{Within}
 use Rattle.polynomial.specs.Interpolant.{interpolantOf}
-use Rattle.layout.specs.Layout.{leaves, atQ, message2Length, message5Length}
+use Rattle.layout.specs.Layout.{leaves, atQ, message2Length, message5Length, yLength, matrixLength}
 use Rattle.exchange.specs.Reading.{bytesAt, value, _⊞_, _⊠_}
 use Rattle.exchange.specs.Leaf.{share, commitment}
 use Rattle.exchange.specs.Values.{Key, xAOf, POf, aOf, bOf, cOf, pointOf, multiplierOf, imageOf, F}
@@ -38,8 +38,8 @@ use Rattle.calls.specs.Extractor.{Transcript, exchangeOf}
 -- ---- two openings
 
 pub record Lent (p : Parameters) (key : Key) : Type 0 where
-  pub matrix : length (key .matrix) ≡ (p .m - p .k) * p .k
-  pub y : length (key .y) ≡ p .m - p .k
+  pub matrix : length (key .matrix) ≡ matrixLength p
+  pub y : length (key .y) ≡ yLength p
 
 pub record Sent (p : Parameters) (t : Transcript) : Type 0 where
   pub message1 : length (t .message1) ≡ 64

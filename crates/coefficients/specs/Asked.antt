@@ -5,18 +5,18 @@
 --   VectorsAsked p n shares matrix y words        the same, with the key and words for x
 use mathlib.Core.Path.{_≡_}
 use mathlib.Core.List.{List}
-use Prim.Native.Nat.{ℕ, _-_, _*_, _≤_, _+_}
+use Prim.Native.Nat.{ℕ, _*_, _≤_, _+_}
 use lib.ListN.{length}
 use Rattle.parameters.specs.declared.Parameters.{Parameters}
 use Rattle.parameters.specs.Limits.{Within}
-use Rattle.layout.specs.Layout.{shareLength}
+use Rattle.layout.specs.Layout.{shareLength, yLength, matrixLength}
 
 pub record RowsAsked (p : Parameters) (n c : ℕ) (shares matrix y rows : List ℕ) : Type 0 where
   pub within : Within p
   pub few : n ≤ 15
   pub sized-shares : length shares ≡ n * shareLength p
-  pub sized-matrix : length matrix ≡ (p .m - p .k) * p .k
-  pub sized-y : length y ≡ p .m - p .k
+  pub sized-matrix : length matrix ≡ matrixLength p
+  pub sized-y : length y ≡ yLength p
   pub sized-rows : length rows ≡ c * p .m
 
 pub record GatherAsked (p : Parameters) (n : ℕ) (shares : List ℕ) (from : ℕ) (words : List ℕ) : Type 0 where
@@ -29,6 +29,6 @@ pub record VectorsAsked (p : Parameters) (n : ℕ) (shares matrix y words : List
   pub within : Within p
   pub few : n ≤ 8
   pub sized-shares : length shares ≡ n * shareLength p
-  pub sized-matrix : length matrix ≡ (p .m - p .k) * p .k
-  pub sized-y : length y ≡ p .m - p .k
+  pub sized-matrix : length matrix ≡ matrixLength p
+  pub sized-y : length y ≡ yLength p
   pub sized-words : length words ≡ p .m

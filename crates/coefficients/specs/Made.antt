@@ -5,7 +5,7 @@
 use mathlib.Core.Path.{_≡_, refl, sym, ap, _∙_}
 use mathlib.Core.Bool.{Bool, true, false, cond}
 use mathlib.Core.List.{List, [], _++_, map}
-use Prim.Native.Nat.{ℕ, _+_, _-_, _*_, _≤_, _<_}
+use Prim.Native.Nat.{ℕ, _-_, _*_, _≤_, _<_}
 use native.Mathlib.Nat.{le-of-eq}
 use native.Mathlib.Omega.{arith}
 use lib.ListN.{length, getD, take, drop, replicate, length-append, length-replicate}
@@ -14,7 +14,7 @@ use Rattle.lists.specs.Part.Laws.{tail-part, tail-back}
 use Rattle.lists.specs.Sum.{xorList}
 use Rattle.parameters.specs.declared.Parameters.{Parameters}
 use Rattle.relation.specs.Key.{rows}
-use Rattle.layout.specs.Layout.{atX}
+use Rattle.layout.specs.Layout.{atX, yLength}
 use Rattle.points.specs.Written.{halves-room, halves-made}
 use Rattle.exchange.specs.Reading.{bytesAt}
 use Rattle.exchange.specs.Reading.Laws.{bytesAt-all}
@@ -51,15 +51,15 @@ share-constant i true y hi bytes = share-spread i y hi bytes
 share-constant i false y hi bytes = refl
 
 module _ (p : Parameters) (matrix y : List ℕ) (first : Bool) (s : List ℕ) (i : ℕ) (hi : i < 8) (bytes : (k : ℕ) → getD y k 0 < 256)
-    (ly : length y ≡ p .m - p .k) where
-  joined : (g h : List ℕ) → share i g ≡ bytesAt s (atX p) (p .k) → share i h ≡ rows (p .m - p .k) matrix (share i g)
+    (ly : length y ≡ yLength p) where
+  joined : (g h : List ℕ) → share i g ≡ bytesAt s (atX p) (p .k) → share i h ≡ rows (yLength p) matrix (share i g)
       → share i (g ++ xorList h (cond first (map spread y) [])) ≡ xOf p (keyOf matrix y) first s
   unfolding xOf xAOf imageOf
   joined g h eg eh =
       rw (share-append i g (xorList h (cond first (map spread y) [])), share-sum i h (cond first (map spread y) []), eh, eg)
-      (rw (share-constant i first y hi bytes, bytesAt-all y (p .m - p .k) ly) refl)
+      (rw (share-constant i first y hi bytes, bytesAt-all y (yLength p) ly) refl)
 
-  pub vector-made : (g w v u : List ℕ) → p .k ≤ p .m → length g ≡ p .k → w ≡ g ++ replicate (p .m - p .k) 0 → length v ≡ length w
+  pub vector-made : (g w v u : List ℕ) → p .k ≤ p .m → length g ≡ p .k → w ≡ g ++ replicate (yLength p) 0 → length v ≡ length w
       → take (p .k) v ≡ take (p .k) w → share i (drop (p .k) v) ≡ rows (length w - p .k) matrix (share i (take (p .k) w))
       → u ≡ xorList (take (length v - p .k) (drop (p .k) v)) (cond first (map spread y) []) → share i g ≡ bytesAt s (atX p) (p .k)
       → share i (take (p .k) v ++ (u ++ drop (length v - p .k) (drop (p .k) v))) ≡ xOf p (keyOf matrix y) first s

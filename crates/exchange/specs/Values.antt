@@ -14,13 +14,13 @@
 -- partV                'v = c + ε·F(r)·P(r) + α̂·b + β̂·a', with α̂·β̂ where `first`
 use mathlib.Core.Bool.{Bool, cond}
 use mathlib.Core.List.{List, [], _∷_, _++_}
-use Prim.Native.Nat.{ℕ, _+_, _-_, _*_}
+use Prim.Native.Nat.{ℕ, _+_, _*_}
 use Rattle.lists.specs.Sum.{xorList}
 use Rattle.tower.specs.Field.{Point}
 use Rattle.parameters.specs.declared.Parameters.{Parameters}
 use Rattle.polynomial.specs.Interpolant.{interpolantOf, vanishingOf}
 use Rattle.relation.specs.Key.{rows}
-use Rattle.layout.specs.Layout.{pointsLength, atB, atX, atQ, atP, atC}
+use Rattle.layout.specs.Layout.{pointsLength, atB, atX, atQ, atP, atC, yLength}
 use Rattle.exchange.specs.Reading.{bytesAt, pointAt, value, _⊞_, _⊠_, 𝟎}
 pub mod Laws
 pub mod Relation
@@ -66,10 +66,10 @@ module _ (p : Parameters) where
 
 module _ (p : Parameters) (key : Key) where
   unfoldable pub imageOf : List ℕ → List ℕ
-  imageOf xA = rows (p .m - p .k) (key .matrix) xA
+  imageOf xA = rows (yLength p) (key .matrix) xA
 
   unfoldable pub xOf : Bool → List ℕ → List ℕ
-  xOf first s = xAOf p s ++ xorList (imageOf (xAOf p s)) (cond first (bytesAt (key .y) 0 (p .m - p .k)) [])
+  xOf first s = xAOf p s ++ xorList (imageOf (xAOf p s)) (cond first (bytesAt (key .y) 0 (yLength p)) [])
 
   unfoldable pub SOf : Bool → List ℕ → List ℕ
   SOf first s = interpolantOf (xOf first s)

@@ -2,6 +2,10 @@
 use crate::KeyScan;
 use answers::Answer;
 use answers::Refusal;
+use layout::LONGEST_Y;
+use layout::MOST_MATRIX;
+use layout::matrix_length;
+use layout::y_length;
 use parameters::Parameters;
 use parameters::set::parameters_of;
 ghost use mathlib.Core.Path.{_≡_};
@@ -12,13 +16,15 @@ ghost use Rattle.bytefield.specs.Tables.{fieldTables};
 ghost use Rattle.polynomial.specs.Interpolant.{interpolantOf, vanishingOf};
 ghost use Rattle.relation.specs.Key.{locatorOf, quotientOf};
 ghost use Rattle.parameters.specs.Limits.{Within};
+ghost use Rattle.layout.specs.Layout.{yLength, matrixLength};
+ghost use Rattle.layout.specs.Maxima.{mostMatrix, longestY};
 ghost use Rattle.keytext.specs.Listing.{locatorWord, sWord, pWord, fWord, resultLine, refusedLine, keyLines, listingOf};
 ghost use Rattle.keytext.specs.Listing.Laws.{Written, Weighted};
 ghost use lib.Dec.{leb, eqb};
 ghost use mathlib.Core.Bool.{_&&_};
 ghost use Rattle.lists.specs.Part.{putAt};
 ghost use Rattle.relation.specs.Key.{vectorOf};
-ghost use Rattle.keytext.specs.Finish.{rowsOf, sizeOf, readIn, lengthsRead, weighed, readChecks, finishOf};
+ghost use Rattle.keytext.specs.Finish.{readIn, lengthsRead, weighed, readChecks, finishOf};
 
 // A line of a word and bytes in hex is written to out from index at on; the answer is the place behind it.
 pub fn result_line(out: &mut [u8], at: usize, word: &[u8], s: &[u8]) -> usize
@@ -183,11 +189,10 @@ fn lengths_read(p: Parameters, lengths: [usize; 3], matrix: usize, y: usize, x_a
     requires { ⌜ Within p ⌝ }
     ensures { λ r. ⌜ r ≡ lengthsRead p lengths matrix y «x_a» ⌝ }
 {
-    let rows = p.m - p.k;
-    if !read_in(lengths[0], matrix, rows * p.k) {
+    if !read_in(lengths[0], matrix, matrix_length(p)) {
         return false;
     }
-    if !read_in(lengths[1], y, rows) {
+    if !read_in(lengths[1], y, y_length(p)) {
         return false;
     }
     read_in(lengths[2], x_a, p.k)
@@ -218,7 +223,7 @@ fn weighed(
 // The listing of a key of the right lengths, with room of its own for x and the tables of the field.
 fn listed(p: Parameters, matrix: &[u8], y: &[u8], x_a: &[u8], out: &mut [u8]) -> usize
     requires { ⌜ Within p ⌝ }
-    requires { ⌜ (length (now matrix) ≡ sizeOf p) × (length (now y) ≡ rowsOf p) × (length (now «x_a») ≡ p .k) × (2580 ≤ length (now out)) ⌝ }
+    requires { ⌜ (length (now matrix) ≡ matrixLength p) × (length (now y) ≡ yLength p) × (length (now «x_a») ≡ p .k) × (2580 ≤ length (now out)) ⌝ }
     ensures { λ r. ⌜ Written (now (out .entry)) 0 (weighed (p .w) (vectorOf (now (matrix .entry)) (now (y .entry)) (now («x_a» .entry))))
         r (now (out .exit)) ⌝ }
 {
@@ -258,24 +263,24 @@ pub fn finish(scan: KeyScan, matrix: &[u8], y: &[u8], x_a: &[u8], out: &mut [u8;
     }
     let numbers = scan.numbers;
     let p = parameters_of(&numbers);
+    let size = matrix_length(p);
+    let rows = y_length(p);
     let k = p.k;
-    let rows = p.m - k;
-    let size = rows * k;
     listed(p, &matrix[..size], &y[..rows], &x_a[..k], out)
 }
 
 // Room for the largest matrix, as zeros.
-pub fn matrix_room() -> [u8; 16256]
-    ensures { λ r. ⌜ r ≡ replicate 16256 0 ⌝ }
+pub fn matrix_room() -> [u8; MOST_MATRIX]
+    ensures { λ r. ⌜ r ≡ replicate mostMatrix 0 ⌝ }
 {
-    [0u8; 16256]
+    [0u8; MOST_MATRIX]
 }
 
 // Room for the longest y or x_A, as zeros.
-pub fn vector_room() -> [u8; 254]
-    ensures { λ r. ⌜ r ≡ replicate 254 0 ⌝ }
+pub fn vector_room() -> [u8; LONGEST_Y]
+    ensures { λ r. ⌜ r ≡ replicate longestY 0 ⌝ }
 {
-    [0u8; 254]
+    [0u8; LONGEST_Y]
 }
 
 // Room for the longest listing, as zeros.

@@ -11,6 +11,8 @@
 -- digit p j i        the party of leaf i on axis j: digit j of the leaf's number in base N, lowest first
 -- coordinate p j i   'Coordinate j (1 to D) of a leaf is bit j−1 of its number, plus 1'
 -- isLast p i         i is leaf n−1
+-- yLength p          'y of m−k bytes': as many as the matrix has rows
+-- matrixLength p     'm−k rows of k bytes'
 -- pointsLength p     a point of four bytes at each position: r, c, v
 -- factorLength p     the same of what is multiplied: ε, a, b, α, β
 -- valuesLength p     α and β
@@ -69,6 +71,14 @@ coordinate p j i = digit p (j - 1) i + 1
 unfoldable pub isLast : Parameters → ℕ → Bool
 isLast p i = eqb i (leaves p - 1)
 
+-- ---- the key
+
+abbrev pub yLength : Parameters → ℕ
+yLength p = p .m - p .k
+
+abbrev pub matrixLength : Parameters → ℕ
+matrixLength p = yLength p * p .k
+
 -- ---- points at all positions
 
 abbrev pub pointsLength : Parameters → ℕ
@@ -78,10 +88,10 @@ abbrev pub factorLength : Parameters → ℕ
 factorLength p = 4 * p .t
 
 abbrev pub valuesLength : Parameters → ℕ
-valuesLength p = 8 * p .t
+valuesLength p = factorLength p + factorLength p
 
 abbrev pub rowLength : Parameters → ℕ
-rowLength p = 12 * p .t
+rowLength p = valuesLength p + pointsLength p
 
 abbrev pub axisLength : Parameters → ℕ
 axisLength p = side p * rowLength p
@@ -94,20 +104,11 @@ atV p = valuesLength p
 abbrev pub auxLength : Parameters → ℕ
 auxLength p = p .k + 2 * p .w + pointsLength p
 
-abbrev pub shareLength : Parameters → ℕ
-shareLength p = 8 * p .t + auxLength p
-
-abbrev pub sumsLength : Parameters → ℕ
-sumsLength p = sumCount p * shareLength p
-
-abbrev pub blocksLength : Parameters → ℕ
-blocksLength p = sumCount p * rowLength p
-
 abbrev pub atB : Parameters → ℕ
 atB p = factorLength p
 
 abbrev pub atX : Parameters → ℕ
-atX p = 8 * p .t
+atX p = atB p + factorLength p
 
 abbrev pub atQ : Parameters → ℕ
 atQ p = atX p + p .k
@@ -117,6 +118,15 @@ atP p = atQ p + p .w
 
 abbrev pub atC : Parameters → ℕ
 atC p = atP p + p .w
+
+abbrev pub shareLength : Parameters → ℕ
+shareLength p = atX p + auxLength p
+
+abbrev pub sumsLength : Parameters → ℕ
+sumsLength p = sumCount p * shareLength p
+
+abbrev pub blocksLength : Parameters → ℕ
+blocksLength p = sumCount p * rowLength p
 
 -- ---- what an opening gives: the states of all leaves, the rows of all axes, the hidden leaf's commitment
 
@@ -135,7 +145,7 @@ openedLength p = rowsEnd p + 32
 -- ---- messages, work area, output
 
 abbrev pub message2Length : Parameters → ℕ
-message2Length p = 8 * p .t
+message2Length p = pointsLength p + factorLength p
 
 abbrev pub siblingsLength : Parameters → ℕ
 siblingsLength p = 16 * levels p

@@ -8,6 +8,14 @@ ghost use Rattle.parameters.specs.Limits.{Within};
 ghost use Rattle.layout.specs.Layout as spec;
 ghost use Rattle.layout.specs.Lent.{lent};
 
+// The maxima, which layout/specs/Maxima.antt has too.
+
+// The matrix at k 127 or 128, m 255.
+pub const MOST_MATRIX: usize = 16256;
+
+// y at m 255, k 1, and x_A at k 254.
+pub const LONGEST_Y: usize = 254;
+
 // The states of 256 leaves.
 pub const MOST_STATES: usize = 8192;
 
@@ -17,11 +25,17 @@ pub const LONGEST_AUX: usize = 796;
 // The longest share: 12t + k + 2w at t 8, k 254, w 255.
 pub const LONGEST_SHARE: usize = 860;
 
-// The rows of all axes at D 8, t 8.
-pub const MOST_ROWS: usize = 1536;
+// The shares of nine sums.
+pub const LONGEST_SUMS: usize = 7740;
+
+// α and β at t 8.
+pub const MOST_VALUES: usize = 64;
 
 // A party's row at t 8.
 pub const LONGEST_ROW: usize = 96;
+
+// The rows of all axes at D 8, t 8.
+pub const MOST_ROWS: usize = 1536;
 
 // The rows of nine sums at t 8.
 pub const MOST_BLOCKS: usize = 864;
@@ -32,11 +46,14 @@ pub const MOST_OPENED: usize = 9760;
 // What an opening is held to, at t 8 with a prefix of 32 bytes.
 pub const MOST_STATEMENT: usize = 160;
 
-// α and β at t 8.
-pub const MOST_VALUES: usize = 64;
+// Message 2 at t 8.
+pub const LONGEST_MESSAGE2: usize = 64;
 
-// y at m 255, k 1.
-pub const LONGEST_Y: usize = 254;
+// Message 5 with aux at D 8, t 8, k 254, w 255.
+pub const LONGEST_MESSAGE5: usize = 1020;
+
+// The work area: sixteen of the longest shares.
+pub const MOST_WORK: usize = 13760;
 
 // The coefficients of S of one share, and of F but its leading one, at m 255.
 pub const LEAF_COEFFICIENTS: usize = 510;
@@ -111,6 +128,22 @@ pub fn is_last(p: Parameters, leaf: usize) -> bool
     leaf == leaf_count(p) - 1
 }
 
+// The length of y, and the number of the matrix's rows.
+pub fn y_length(p: Parameters) -> usize
+    requires { ⌜ Within p ⌝ }
+    ensures { λ r. ⌜ r ≡ spec.yLength p ⌝ }
+{
+    p.m - p.k
+}
+
+// The length of the matrix.
+pub fn matrix_length(p: Parameters) -> usize
+    requires { ⌜ Within p ⌝ }
+    ensures { λ r. ⌜ r ≡ spec.matrixLength p ⌝ }
+{
+    y_length(p) * p.k
+}
+
 // The length of a point at each position: r, c or v.
 pub fn points_length(p: Parameters) -> usize
     requires { ⌜ Within p ⌝ }
@@ -132,7 +165,7 @@ pub fn values_length(p: Parameters) -> usize
     requires { ⌜ Within p ⌝ }
     ensures { λ r. ⌜ r ≡ spec.valuesLength p ⌝ }
 {
-    8 * p.t
+    2 * factor_length(p)
 }
 
 // The length of what a party announces: α, β and v.
@@ -140,7 +173,7 @@ pub fn row_length(p: Parameters) -> usize
     requires { ⌜ Within p ⌝ }
     ensures { λ r. ⌜ r ≡ spec.rowLength p ⌝ }
 {
-    12 * p.t
+    values_length(p) + points_length(p)
 }
 
 // The length of what the parties of an axis announce.
@@ -156,7 +189,7 @@ pub fn at_x(p: Parameters) -> usize
     requires { ⌜ Within p ⌝ }
     ensures { λ r. ⌜ r ≡ spec.atX p ⌝ }
 {
-    8 * p.t
+    2 * factor_length(p)
 }
 
 // Where Q starts in a share.
@@ -164,7 +197,7 @@ pub fn at_q(p: Parameters) -> usize
     requires { ⌜ Within p ⌝ }
     ensures { λ r. ⌜ r ≡ spec.atQ p ⌝ }
 {
-    8 * p.t + p.k
+    at_x(p) + p.k
 }
 
 // Where P starts in a share.
@@ -172,7 +205,7 @@ pub fn at_p(p: Parameters) -> usize
     requires { ⌜ Within p ⌝ }
     ensures { λ r. ⌜ r ≡ spec.atP p ⌝ }
 {
-    8 * p.t + p.k + p.w
+    at_q(p) + p.w
 }
 
 // Where c starts in a share.
@@ -180,7 +213,7 @@ pub fn at_c(p: Parameters) -> usize
     requires { ⌜ Within p ⌝ }
     ensures { λ r. ⌜ r ≡ spec.atC p ⌝ }
 {
-    8 * p.t + p.k + p.w + p.w
+    at_p(p) + p.w
 }
 
 // The length of aux.
@@ -188,7 +221,7 @@ pub fn aux_length(p: Parameters) -> usize
     requires { ⌜ Within p ⌝ }
     ensures { λ r. ⌜ r ≡ spec.auxLength p ⌝ }
 {
-    p.k + 2 * p.w + 4 * p.t
+    p.k + 2 * p.w + points_length(p)
 }
 
 // The length of a share.
@@ -196,7 +229,7 @@ pub fn share_length(p: Parameters) -> usize
     requires { ⌜ Within p ⌝ }
     ensures { λ r. ⌜ r ≡ spec.shareLength p ⌝ }
 {
-    8 * p.t + aux_length(p)
+    at_x(p) + aux_length(p)
 }
 
 // The length of the sums that the work area holds.
@@ -220,7 +253,7 @@ pub fn message2_length(p: Parameters) -> usize
     requires { ⌜ Within p ⌝ }
     ensures { λ r. ⌜ r ≡ spec.message2Length p ⌝ }
 {
-    8 * p.t
+    points_length(p) + factor_length(p)
 }
 
 // The length of the sibling seeds.
@@ -312,11 +345,10 @@ pub fn lent(p: Parameters, matrix: usize, y: usize, work: usize) -> bool
     requires { ⌜ Within p ⌝ }
     ensures { λ r. ⌜ r ≡ lent p matrix y work ⌝ }
 {
-    let rows = p.m - p.k;
-    if matrix != rows * p.k {
+    if matrix != matrix_length(p) {
         return false;
     }
-    if y != rows {
+    if y != y_length(p) {
         return false;
     }
     work_length(p) <= work

@@ -14,11 +14,11 @@
 -- RespondAsked p message2 matrix y sums    message 2 and the key, and the sums
 use mathlib.Core.Path.{_≡_}
 use mathlib.Core.List.{List}
-use Prim.Native.Nat.{ℕ, _*_, _-_, _<_, _≤_, _+_}
+use Prim.Native.Nat.{ℕ, _<_, _≤_, _+_}
 use lib.ListN.{length, take}
 use Rattle.parameters.specs.declared.Parameters.{Parameters}
 use Rattle.parameters.specs.Limits.{Within}
-use Rattle.layout.specs.Layout.{leaves, auxLength, message2Length, message5Length, pointsLength, shareLength, statesLength, workLength, sumsLength}
+use Rattle.layout.specs.Layout.{leaves, auxLength, message2Length, message5Length, pointsLength, shareLength, statesLength, workLength, sumsLength, yLength, matrixLength}
 use Rattle.relation.specs.Key.{weightOf}
 use Rattle.relation.specs.Light.{Light}
 
@@ -38,13 +38,13 @@ pub record FillAsked (p : Parameters) (x run sums : List ℕ) : Type 0 where
 
 pub record Keyed (p : Parameters) (message2 matrix y : List ℕ) : Type 0 where
   pub message2-is : length message2 ≡ message2Length p
-  pub matrix-is : length matrix ≡ (p .m - p .k) * p .k
-  pub y-is : length y ≡ p .m - p .k
+  pub matrix-is : length matrix ≡ matrixLength p
+  pub y-is : length y ≡ yLength p
 
 pub record Disclosing (p : Parameters) (message2 : List ℕ) (leaf : ℕ) (matrix out : List ℕ) : Type 0 where
   pub message2-is : length message2 ≡ message2Length p
   pub is-leaf : leaf < leaves p
-  pub matrix-is : length matrix ≡ (p .m - p .k) * p .k
+  pub matrix-is : length matrix ≡ matrixLength p
   pub out-is : length out ≡ message5Length p leaf
 
 pub record FirstAsked (p : Parameters) (prefix states out : List ℕ) : Type 0 where
@@ -56,7 +56,7 @@ pub record LeafAsked (p : Parameters) (message2 : List ℕ) (leaf : ℕ) (matrix
   pub within : Within p
   pub message2-is : length message2 ≡ message2Length p
   pub number : leaf < 256
-  pub matrix-is : length matrix ≡ (p .m - p .k) * p .k
+  pub matrix-is : length matrix ≡ matrixLength p
   pub state-is : length state ≡ 32
   pub aux-is : length aux ≡ auxLength p
 

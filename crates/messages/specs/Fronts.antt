@@ -18,6 +18,7 @@ use Rattle.parameters.specs.declared.Parameters.{Parameters}
 use Rattle.parameters.specs.Limits.{Within}
 use Rattle.layout.specs.Layout.{auxLength, statesLength}
 use Rattle.layout.specs.Layout.Bounds.{leaves-most, aux-most}
+use Rattle.layout.specs.Maxima.{mostStates, longestAux}
 use Rattle.relation.specs.Light.{Light}
 use Rattle.points.specs.Written.{front-kept}
 use Rattle.messages.specs.Asked.{Arrays}
@@ -48,16 +49,16 @@ zeros-front (suc n) zero h = absurd (omega arith)
 zeros-front (suc n) (suc k) h = ap (_∷_ 0) (zeros-front n k (omega arith))
 
 pub record Rooms (p : Parameters) (n k : ℕ) : Type 0 where
-  pub states : n ≤ 8192
-  pub aux : k ≤ 796
-  pub states-are : length (take n (replicate {A = ℕ} 8192 0)) ≡ statesLength p
-  pub aux-is : length (take k (replicate {A = ℕ} 796 0)) ≡ auxLength p
+  pub states : n ≤ mostStates
+  pub aux : k ≤ longestAux
+  pub states-are : length (take n (replicate {A = ℕ} mostStates 0)) ≡ statesLength p
+  pub aux-is : length (take k (replicate {A = ℕ} longestAux 0)) ≡ auxLength p
 
 pub rooms : {p : Parameters} {n k : ℕ} → Within p → n ≡ statesLength p → k ≡ auxLength p → Rooms p n k
 rooms {p} {n} {k} h e f =
-    let s : n ≤ 8192 = omega (arith, leaves-most p h) in
-    let a : k ≤ 796 = omega (arith, aux-most p h) in
-    record { states = s; aux = a; states-are = length-take-le n (replicate 8192 0) s ∙ e; aux-is = length-take-le k (replicate 796 0) a ∙ f }
+    let s : n ≤ mostStates = omega (arith, leaves-most p h) in
+    let a : k ≤ longestAux = omega (arith, aux-most p h) in
+    record { states = s; aux = a; states-are = length-take-le n (replicate mostStates 0) s ∙ e; aux-is = length-take-le k (replicate longestAux 0) a ∙ f }
 
 pub record Front (n : ℕ) (s d : List ℕ) : Type 0 where
   pub size : length s ≡ n

@@ -8,19 +8,19 @@
 -- SumsAsked p aux st sums            aux, which may be empty, the states of all leaves, and room for the sums
 use mathlib.Core.Path.{_≡_}
 use mathlib.Core.List.{List}
-use Prim.Native.Nat.{ℕ, _-_, _*_, _≤_, _<_}
+use Prim.Native.Nat.{ℕ, _≤_, _<_}
 use lib.ListN.{length}
 use Rattle.parameters.specs.declared.Parameters.{Parameters}
 use Rattle.parameters.specs.Limits.{Within}
-use Rattle.layout.specs.Layout.{leaves, valuesLength, auxLength, siblingsLength, message5Length, sumsLength, workLength, prefixPlace, statesLength, openedLength}
+use Rattle.layout.specs.Layout.{leaves, valuesLength, auxLength, siblingsLength, message5Length, sumsLength, workLength, prefixPlace, statesLength, openedLength, yLength, matrixLength}
 
 pub record OpeningAsked (p : Parameters) (s : List ℕ) (leaf : ℕ) (m5 matrix y work o : List ℕ) : Type 0 where
   pub within : Within p
   pub sized-statement : prefixPlace p ≤ length s
   pub below : leaf < leaves p
   pub sized-message5 : length m5 ≡ message5Length p leaf
-  pub sized-matrix : length matrix ≡ (p .m - p .k) * p .k
-  pub sized-y : length y ≡ p .m - p .k
+  pub sized-matrix : length matrix ≡ matrixLength p
+  pub sized-y : length y ≡ yLength p
   pub sized-work : length work ≡ workLength p
   pub sized-opened : length o ≡ openedLength p
 
@@ -35,8 +35,8 @@ pub record AxesAsked (p : Parameters) (s values matrix y work o : List ℕ) : Ty
   pub within : Within p
   pub sized-statement : prefixPlace p ≤ length s
   pub sized-values : length values ≡ valuesLength p
-  pub sized-matrix : length matrix ≡ (p .m - p .k) * p .k
-  pub sized-y : length y ≡ p .m - p .k
+  pub sized-matrix : length matrix ≡ matrixLength p
+  pub sized-y : length y ≡ yLength p
   pub sized-work : length work ≡ workLength p
   pub sized-opened : length o ≡ openedLength p
 

@@ -7,7 +7,7 @@
 -- StatementAsked                 the messages 1 to 3 of their lengths, and room for the list
 use mathlib.Core.Path.{_≡_}
 use mathlib.Core.List.{List, _++_}
-use Prim.Native.Nat.{ℕ, _+_}
+use Prim.Native.Nat.{ℕ}
 use lib.ListN.{length, take, drop}
 use Rattle.lists.specs.Part.{part}
 use Rattle.parameters.specs.declared.Parameters.{Parameters}

@@ -16,7 +16,7 @@ use native.Mathlib.Omega.{arith}
 use lib.Dec.{lit<}
 use lib.ListN.{length-take, length, getD, set, take, drop, length-append, length-drop}
 use lib.Seq.{length-take-le, take-at, drop-at, paste}
-use Rattle.lists.specs.Part.{part, putAt}
+use Rattle.lists.specs.Part.{putAt}
 use Rattle.lists.specs.Part.Laws.{putAt-none, putAt-more, putAt-all, putAt-whole, putAt-putAt, tail-part, tail-back}
 use Rattle.bytefield.specs.Byte.{byte, byteRing}
 use Rattle.bytefield.specs.Byte.Laws.{val-byte}

@@ -8,7 +8,7 @@
 use mathlib.Core.Path.{_≡_}
 use mathlib.Core.Bool.{Bool, not}
 use mathlib.Core.List.{List, [], _∷_}
-use Prim.Native.Nat.{ℕ, _*_, _-_}
+use Prim.Native.Nat.{ℕ}
 use lib.Dec.{eqb, leb}
 use lib.ListN.{length, replicate}
 use Rattle.lists.specs.Checks.{allTrue}
@@ -16,6 +16,7 @@ use Rattle.answers.specs.declared.Refusal.{Refusal}
 use Rattle.answers.specs.declared.Refusal.the-variants.{Parameter, Length, Weight, Repeated}
 use Rattle.parameters.specs.declared.Parameters.{Parameters}
 use Rattle.parameters.specs.Limits.{withinLimits, Within}
+use Rattle.layout.specs.Layout.{yLength, matrixLength}
 use Rattle.relation.specs.Key.{weightOf, vectorOf}
 use Rattle.layout.specs.Lent.{lentTests, Lent}
 use Rattle.prover.specs.declared.arguments.Lengths.{Lengths}
@@ -45,6 +46,6 @@ pub record Sized (p : Parameters) (xA matrix y : ℕ) (l : Lengths) : Type 0 whe
 pub record Weighing (p : Parameters) (xA matrix y x : List ℕ) : Type 0 where
   pub within : Within p
   pub xA-is : length xA ≡ p .k
-  pub matrix-is : length matrix ≡ (p .m - p .k) * p .k
-  pub y-is : length y ≡ p .m - p .k
+  pub matrix-is : length matrix ≡ matrixLength p
+  pub y-is : length y ≡ yLength p
   pub zeros : x ≡ replicate 255 0

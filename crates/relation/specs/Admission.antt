@@ -5,7 +5,7 @@
 --   keyAnswer p h y xA     what they answer
 use mathlib.Core.Bool.{Bool, _&&_}
 use mathlib.Core.List.{List, [], _∷_}
-use Prim.Native.Nat.{ℕ, _*_, _-_}
+use Prim.Native.Nat.{ℕ}
 use lib.Dec.{eqb, leb}
 use lib.ListN.{length}
 use Rattle.answers.specs.declared.Refusal.{Refusal}
@@ -14,10 +14,11 @@ use Rattle.answers.specs.declared.Answer.{Answer}
 use Rattle.answers.specs.Checks.{checks}
 use Rattle.parameters.specs.declared.Parameters.{Parameters}
 use Rattle.parameters.specs.Limits.{withinLimits}
+use Rattle.layout.specs.Layout.{yLength, matrixLength}
 use Rattle.relation.specs.Key.{vectorOf, weightOf}
 
 unfoldable pub keyLengths : Parameters → List ℕ → List ℕ → List ℕ → Bool
-keyLengths p h y xA = eqb (length h) ((p .m - p .k) * p .k) && eqb (length y) (p .m - p .k) && eqb (length xA) (p .k)
+keyLengths p h y xA = eqb (length h) (matrixLength p) && eqb (length y) (yLength p) && eqb (length xA) (p .k)
 
 unfoldable pub keyChecks : Parameters → List ℕ → List ℕ → List ℕ → List (Bool × Refusal)
 keyChecks p h y xA =

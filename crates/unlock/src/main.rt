@@ -6,6 +6,9 @@ mod report;
 use answers::Answer;
 use answers::Refusal;
 use keytext::KeyScan;
+use layout::LONGEST_MESSAGE2;
+use layout::LONGEST_MESSAGE5;
+use layout::MOST_WORK;
 use libc::STDOUT_FILENO;
 use parameters::Parameters;
 use parameters::set::parameters_of;
@@ -15,6 +18,7 @@ ghost use mathlib.Core.Path.{_≡_};
 ghost use Prim.Native.Nat.{_≤_, _<_};
 ghost use lib.ListN.{length, replicate};
 ghost use Rattle.parameters.specs.Limits.{Within};
+ghost use Rattle.layout.specs.Maxima.{longestMessage2, longestMessage5, mostWork};
 
 // The line of the parameters.
 fn show_set(p: Parameters)
@@ -53,24 +57,24 @@ fn show_refused(r: Refusal) {
 }
 
 // Room for the longest message 2, as zeros.
-fn message2_room() -> [u8; 64]
-    ensures { λ r. ⌜ r ≡ replicate 64 0 ⌝ }
+fn message2_room() -> [u8; LONGEST_MESSAGE2]
+    ensures { λ r. ⌜ r ≡ replicate longestMessage2 0 ⌝ }
 {
-    [0u8; 64]
+    [0u8; LONGEST_MESSAGE2]
 }
 
 // Room for the longest message 5, as zeros.
-fn message5_room() -> [u8; 1020]
-    ensures { λ r. ⌜ r ≡ replicate 1_020 0 ⌝ }
+fn message5_room() -> [u8; LONGEST_MESSAGE5]
+    ensures { λ r. ⌜ r ≡ replicate longestMessage5 0 ⌝ }
 {
-    [0u8; 1020]
+    [0u8; LONGEST_MESSAGE5]
 }
 
 // Room for the longest work area, as zeros.
-fn work_room() -> [u8; 13760]
-    ensures { λ r. ⌜ r ≡ replicate 13_760 0 ⌝ }
+fn work_room() -> [u8; MOST_WORK]
+    ensures { λ r. ⌜ r ≡ replicate mostWork 0 ⌝ }
 {
-    [0u8; 13760]
+    [0u8; MOST_WORK]
 }
 
 // Message 5, and the verifier's verdict.
@@ -234,9 +238,9 @@ fn on_key_read(scan: KeyScan, matrix: &[u8], y: &[u8], x_a: &[u8]) {
     }
     let numbers = scan.numbers;
     let p = parameters_of(&numbers);
+    let size = layout::matrix_length(p);
+    let rows = layout::y_length(p);
     let k = p.k;
-    let rows = p.m - k;
-    let size = rows * k;
     exchange(p, &matrix[..size], &y[..rows], &x_a[..k]);
 }
 

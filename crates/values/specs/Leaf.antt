@@ -7,7 +7,7 @@
 use mathlib.Core.Path.{_≡_, refl, sym, ap, _∙_}
 use mathlib.Core.Bool.{false}
 use mathlib.Core.List.{List, [], _++_}
-use Prim.Native.Nat.{ℕ, _+_, _-_, _*_}
+use Prim.Native.Nat.{ℕ}
 use native.Mathlib.Nat.{le-of-eq, zero-mul}
 use native.Mathlib.Omega.{arith}
 use lib.ListN.{length, take}
@@ -15,7 +15,7 @@ use Rattle.lists.specs.Part.{part}
 use Rattle.lists.specs.Part.Laws.{part-whole}
 use Rattle.parameters.specs.declared.Parameters.{Parameters}
 use Rattle.parameters.specs.Limits.{Within}
-use Rattle.layout.specs.Layout.{shareLength, message2Length, rowLength, valuesLength}
+use Rattle.layout.specs.Layout.{shareLength, message2Length, rowLength, valuesLength, matrixLength}
 use Rattle.exchange.specs.Reading.{encode}
 use Rattle.exchange.specs.Values.{Key, keyOf, imageOf, xOf, SOf, alpha, beta}
 use Rattle.values.specs.Announced.{announcedOf}
@@ -29,7 +29,7 @@ pub record LeafAsked (p : Parameters) (s message2 matrix out : List ℕ) : Type 
   pub within : Within p
   pub sized-s : length s ≡ shareLength p
   pub sized-message2 : length message2 ≡ message2Length p
-  pub sized-matrix : length matrix ≡ (p .m - p .k) * p .k
+  pub sized-matrix : length matrix ≡ matrixLength p
   pub sized-out : length out ≡ valuesLength p
 
 pub leafValues-any : (p : Parameters) (key : Key) (message2 s : List ℕ)

@@ -13,6 +13,7 @@ use layout::LONGEST_Y;
 use layout::factor_length;
 use layout::row_length;
 use layout::values_length;
+use layout::y_length;
 use parameters::Parameters;
 use points::encoding::point_at;
 ghost use mathlib.Core.Path.{_≡_};
@@ -75,7 +76,7 @@ pub fn announce_leaf(
     let y = [0u8; LONGEST_Y];
     let mut rows = [0u8; LEAF_COEFFICIENTS];
     let mut block = [0u8; LONGEST_ROW];
-    let n = p.m - p.k;
+    let n = y_length(p);
     let e = 2 * p.m;
     let a = values_length(p);
     let b = row_length(p);

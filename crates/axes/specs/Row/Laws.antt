@@ -18,7 +18,7 @@ use Rattle.tower.specs.Field.{Point, point, bytesOf}
 use Rattle.tower.specs.Field.Laws.{point-bytesOf}
 use Rattle.parameters.specs.declared.Parameters.{Parameters}
 use Rattle.layout.specs.Layout.{side, leaves, digit, factorLength, valuesLength, atV}
-use Rattle.exchange.specs.Reading.{points, pointAt, encode, _⊞_}
+use Rattle.exchange.specs.Reading.{pointAt, encode, _⊞_}
 use Rattle.exchange.specs.Reading.Laws.{length-encode, encode-ext, pointAt-encode}
 use Rattle.exchange.specs.Values.{Key, alpha, beta, partV}
 use Rattle.values.specs.Announced.{gamma, announcedOf, vOf}
@@ -65,7 +65,7 @@ module _ (p : Parameters) (key : Key) (m2 : List ℕ) (first : Bool) (s : List �
       third : (l : ℕ) → l < p .t → pointAt block (atV p + 4 * l) ≡ gamma p m2 s l
       third l h =
           ap (λ (z : List ℕ). pointAt z (atV p + 4 * l)) (eb ∙ sym (append-assoc (encode (alpha p key m2 first s) (p .t)) (encode (beta p key m2 first s) (p .t)) _))
-          ∙ at-end (encode (alpha p key m2 first s) (p .t) ++ encode (beta p key m2 first s) (p .t)) (gamma p m2 s) (p .t) (atV p) l (two-lengths _ _ (p .t)) h
+          ∙ at-end (encode (alpha p key m2 first s) (p .t) ++ encode (beta p key m2 first s) (p .t)) (gamma p m2 s) (p .t) (atV p) l (two-lengths p _ _) h
 
   pub rowBy-is : (block hats : List ℕ) (α̂ β̂ : ℕ → Point) → block ≡ announcedOf p key m2 first s
       → hats ≡ encode α̂ (p .t) ++ encode β̂ (p .t) → rowBy p first s block hats ≡ shareRow p key m2 first s α̂ β̂
@@ -98,4 +98,4 @@ module _ (t : ℕ) (f g v α⋆ β⋆ w : ℕ → Point) where
 pub row-v : (p : Parameters) (f g v : ℕ → Point) → drop (atV p) (encode f (p .t) ++ (encode g (p .t) ++ encode v (p .t))) ≡ encode v (p .t)
 row-v p f g v =
     ap (drop (atV p)) (sym (append-assoc (encode f (p .t)) (encode g (p .t)) (encode v (p .t))))
-    ∙ drop-at (encode f (p .t) ++ encode g (p .t)) (encode v (p .t)) (atV p) (two-lengths f g (p .t))
+    ∙ drop-at (encode f (p .t) ++ encode g (p .t)) (encode v (p .t)) (atV p) (two-lengths p f g)

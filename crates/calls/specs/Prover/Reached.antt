@@ -12,7 +12,7 @@ use mathlib.Core.Path.{_≡_, refl, sym, ap, subst, _∙_}
 use mathlib.Core.Bool.{Bool, true, false, or-true, false≢true}
 use mathlib.Core.List.{List, [], _∷_}
 use mathlib.Core.Option.{Option, none, some}
-use Prim.Native.Nat.{ℕ, _+_, _-_}
+use Prim.Native.Nat.{ℕ, _+_}
 use native.Mathlib.Omega.{arith}
 use native.Mathlib.Decide.{ℕ-discrete}
 use lib.ListN.{length, replicate, take, drop}
@@ -24,7 +24,7 @@ use Rattle.answers.specs.declared.Answer.the-variants.{Done}
 use Rattle.parameters.specs.Limits.Laws.{within-test}
 use Rattle.relation.specs.Key.{weightOf}
 use Rattle.relation.specs.Key.Vector.{length-vector}
-use Rattle.layout.specs.Layout.{message2Length}
+use Rattle.layout.specs.Layout.{message2Length, yLength}
 use Rattle.exchange.specs.Values.{Key}
 use Rattle.prover_phase.specs.declared.Phase.{Phase}
 use Rattle.prover_phase.specs.declared.Phase.the-variants.{Begun, Answered, Closed}
@@ -75,7 +75,7 @@ module _ (b : Begin) (passed : Passed b) where
   secret-length =
       let tests = beginLengths (b .parameters) (b .xA) (b .salt) (b .root) (b .key) (passed .work) (passed .out) in
       let xA-is = eqb-true (length (b .xA)) (b .parameters .k) (all-at tests (passed .allowed .sized) 0) in
-      let y-is = eqb-true (length (b .key .y)) (b .parameters .m - b .parameters .k) (all-at tests (passed .allowed .sized) 5) in
+      let y-is = eqb-true (length (b .key .y)) (yLength (b .parameters)) (all-at tests (passed .allowed .sized) 5) in
       length-vector (b .key .matrix) (b .key .y) (b .xA) ∙ omega (arith, passed .allowed .within)
 
   secret-front : take (b .parameters .m) (padded 255 (secretOf b)) ≡ secretOf b

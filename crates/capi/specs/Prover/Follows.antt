@@ -6,7 +6,7 @@
 use mathlib.Core.Path.{_≡_, refl, ap, _∙_}
 use mathlib.Core.Bool.{not}
 use mathlib.Core.List.{List}
-use Prim.Native.Nat.{ℕ, _-_, _≤_}
+use Prim.Native.Nat.{ℕ, _≤_}
 use native.Mathlib.Omega.{arith}
 use lib.ListN.{length, replicate, length-replicate}
 use borrow.Author.Tests.{eqb-true}
@@ -26,7 +26,7 @@ use Rattle.parameters.specs.Limits.Laws.{test-within}
 use Rattle.relation.specs.Key.{vectorOf}
 use Rattle.relation.specs.Key.Vector.{length-vector}
 use Rattle.shake256.specs.Fips.{SHAKE256}
-use Rattle.layout.specs.Layout.{message2Length}
+use Rattle.layout.specs.Layout.{message2Length, yLength}
 use Rattle.exchange.specs.Values.{Key}
 use Rattle.calls.specs.Lengths.{beginLengths, pointsLengths}
 use Rattle.calls.specs.Prover.{Prover, Outcome as Called, fresh, settle, closed, pointsDue, begin, beginChecks, begun, points, pointsChecks, answered, leaf, leafChecks, opened}
@@ -100,7 +100,7 @@ module _ (b : List ℕ) (size : length b ≡ proverSize) where
         let tests = beginLengths p xA salt root key work out in
         let so = all-at tests (check-true (allTrue tests) Length _ (check-rest (withinLimits p) Parameter _ e)) in
         let k = eqb-true (length xA) (p .k) (so 0) in
-        let y = eqb-true (length (key .y)) (p .m - p .k) (so 5) in
+        let y = eqb-true (length (key .y)) (yLength p) (so 5) in
         let v = length-vector (key .matrix) (key .y) xA in
         record {
           x = front 255 (vectorOf (key .matrix) (key .y) xA) (omega arith);

@@ -15,7 +15,7 @@ use Rattle.lists.specs.Equal.Laws.{eqList-of}
 use Rattle.answers.specs.declared.Answer.the-variants.{Done}
 use Rattle.parameters.specs.declared.Parameters.{Parameters}
 use Rattle.parameters.specs.Limits.Laws.{within-test}
-use Rattle.layout.specs.Layout.{leaves, workLength, outputLength}
+use Rattle.layout.specs.Layout.{leaves, workLength, outputLength, yLength}
 use Rattle.layout.specs.Layout.Laws.{leaves-pos, isLast-true}
 use Rattle.exchange.specs.FirstAxis.{firstAxis, first-inside, first-apart}
 use Rattle.exchange.specs.Strings.{string4}
@@ -35,7 +35,7 @@ use Rattle.claims.specs.Extraction.Compared.{at-member, member-at, AllEq
 -- ---- the states
 
 module _ (hash : List ℕ → ℕ → List ℕ) (hash-length : (s : List ℕ) (n : ℕ) → length (hash s n) ≡ n) (p : Parameters) (key : Key)
-    (short : p .k < p .m) (y-length : length (key .y) ≡ p .m - p .k) (e e′ : Exchange) (matched : Matched p e e′)
+    (short : p .k < p .m) (y-length : length (key .y) ≡ yLength p) (e e′ : Exchange) (matched : Matched p e e′)
     (all-equal : AllEqual hash hash-length p key e e′ matched) where
   abbrev taken : List ℕ
   taken = output hash p e e′

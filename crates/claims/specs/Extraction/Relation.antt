@@ -6,7 +6,7 @@
 use mathlib.Core.Path.{_≡_, refl, sym, ap₂, _∙_}
 use mathlib.Core.Bool.{false}
 use mathlib.Core.List.{List}
-use Prim.Native.Nat.{ℕ, _-_, _<_}
+use Prim.Native.Nat.{ℕ, _<_}
 use lib.ListN.{length}
 use Rattle.cube.specs.Group.{pair-path}
 use Rattle.cube.specs.Sum.{sum}
@@ -16,7 +16,7 @@ use Rattle.cube.specs.Opening as cube
 use Rattle.cube.specs.Opening.Laws.{extraction}
 use Rattle.tower.specs.Field.{Point}
 use Rattle.parameters.specs.declared.Parameters.{Parameters}
-use Rattle.layout.specs.Layout.{side, leaves, digit}
+use Rattle.layout.specs.Layout.{side, leaves, digit, yLength}
 use Rattle.exchange.specs.Reading.{_⊞_, 𝟎}
 use Rattle.exchange.specs.Values.{Key, alpha, beta, partV}
 use Rattle.exchange.specs.Values.Relation.{Relation, totalV-relation}
@@ -98,7 +98,7 @@ module _ (hash : List ℕ → ℕ → List ℕ) (hash-length : (s : List ℕ) (n
 -- ---- the sums over all leaves of the output
 
 module _ (hash : List ℕ → ℕ → List ℕ) (hash-length : (s : List ℕ) (n : ℕ) → length (hash s n) ≡ n) (p : Parameters) (key : Key)
-    (short : p .k < p .m) (y-length : length (key .y) ≡ p .m - p .k) (e e′ : Exchange) (matched : Matched p e e′)
+    (short : p .k < p .m) (y-length : length (key .y) ≡ yLength p) (e e′ : Exchange) (matched : Matched p e e′)
     (same-leaves : SameLeaves hash hash-length p e e′ matched) (j : ℕ) (apart : digit p j (e .leaf) ≡ digit p j (e′ .leaf) → ⊥)
     (same-axis : axisStringOf hash hash-length p e e′ (matched .same-prefix) key e j ≡ axisStringOf hash hash-length p e e′ (matched .same-prefix) key e′ j) where
   abbrev outShares : ℕ → List ℕ

@@ -11,7 +11,7 @@
 use mathlib.Core.Path.{_≡_, refl, sym, ap, ap₂, _∙_}
 use mathlib.Core.Bool.{true, false}
 use mathlib.Core.List.{List, [], _∷_, _++_}
-use Prim.Native.Nat.{ℕ, zero, suc, _+_, _-_, _<_}
+use Prim.Native.Nat.{ℕ, zero, suc, _<_}
 use native.Mathlib.Nat.{le-refl}
 use native.Mathlib.Omega.{arith}
 use lib.ListN.{length, take, drop, replicate, length-replicate}
@@ -23,7 +23,7 @@ use Rattle.polynomial.specs.Interpolant.{interpolantOf}
 use Rattle.polynomial.specs.Bytes.Laws.{byte-at, bytes-append, bytes-xorList}
 use Rattle.relation.specs.Key.Vector.{bytes-rows}
 use Rattle.parameters.specs.declared.Parameters.{Parameters}
-use Rattle.layout.specs.Layout.{leaves, shareLength, atX, atQ}
+use Rattle.layout.specs.Layout.{leaves, shareLength, atX, atQ, yLength}
 use Rattle.exchange.specs.Reading.{bytesAt, value, _⊞_, _⊠_}
 use Rattle.exchange.specs.Reading.Laws.{length-bytesAt, bytesAt-all, bytesAt-xor}
 use Rattle.exchange.specs.Values.{Key, xAOf, QOf, POf, aOf, bOf, cOf, pointOf, multiplierOf, F, imageOf, xOf, SOf}
@@ -98,7 +98,7 @@ module _ (p : Parameters) (key : Key) (s : ℕ → List ℕ) where
 
 -- ---- x
 
-module _ (p : Parameters) (key : Key) (short : p .k < p .m) (y-length : length (key .y) ≡ p .m - p .k) (s : ℕ → List ℕ) where
+module _ (p : Parameters) (key : Key) (short : p .k < p .m) (y-length : length (key .y) ≡ yLength p) (s : ℕ → List ℕ) where
   -- x_A of the summed share, and its image
   abbrev front : List ℕ
   front = xAOf p (whole p s)
@@ -123,7 +123,7 @@ module _ (p : Parameters) (key : Key) (short : p .k < p .m) (y-length : length (
 
   pub xSum-is : xSum p key s ≡ xOf p key true (whole p s)
   unfolding xOf
-  xSum-is = parts ∙ ap (λ (l : List ℕ). front ++ xorList image l) (sym (bytesAt-all (key .y) (p .m - p .k) y-length))
+  xSum-is = parts ∙ ap (λ (l : List ℕ). front ++ xorList image l) (sym (bytesAt-all (key .y) (yLength p) y-length))
 
   module _ (m2 : List ℕ) (l : ℕ) where
     abbrev pub SumsRelation : Type 0
@@ -161,4 +161,4 @@ module _ (p : Parameters) (key : Key) (short : p .k < p .m) (y-length : length (
       rw parts
       (bytes-append front (xorList image (key .y))
       (unfold xAOf in bytes-bytesAt (whole p s) (atX p) (p .k) (bytes-total p (λ i. true) s (leaves p) (λ i l t. h i l)))
-      (bytes-xorList image (key .y) (unfold imageOf in bytes-rows (p .m - p .k) (key .matrix) front) y-bytes))
+      (bytes-xorList image (key .y) (unfold imageOf in bytes-rows (yLength p) (key .matrix) front) y-bytes))

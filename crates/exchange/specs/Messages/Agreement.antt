@@ -10,7 +10,7 @@
 use mathlib.Core.Path.{_≡_, refl, sym, ap, _∙_}
 use mathlib.Core.Bool.{false}
 use mathlib.Core.List.{List, _∷_}
-use Prim.Native.Nat.{ℕ, _+_, _-_, _<_}
+use Prim.Native.Nat.{ℕ, _+_, _<_}
 use native.Mathlib.Decide.{ℕ-discrete}
 use lib.ListN.{length}
 use Rattle.cube.specs.Group.{pair-path}
@@ -23,7 +23,7 @@ use Rattle.tower.specs.Field.{Point}
 use Rattle.answers.specs.declared.Answer.the-variants.{Done}
 use Rattle.parameters.specs.declared.Parameters.{Parameters}
 use Rattle.relation.specs.Key.{vectorOf}
-use Rattle.layout.specs.Layout.{side, leaves}
+use Rattle.layout.specs.Layout.{side, leaves, yLength}
 use Rattle.exchange.specs.Run.{Run}
 use Rattle.exchange.specs.Sequences.Laws.{joined-ext}
 use Rattle.exchange.specs.Strings.{string, string6, string7}
@@ -43,7 +43,7 @@ use Rattle.exchange.specs.Messages.Opened.{honest, exchange-is, alpha-is
 use Rattle.exchange.specs.Messages.Sum.{ownSum, relation-of-sum}
 
 module _ (hash : List ℕ → ℕ → List ℕ) (hash-length : (s : List ℕ) (n : ℕ) → length (hash s n) ≡ n)
-    (p : Parameters) (key : Key) (xA : List ℕ) (size : length xA ≡ p .k) (sizeY : length (key .y) ≡ p .m - p .k)
+    (p : Parameters) (key : Key) (xA : List ℕ) (size : length xA ≡ p .k) (sizeY : length (key .y) ≡ yLength p)
     (secret : Secret p (vectorOf (key .matrix) (key .y) xA)) (run : Run) (m2 : List ℕ) (u : ℕ) (inside : u < leaves p) where
   abbrev x : List ℕ
   x = vectorOf (key .matrix) (key .y) xA

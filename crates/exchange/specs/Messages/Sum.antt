@@ -23,7 +23,7 @@ use Rattle.parameters.specs.declared.Parameters.{Parameters}
 use Rattle.polynomial.specs.Interpolant.{interpolantOf, vanishingOf}
 use Rattle.relation.specs.Key.{rows, vectorOf, locatorOf, quotientOf}
 use Rattle.relation.specs.Key.Polynomials.{locator-monic, key-relation}
-use Rattle.layout.specs.Layout.{leaves, atB, atX, atQ, atP, atC}
+use Rattle.layout.specs.Layout.{leaves, atB, atX, atQ, atP, atC, yLength}
 use Rattle.layout.specs.Layout.Laws.{leaves-pos}
 use Rattle.exchange.specs.Run.{Run}
 use Rattle.exchange.specs.Strings.{string3}
@@ -203,7 +203,7 @@ module _ (hash : List ℕ → ℕ → List ℕ) (p : Parameters) (x : List ℕ) 
 
       -- ---- the key
 
-      module _ (key : Key) (xA₀ : List ℕ) (size : length xA₀ ≡ p .k) (sizeY : length (key .y) ≡ p .m - p .k)
+      module _ (key : Key) (xA₀ : List ℕ) (size : length xA₀ ≡ p .k) (sizeY : length (key .y) ≡ yLength p)
           (is : x ≡ vectorOf (key .matrix) (key .y) xA₀) where
         own-xA : xAOf p ownSum ≡ xA₀
         unfolding vectorOf
@@ -212,7 +212,7 @@ module _ (hash : List ℕ → ℕ → List ℕ) (p : Parameters) (x : List ℕ) 
         pub x-is : xOf p key true ownSum ≡ x
         unfolding xOf imageOf vectorOf
         x-is =
-            ap₂ (λ (l y : List ℕ). l ++ xorList (rows (p .m - p .k) (key .matrix) l) y) own-xA (bytesAt-all (key .y) (p .m - p .k) sizeY)
+            ap₂ (λ (l y : List ℕ). l ++ xorList (rows (yLength p) (key .matrix) l) y) own-xA (bytesAt-all (key .y) (yLength p) sizeY)
             ∙ ap (λ (n : ℕ). xA₀ ++ xorList (rows n (key .matrix) xA₀) (key .y)) (sym sizeY)
             ∙ sym is
 

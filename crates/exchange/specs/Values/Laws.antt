@@ -12,12 +12,11 @@
 use mathlib.Core.Path.{_≡_, sym, ap, ap₂, _∙_}
 use mathlib.Core.Bool.{Bool, true, false}
 use mathlib.Core.List.{List, [], _∷_, _++_}
-use Prim.Native.Nat.{ℕ, _+_, _-_, _*_, _<_}
+use Prim.Native.Nat.{ℕ, _+_, _*_, _<_}
 use native.Mathlib.Nat.{le-of-eq}
 use native.Mathlib.Omega.{arith}
 use lib.ListN.{length, drop, replicate, length-append, length-replicate}
 use lib.Seq.{drop-at}
-use Rattle.lists.specs.Xor.{_⊕_}
 use Rattle.lists.specs.Xor.Laws.{zero-⊕}
 use Rattle.lists.specs.Sum.{xorList}
 use Rattle.lists.specs.Sum.Laws.{xorList-nil, xorList-comm, xorList-assoc, xorList-self, xorList-append, xorList-zeros, length-xorList}
@@ -28,7 +27,7 @@ use Rattle.parameters.specs.declared.Parameters.{Parameters}
 use Rattle.polynomial.specs.Interpolant.{interpolantOf}
 use Rattle.polynomial.specs.Interpolant.Laws.{length-interpolant, interpolant-xor}
 use Rattle.relation.specs.Key.Vector.{length-rows, rows-xor}
-use Rattle.layout.specs.Layout.{atB, atX, atQ, atP, atC}
+use Rattle.layout.specs.Layout.{atB, atX, atQ, atP, atC, yLength}
 use Rattle.exchange.specs.Reading.{points, bytesAt, value, _⊞_, _⊠_}
 use Rattle.exchange.specs.Reading.Laws.{length-bytesAt, bytesAt-xor, pointAt-xor, value-xor}
 use Rattle.exchange.specs.Values.{Key, xAOf, QOf, POf, aOf, bOf, cOf, pointOf, multiplierOf, imageOf, xOf, SOf, alpha, beta, partV}
@@ -87,13 +86,13 @@ module _ (p : Parameters) where
 -- ---- x and S
 
 module _ (p : Parameters) (key : Key) where
-  pub length-imageOf : (x : List ℕ) → length (imageOf p key x) ≡ p .m - p .k
+  pub length-imageOf : (x : List ℕ) → length (imageOf p key x) ≡ yLength p
   unfolding imageOf
-  length-imageOf x = length-rows (p .m - p .k) (key .matrix) x
+  length-imageOf x = length-rows (yLength p) (key .matrix) x
 
   imageOf-xor : (x y : List ℕ) → length x ≡ length y → imageOf p key (xorList x y) ≡ xorList (imageOf p key x) (imageOf p key y)
   unfolding imageOf
-  imageOf-xor x y e = rows-xor (p .m - p .k) (key .matrix) x y e
+  imageOf-xor x y e = rows-xor (yLength p) (key .matrix) x y e
 
   -- without y
   pub xOf-plain : (s : List ℕ) → xOf p key false s ≡ xAOf p s ++ imageOf p key (xAOf p s)
@@ -112,27 +111,27 @@ module _ (p : Parameters) (key : Key) where
       same = length-xAOf p s ∙ sym (length-xAOf p t)
 
   unfoldable pub yPlaced : List ℕ
-  yPlaced = replicate (p .k) 0 ++ bytesAt (key .y) 0 (p .m - p .k)
+  yPlaced = replicate (p .k) 0 ++ bytesAt (key .y) 0 (yLength p)
 
   pub xOf-first : (s : List ℕ) → xOf p key true s ≡ xorList (xOf p key false s) yPlaced
   unfolding yPlaced xOf
   xOf-first s =
-      sym (ap (λ (l : List ℕ). xorList l (replicate (p .k) 0 ++ bytesAt (key .y) 0 (p .m - p .k))) (xOf-plain s)
-      ∙ xorList-append (xAOf p s) (replicate (p .k) 0) (imageOf p key (xAOf p s)) (bytesAt (key .y) 0 (p .m - p .k))
+      sym (ap (λ (l : List ℕ). xorList l (replicate (p .k) 0 ++ bytesAt (key .y) 0 (yLength p))) (xOf-plain s)
+      ∙ xorList-append (xAOf p s) (replicate (p .k) 0) (imageOf p key (xAOf p s)) (bytesAt (key .y) 0 (yLength p))
       (length-xAOf p s ∙ sym (length-replicate (p .k) 0))
-      ∙ ap (λ (l : List ℕ). l ++ xorList (imageOf p key (xAOf p s)) (bytesAt (key .y) 0 (p .m - p .k)))
+      ∙ ap (λ (l : List ℕ). l ++ xorList (imageOf p key (xAOf p s)) (bytesAt (key .y) 0 (yLength p)))
       (xorList-zeros (xAOf p s) (p .k) (le-of-eq (sym (length-xAOf p s)))))
 
-  length-plain : (s : List ℕ) → length (xOf p key false s) ≡ p .k + (p .m - p .k)
+  length-plain : (s : List ℕ) → length (xOf p key false s) ≡ p .k + (yLength p)
   length-plain s =
       ap length (xOf-plain s) ∙ length-append (xAOf p s) (imageOf p key (xAOf p s))
       ∙ ap₂ _+_ (length-xAOf p s) (length-imageOf (xAOf p s))
 
-  length-yPlaced : length yPlaced ≡ p .k + (p .m - p .k)
+  length-yPlaced : length yPlaced ≡ p .k + (yLength p)
   unfolding yPlaced
   length-yPlaced =
-      length-append (replicate (p .k) 0) (bytesAt (key .y) 0 (p .m - p .k))
-      ∙ ap₂ _+_ (length-replicate (p .k) 0) (length-bytesAt (key .y) 0 (p .m - p .k))
+      length-append (replicate (p .k) 0) (bytesAt (key .y) 0 (yLength p))
+      ∙ ap₂ _+_ (length-replicate (p .k) 0) (length-bytesAt (key .y) 0 (yLength p))
 
   pub length-xOf : (first : Bool) (s : List ℕ) → p .k < p .m → length (xOf p key first s) ≡ p .m
   length-xOf true s l =
@@ -145,15 +144,15 @@ module _ (p : Parameters) (key : Key) where
   unfolding SOf
   length-SOf first s l = length-interpolant (xOf p key first s) ∙ length-xOf first s l
 
-  pub syndrome-is : (s : List ℕ) → xorList (imageOf p key (xAOf p s)) (drop (p .k) (xOf p key true s)) ≡ bytesAt (key .y) 0 (p .m - p .k)
+  pub syndrome-is : (s : List ℕ) → xorList (imageOf p key (xAOf p s)) (drop (p .k) (xOf p key true s)) ≡ bytesAt (key .y) 0 (yLength p)
   unfolding xOf
   syndrome-is s =
       ap (xorList (imageOf p key (xAOf p s))) (drop-at (xAOf p s) _ (p .k) (length-xAOf p s))
-      ∙ sym (xorList-assoc (imageOf p key (xAOf p s)) (imageOf p key (xAOf p s)) (bytesAt (key .y) 0 (p .m - p .k)))
-      ∙ ap (λ (l : List ℕ). xorList l (bytesAt (key .y) 0 (p .m - p .k))) (xorList-self (imageOf p key (xAOf p s)))
-      ∙ xorList-comm _ (bytesAt (key .y) 0 (p .m - p .k))
-      ∙ xorList-zeros (bytesAt (key .y) 0 (p .m - p .k)) (length (imageOf p key (xAOf p s)))
-      (le-of-eq (length-imageOf (xAOf p s) ∙ sym (length-bytesAt (key .y) 0 (p .m - p .k))))
+      ∙ sym (xorList-assoc (imageOf p key (xAOf p s)) (imageOf p key (xAOf p s)) (bytesAt (key .y) 0 (yLength p)))
+      ∙ ap (λ (l : List ℕ). xorList l (bytesAt (key .y) 0 (yLength p))) (xorList-self (imageOf p key (xAOf p s)))
+      ∙ xorList-comm _ (bytesAt (key .y) 0 (yLength p))
+      ∙ xorList-zeros (bytesAt (key .y) 0 (yLength p)) (length (imageOf p key (xAOf p s)))
+      (le-of-eq (length-imageOf (xAOf p s) ∙ sym (length-bytesAt (key .y) 0 (yLength p))))
 
   pub SOf-xor : (s t : List ℕ) → SOf p key false (xorList s t) ≡ xorList (SOf p key false s) (SOf p key false t)
   unfolding SOf

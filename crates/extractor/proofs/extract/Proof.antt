@@ -1,7 +1,7 @@
 -- Each return has the answers of the steps before it (`Given.Laws`); past them the comparison answers (`compared-is`).
 use mathlib.Core.Path.{_≡_, sym, ap, ap₂, _∙_}
 use mathlib.Core.List.{List, _++_}
-use Prim.Native.Nat.{ℕ, _-_, _≤_}
+use Prim.Native.Nat.{ℕ, _≤_}
 use native.Mathlib.Omega.{arith}
 use borrow.Author.Needs.{needs}
 use lib.ListN.{length, take, drop, replicate, length-append, length-drop, length-replicate}
@@ -12,6 +12,7 @@ use Rattle.answers.specs.declared.Answer.{Answer}
 use Rattle.layout.specs.Layout.{statementLength, workLength}
 use Rattle.exchange.specs.Values.{Key, keyOf}
 use Rattle.layout.specs.Layout.Bounds.{opened-most}
+use Rattle.layout.specs.Maxima.{mostOpened, mostStatement}
 use Rattle.openings.specs.Statement.{statementOf}
 use Rattle.calls.specs.Extractor.{Transcript, transcript, exchangeOf, earlyChecks}
 use Rattle.extractor.specs.Early.{lengthsOf, earlyOf, early-is, Early, early-passed}
@@ -73,10 +74,10 @@ abbrev size-of : tie.After-put-statement → tie.After-statement-length
 size-of c = search
 
 abbrev blank : List ℕ
-blank = replicate 160 0
+blank = replicate mostStatement 0
 
 lent-size : (c : tie.After-statement-length) → length (take (c .statement-length .result) blank) ≡ c .statement-length .result
-lent-size c = length-take-le _ blank (omega (arith, length-replicate {A = ℕ} 160 0, c .statement-length .ensures, known (told-of c) .within .t-most))
+lent-size c = length-take-le _ blank (omega (arith, length-replicate {A = ℕ} mostStatement 0, c .statement-length .ensures, known (told-of c) .within .t-most))
 
 put-statement-requires : tie.Need-put-statement-requires
 put-statement-requires c κs = let size : tie.After-statement-length = search in let early = known (told-of size) in let b = early .first .size3 in
@@ -101,10 +102,10 @@ made c other = take-at (written c) other _ (written-size c ∙ size-of c .statem
 reaches : (c : tie.After-put-statement) (other : List ℕ) → statementLength (put-start c .args .p) ≤ length (written c ++ other)
 reaches c other = omega (arith, length-append (written c) other, written-size c, size-of c .statement-length .ensures)
 
-whole : (c : tie.After-put-statement) → 160 ≡ length (written c ++ drop (size-of c .statement-length .result) blank)
+whole : (c : tie.After-put-statement) → mostStatement ≡ length (written c ++ drop (size-of c .statement-length .result) blank)
 whole c = let size = size-of c in let n = size .statement-length .result in
     let a = length-append (written c) (drop n blank) in let t = known (told-of size) .within .t-most in
-    omega (arith, a, written-size c, length-drop n blank, length-replicate {A = ℕ} 160 0, size .statement-length .ensures, t)
+    omega (arith, a, written-size c, length-drop n blank, length-replicate {A = ℕ} mostStatement 0, size .statement-length .ensures, t)
 
 judge-requires : tie.Need-judge-requires
 judge-requires c κs = let put : tie.After-put-statement = search in let early = known (told-of (size-of put)) in let b = early .first .size5 in
@@ -124,7 +125,7 @@ work-by c = c .judge .last .1 .1 .1 .1 .1 .1 .0
 
 first-is : (c : tie.After-judge) →
     let s : tie.Start = entry (told-by c) in
-    Judged (s .args .p) (exchangeOf (first-of s)) (key-of s) (s .args .work .now) (replicate 9760 0) (c .judge .result) (work-by c)
+    Judged (s .args .p) (exchangeOf (first-of s)) (key-of s) (s .args .work .now) (replicate mostOpened 0) (c .judge .result) (work-by c)
     (c .judge .last .1 .1 .1 .1 .1 .1 .1 .0)
 first-is c = first-judged _ _ _ _ _ _ (known (told-by c)) _ (made (put-of c) _) _ _ _ _ _ (c .judge .ensures)
 
@@ -158,7 +159,7 @@ all-of c = entry (told-by (judge-of c))
 
 second-is : (c : tie.After-judge2) →
     let s : tie.Start = all-of c in
-    Judged (s .args .p) (exchangeOf (second-of s)) (key-of s) (work-by (judge-of c)) (replicate 9760 0) (c .judge2 .result)
+    Judged (s .args .p) (exchangeOf (second-of s)) (key-of s) (work-by (judge-of c)) (replicate mostOpened 0) (c .judge2 .result)
     (c .judge2 .last .1 .1 .1 .1 .1 .1 .0) (c .judge2 .last .1 .1 .1 .1 .1 .1 .1 .0)
 second-is c = second-judged _ _ _ _ _ _ (known (told-by (judge-of c))) _ (made (put-of (judge-of c)) _) _ _ _ _ _ (c .judge2 .ensures)
 

@@ -18,6 +18,7 @@ use Rattle.reader.specs.Message5.{auxIn}
 use Rattle.reader.specs.Message5.Laws.{aux-inside, all-aux}
 use Rattle.layout.specs.Layout.{openedLength}
 use Rattle.layout.specs.Layout.Bounds.{opened-most}
+use Rattle.layout.specs.Maxima.{mostOpened}
 use Rattle.openings.specs.Statement.{statementOf, exchangeIn}
 use Rattle.openings.specs.Statement.Laws.{exchange-in}
 use Rattle.calls.specs.Extractor.{Transcript, exchangeOf}
@@ -63,7 +64,7 @@ module _ (p : Parameters) (t t′ : Transcript) (key : Key) (work out : List ℕ
         (shows j _ refl (early .below) (early .first .size5)) (shows j′ _ salt (early .below′) (early .second .size5))
         (early .below) (early .below′) (early .other)
 
-    pub asked : length o ≡ 9760 → length o′ ≡ 9760
+    pub asked : length o ≡ mostOpened → length o′ ≡ mostOpened
         → Comparing p (t .message1) (record { first = t .leaf; second = t′ .leaf }) (t .message5) o (t′ .message5) o′ out
     asked l l′ = record {
       salt = omega (arith, early .first .size1);

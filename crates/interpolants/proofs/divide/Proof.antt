@@ -1,6 +1,6 @@
 -- The loop's invariant, downwards: the places from i on are the quotient, as far as it has come, and those before i are what is left (`divided-turn`).
 use mathlib.Core.Path.{_≡_, refl, _∙_}
-use Prim.Native.Nat.{_-_, _≤_}
+use Prim.Native.Nat.{_≤_}
 use native.Mathlib.Omega.{arith}
 use borrow.Author.Needs.{needs}
 use lib.ListN.{length}

@@ -1,6 +1,5 @@
 -- The invariant: some text was read so far. The measure is the number of pieces that may still be read.
 use mathlib.Core.Path.{_≡_, refl, _∙_}
-use native.Mathlib.Omega.{arith}
 use borrow.Author.Needs.{needs}
 use lib.ListN.{length}
 use Rattle.keytext.specs.Scan.{held}

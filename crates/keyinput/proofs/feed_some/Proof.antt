@@ -1,5 +1,5 @@
 -- The text is the front of the buffer that was read.
-use mathlib.Core.Path.{_≡_, sym, ap}
+use mathlib.Core.Path.{ap}
 use mathlib.Core.Bool.{not}
 use Prim.Native.Nat.{ℕ}
 use borrow.Author.Needs.{needs}

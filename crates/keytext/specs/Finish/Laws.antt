@@ -1,8 +1,7 @@
 -- What was scanned in pieces gives the listing of the whole.
 --
--- size-most            a matrix within the limits has at most 16,256 bytes
 -- finished h           the output from a scanner's state and the slices
--- finish-listing       the output after a text t, from slices of at least 16,256, 254 and 254 bytes, is the listing of t
+-- finish-listing       the output after a text t, from slices that hold the largest matrix, y and x_A, is the listing of t
 -- read-malformed, read-parameter, read-length, read-passed     the checks 10, 1 and 2 by their cases
 -- Read, read-done      what is known where they pass
 -- read-within, read-held       the parameters are within their limits, and the slices hold what they say
@@ -11,18 +10,16 @@
 -- room                 zeros have room for as many bytes
 -- fits-room            a listing lies within what it was written to
 use mathlib.Core.Path.{_≡_, refl, sym, ap, _∙_}
-use Prim.Native.Nat.{ℕ, _+_, _*_, _-_, _≤_, _<_}
-use native.Mathlib.Nat.{mul-le-mul-left}
+use Prim.Native.Nat.{ℕ, _+_, _≤_}
 use native.Mathlib.Decide.{decLe}
 use native.Mathlib.Omega.{arith}
 use mathlib.Core.Bool.{Bool, true, false, _&&_, and-true}
 use mathlib.Core.List.{List, [], _∷_}
-use lib.Dec.{eqb, leb, leb→le}
+use lib.Dec.{eqb, leb}
 use Rattle.lists.specs.Part.{putAt}
 use lib.ListN.{length, take, drop, getD, replicate, length-replicate, length-append}
 use borrow.Author.Tests.{le-leb, ne-eqb, eqb-true, leb-true}
 use Rattle.lists.specs.Checks.Laws.{and-left, and-right}
-use Rattle.lists.specs.Computed.{below}
 use Rattle.answers.specs.declared.Refusal.{Refusal}
 use Rattle.answers.specs.declared.Answer.{Answer}
 use Rattle.answers.specs.declared.Answer.the-variants.{Done, Refused}
@@ -33,6 +30,9 @@ use Rattle.parameters.specs.declared.Parameters.{Parameters}
 use Rattle.parameters.specs.Limits.{withinLimits, Within}
 use Rattle.parameters.specs.Limits.Laws.{test-within}
 use Rattle.parameters.specs.Set.{parametersOf}
+use Rattle.layout.specs.Layout.{yLength, matrixLength}
+use Rattle.layout.specs.Layout.Bounds.{matrix-most}
+use Rattle.layout.specs.Maxima.{mostMatrix, longestY}
 use Rattle.relation.specs.Key.{weightOf}
 use Rattle.relation.specs.Admission.{keyLengths, keyChecks}
 use Rattle.text.specs.Fold.{fold}
@@ -45,21 +45,7 @@ use Rattle.keytext.specs.Scan.Fields.{Kept, fresh}
 use Rattle.keytext.specs.Scan.Complete.{complete-form}
 use Rattle.keytext.specs.Scan.Values.{countIn, stored, keyRead, key-read, stored-front, length-stored, matrix-hex, y-hex, xA-hex}
 use Rattle.keytext.specs.Listing.{refusedLine, keyLines, parametersIn, vectorIn, printed, listingOf}
-use Rattle.keytext.specs.Finish.{rowsOf, sizeOf, readIn, lengthsRead, vectorRead, weighed, readChecks, finishOf}
-
--- ---- the sizes within the limits
-
-small : ℕ → Bool
-small a = leb (a * (255 - a)) 16_256
-
-pub size-most : (p : Parameters) → Within p → sizeOf p ≤ 16_256
-unfolding small
-size-most p h =
-    let k : ℕ = rowsOf p in
-    let o : k < 256 = omega arith in
-    let e : k * (255 - k) ≤ 16_256 = leb→le (k * (255 - k)) 16_256 (below 256 small tt k o) in
-    let l : k * p .k ≤ k * (255 - k) = mul-le-mul-left k (omega arith) in
-    omega arith
+use Rattle.keytext.specs.Finish.{readIn, lengthsRead, vectorRead, weighed, readChecks, finishOf}
 
 -- ---- a field read into a slice that has room for what the parameters say
 
@@ -89,7 +75,7 @@ same-printed w {a} {b} {c} {a′} {b′} {c′} {x} {x′} ea eb er = go a′ re
     go true es false et = rw (ea, es, eb es, et)
     go true es true et = rw (ea, es, eb es, et, er es et .0, er es et .1)
 
-module _ (t m y x : List ℕ) (hm : 16_256 ≤ length m) (hy : 254 ≤ length y) (hx : 254 ≤ length x) (form : hasForm keyForm t ≡ true) where
+module _ (t m y x : List ℕ) (hm : mostMatrix ≤ length m) (hy : longestY ≤ length y) (hx : longestY ≤ length x) (form : hasForm keyForm t ≡ true) where
   abbrev p : Parameters
   p = parametersIn t
 
@@ -97,14 +83,14 @@ module _ (t m y x : List ℕ) (hm : 16_256 ≤ length m) (hy : 254 ≤ length y)
   k = keyRead t m y x
 
   module _ (w : Within p) where
-    rows-fit : rowsOf p ≤ length y
+    rows-fit : yLength p ≤ length y
     rows-fit = omega arith
 
     xA-fits : p .k ≤ length x
     xA-fits = omega arith
 
-    matrix-fits : sizeOf p ≤ length m
-    matrix-fits = omega (arith, size-most p w)
+    matrix-fits : matrixLength p ≤ length m
+    matrix-fits = omega (arith, matrix-most p w)
 
     -- the slices hold their fields behind the stores of the others
     kept-test : (d f : List ℕ) (n : ℕ) → n ≤ length d → readIn (countIn d (bytesOf f)) (length (stored d f)) n ≡ eqb (length (bytesOf f)) n
@@ -115,18 +101,18 @@ module _ (t m y x : List ℕ) (hm : 16_256 ≤ length m) (hy : 254 ≤ length y)
     lengths-agree : lengthsRead p (k .lengths) (length (k .matrix)) (length (k .y)) (length (k .xA)) ≡ keyLengths p (bytesAt t 1) (bytesAt t 2) (bytesAt t 3)
     unfolding lengthsRead keyLengths
     lengths-agree =
-        rw (kept-test m (fieldAt t 1 1) (sizeOf p) matrix-fits, kept-test y (fieldAt t 2 1) (rowsOf p) rows-fit, kept-test x (fieldAt t 3 1) (p .k) xA-fits)
+        rw (kept-test m (fieldAt t 1 1) (matrixLength p) matrix-fits, kept-test y (fieldAt t 2 1) (yLength p) rows-fit, kept-test x (fieldAt t 3 1) (p .k) xA-fits)
 
     vector-agrees : keyLengths p (bytesAt t 1) (bytesAt t 2) (bytesAt t 3) ≡ true → vectorRead p (k .matrix) (k .y) (k .xA) ≡ vectorIn t
     unfolding keyLengths
     vector-agrees e =
-        let A : Bool = eqb (length (bytesAt t 1)) (sizeOf p) in
-        let B : Bool = eqb (length (bytesAt t 2)) (rowsOf p) in
+        let A : Bool = eqb (length (bytesAt t 1)) (matrixLength p) in
+        let B : Bool = eqb (length (bytesAt t 2)) (yLength p) in
         let C : Bool = eqb (length (bytesAt t 3)) (p .k) in
         let f : (A && B) ≡ true = and-left (A && B) C e in
         rw (
-          front m (fieldAt t 1 1) (sizeOf p) matrix-fits (matrix-hex t form) (and-left A B f),
-          front y (fieldAt t 2 1) (rowsOf p) rows-fit (y-hex t form) (and-right A B f),
+          front m (fieldAt t 1 1) (matrixLength p) matrix-fits (matrix-hex t form) (and-left A B f),
+          front y (fieldAt t 2 1) (yLength p) rows-fit (y-hex t form) (and-right A B f),
           front x (fieldAt t 3 1) (p .k) xA-fits (xA-hex t form) (and-right (A && B) C e),
         )
 
@@ -148,7 +134,7 @@ listing-malformed t e = rw e
 abbrev pub finished : Held → List ℕ
 finished h = finishOf (h .scan) (h .matrix) (h .y) (h .xA)
 
-pub finish-listing : (t m y x : List ℕ) → 16_256 ≤ length m → 254 ≤ length y → 254 ≤ length x → finished (fold step (held start m y x) t) ≡ listingOf t
+pub finish-listing : (t m y x : List ℕ) → mostMatrix ≤ length m → longestY ≤ length y → longestY ≤ length x → finished (fold step (held start m y x) t) ≡ listingOf t
 finish-listing t m y x hm hy hx = go (hasForm keyForm t) refl
   where
     go : (b : Bool) → hasForm keyForm t ≡ b → finished (fold step (held start m y x) t) ≡ listingOf t
@@ -170,15 +156,15 @@ fits-room d t {d′} e f = omega (arith, ap length f, length-append t (drop (0 +
 -- ---- the cases of the output
 
 -- the slices hold what the parameters say
-pub read-fits : (p : Parameters) (ls : List ℕ) (m y x : ℕ) → lengthsRead p ls m y x ≡ true → (sizeOf p ≤ m) × (rowsOf p ≤ y) × (p .k ≤ x)
+pub read-fits : (p : Parameters) (ls : List ℕ) (m y x : ℕ) → lengthsRead p ls m y x ≡ true → (matrixLength p ≤ m) × (yLength p ≤ y) × (p .k ≤ x)
 unfolding lengthsRead
 read-fits p ls m y x e =
-    let A : Bool = readIn (getD ls 0 0) m (sizeOf p) in
-    let B : Bool = readIn (getD ls 1 0) y (rowsOf p) in
+    let A : Bool = readIn (getD ls 0 0) m (matrixLength p) in
+    let B : Bool = readIn (getD ls 1 0) y (yLength p) in
     let C : Bool = readIn (getD ls 2 0) x (p .k) in
     let f : (A && B) ≡ true = and-left (A && B) C e in (
-      leb-true (sizeOf p) m (and-right (eqb (getD ls 0 0) (sizeOf p)) (leb (sizeOf p) m) (and-left A B f)),
-      leb-true (rowsOf p) y (and-right (eqb (getD ls 1 0) (rowsOf p)) (leb (rowsOf p) y) (and-right A B f)),
+      leb-true (matrixLength p) m (and-right (eqb (getD ls 0 0) (matrixLength p)) (leb (matrixLength p) m) (and-left A B f)),
+      leb-true (yLength p) y (and-right (eqb (getD ls 1 0) (yLength p)) (leb (yLength p) y) (and-right A B f)),
       leb-true (p .k) x (and-right (eqb (getD ls 2 0) (p .k)) (leb (p .k) x) (and-right (A && B) C e)),
     )
 
@@ -223,7 +209,7 @@ module _ (s : KeyScan) {m y x : ℕ} {p : Parameters} (r : p ≡ parametersOf (s
   pub read-within : Within p
   read-within = test-within p (ap withinLimits r ∙ d .limits)
 
-  pub read-held : (sizeOf p ≤ m) × (rowsOf p ≤ y) × (p .k ≤ x)
+  pub read-held : (matrixLength p ≤ m) × (yLength p ≤ y) × (p .k ≤ x)
   read-held = read-fits p (s .lengths) m y x (ap (λ (q : Parameters). lengthsRead q (s .lengths) m y x) r ∙ d .lengths)
 
 -- one of the three fails, whatever a fourth says

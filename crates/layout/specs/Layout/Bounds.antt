@@ -1,43 +1,50 @@
--- Bounds on what the parameters give, within their limits.
+-- Bounds on what the parameters give, within their limits: the maxima are what their names say.
 --
--- levels-most    the seed tree has at most 8 levels
--- leaves-most    there are at most 256 leaves, so a leaf's number is one byte
--- parties-most   all axes have at most 16 parties together
--- sums-most      the work area holds at most 9 sums
+-- levels-most, leaves-most   the levels of the seed tree; the leaves, so that a leaf's number is one byte
+-- side-most, parties-most    the parties of an axis, and of all axes together
+-- sums-most      the sums that the work area holds
 -- sums-parties   no more than there are parties on all axes
 -- sums-fit, sums-small   so they take no more room than it has, and are short
--- blocks-fit, blocks-most   and a row for each no more than the rows of all axes, and at most 864 bytes
+-- blocks-fit, blocks-most   and a row for each no more than the rows of all axes
 -- total-fits     where the sum of all leaves ends among them, with n as the code has the length of a share
--- side-most      an axis has at most 2 parties
--- axis-most, rows-most   their rows, and those of all axes
--- opened-most    what an opening gives has at most 9760 bytes
--- share-most, aux-most   a share has at most 860 bytes, aux at most 796
+-- axis-most, rows-most   the rows of an axis, and those of all axes
+-- opened-most    what an opening gives
+-- share-most, aux-most   a share; aux
 -- share-fits, siblings-fit   the work area has room for a share, and for the sibling seeds
--- matrix-most    the matrix has at most 255² bytes
--- work-most      the work area that a call zeroes has at most 16 · 860 bytes
+-- matrix-most    the matrix
+-- message5-most  message 5
+-- work-most      the work area that a call zeroes
 use mathlib.Core.Path.{_≡_, sym, ap, _∙_, subst, subst⁻¹}
-use Prim.Native.Nat.{ℕ, _+_, _*_, _-_, _≤_}
-use native.Mathlib.Nat.{add-mul, mul-assoc, mul-comm, mul-le-mul, mul-le-mul-right}
+use mathlib.Core.Bool.{Bool, true, false, cond}
+use Prim.Native.Nat.{ℕ, _+_, _*_, _-_, _≤_, _<_}
+use native.Mathlib.Nat.{add-mul, mul-assoc, mul-comm, mul-le-mul, mul-le-mul-left, mul-le-mul-right}
 use native.Mathlib.Omega.{arith}
+use lib.Dec.{leb, leb→le}
 use lib.Pow.{pow-mono}
+use Rattle.lists.specs.Computed.{below}
 use Rattle.parameters.specs.declared.Parameters.{Parameters}
 use Rattle.parameters.specs.Limits.{Within}
 use Rattle.layout.specs.Layout.Laws.{side-others, total-lt, sum-fits}
-use Rattle.layout.specs.Layout.{bits, side, others, sumCount, levels, rowLength, axisLength, leaves, auxLength, shareLength, siblingsLength, sumsLength, blocksLength, rowsLength, openedLength, workLength}
+use Rattle.layout.specs.Layout.{bits, side, others, sumCount, levels, leaves, isLast, yLength, matrixLength, valuesLength, rowLength, axisLength, auxLength, shareLength, siblingsLength, sumsLength, blocksLength, rowsLength, openedLength, message5Length, workLength}
+use Rattle.layout.specs.Maxima.{mostLevels, mostLeaves, mostSide, mostParties, mostSums, mostMatrix, longestAux, longestShare, longestSums, longestRow, mostBlocks, mostRows, mostOpened, longestMessage5, mostWork}
+
+-- a matrix of n rows, with the most columns that it may have
+small : ℕ → Bool
+small n = leb (n * (255 - n)) mostMatrix
 
 module _ (p : Parameters) (h : Within p) where
-  pub levels-most : levels p ≤ 8
+  pub levels-most : levels p ≤ mostLevels
   unfolding bits
   levels-most = omega (arith, h .axes-most)
 
-  pub leaves-most : leaves p ≤ 256
-  leaves-most = pow-mono {j = 8} levels-most
+  pub leaves-most : leaves p ≤ mostLeaves
+  leaves-most = pow-mono {j = mostLevels} levels-most
 
-  pub parties-most : side p * p .axes ≤ 16
+  pub parties-most : side p * p .axes ≤ mostParties
   unfolding bits
   parties-most = omega (arith, h .axes-most)
 
-  pub sums-most : sumCount p ≤ 9
+  pub sums-most : sumCount p ≤ mostSums
   unfolding bits
   sums-most = omega (arith, h .axes-most)
 
@@ -57,26 +64,29 @@ module _ (p : Parameters) (h : Within p) where
       (ap (λ (n : ℕ). n * rowLength p) (mul-comm (side p) (p .axes)) ∙ mul-assoc (p .axes) (side p) (rowLength p))
       (mul-le-mul-right (rowLength p) sums-parties)
 
-  pub side-most : side p ≤ 2
+  pub side-most : side p ≤ mostSide
   unfolding bits
   side-most = omega arith
 
-  pub axis-most : axisLength p ≤ 2 * 96
-  axis-most = let r : rowLength p ≤ 96 = omega (arith, h .t-most) in mul-le-mul side-most r
+  row-most : rowLength p ≤ longestRow
+  row-most = omega (arith, h .t-most)
 
-  pub rows-most : rowsLength p ≤ 8 * (2 * 96)
+  pub axis-most : axisLength p ≤ mostSide * longestRow
+  axis-most = mul-le-mul side-most row-most
+
+  pub rows-most : rowsLength p ≤ mostRows
   rows-most = mul-le-mul (h .axes-most) axis-most
 
-  pub blocks-most : blocksLength p ≤ 9 * 96
-  blocks-most = let r : rowLength p ≤ 96 = omega (arith, h .t-most) in mul-le-mul sums-most r
+  pub blocks-most : blocksLength p ≤ mostBlocks
+  blocks-most = mul-le-mul sums-most row-most
 
-  pub opened-most : openedLength p ≤ 9760
+  pub opened-most : openedLength p ≤ mostOpened
   opened-most = omega (arith, leaves-most, rows-most)
 
-  pub share-most : shareLength p ≤ 860
+  pub share-most : shareLength p ≤ longestShare
   share-most = omega arith
 
-  pub aux-most : auxLength p ≤ 796
+  pub aux-most : auxLength p ≤ longestAux
   aux-most = omega arith
 
   share-least : 8 ≤ shareLength p
@@ -89,17 +99,28 @@ module _ (p : Parameters) (h : Within p) where
   unfolding bits workLength
   siblings-fit = let e = mul-le-mul-right (2 * p .axes) (share-least) in omega arith
 
-  pub sums-small : sumsLength p ≤ 9 * 860
+  pub sums-small : sumsLength p ≤ longestSums
   sums-small = mul-le-mul sums-most share-most
 
-  pub total-fits : (n : ℕ) → n ≡ shareLength p → (p .axes * n + n ≤ sumsLength p) × (sumsLength p ≤ 9 * 860)
+  pub total-fits : (n : ℕ) → n ≡ shareLength p → (p .axes * n + n ≤ sumsLength p) × (sumsLength p ≤ longestSums)
   total-fits n e = (subst⁻¹ (λ (k : ℕ). p .axes * k + k ≤ sumsLength p) e (sum-fits p (p .axes) (total-lt p)), sums-small)
 
-  pub matrix-most : (p .m - p .k) * p .k ≤ 255 * 255
+  pub matrix-most : matrixLength p ≤ mostMatrix
+  unfolding small
   matrix-most =
-      let a : p .m - p .k ≤ 255 = omega arith in
-      let b : p .k ≤ 255 = omega arith in
-      mul-le-mul a b
+      let n : ℕ = yLength p in
+      let o : n < 256 = omega arith in
+      let e : n * (255 - n) ≤ mostMatrix = leb→le (n * (255 - n)) mostMatrix (below 256 small tt n o) in
+      let l : n * p .k ≤ n * (255 - n) = mul-le-mul-left n (omega arith) in
+      omega arith
 
-  pub work-most : side p * p .axes * shareLength p ≤ 16 * 860
+  pub message5-most : (i : ℕ) → message5Length p i ≤ longestMessage5
+  unfolding message5Length
+  message5-most i = either (isLast p i)
+    where
+      either : (last : Bool) → siblingsLength p + 32 + valuesLength p + cond last 0 (auxLength p) ≤ longestMessage5
+      either true = omega (arith, levels-most, h .t-most)
+      either false = omega (arith, levels-most, aux-most, h .t-most)
+
+  pub work-most : side p * p .axes * shareLength p ≤ mostWork
   work-most = mul-le-mul parties-most share-most

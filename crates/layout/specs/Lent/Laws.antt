@@ -3,11 +3,11 @@
 -- test-lent      the facts that the test stands for
 use mathlib.Core.Path.{_≡_}
 use mathlib.Core.Bool.{true}
-use Prim.Native.Nat.{ℕ, _*_, _-_}
+use Prim.Native.Nat.{ℕ}
 use borrow.Author.Tests.{eqb-true, leb-true}
 use Rattle.lists.specs.Checks.Laws.{all-at}
 use Rattle.parameters.specs.declared.Parameters.{Parameters}
-use Rattle.layout.specs.Layout.{workLength}
+use Rattle.layout.specs.Layout.{yLength, matrixLength, workLength}
 use Rattle.layout.specs.Lent.{lentTests, lent, Lent}
 
 module _ (p : Parameters) (matrix y work : ℕ) where
@@ -16,7 +16,7 @@ module _ (p : Parameters) (matrix y work : ℕ) where
   test-lent e =
       let so = all-at (lentTests p matrix y work) e in
       record {
-        matrix-is = eqb-true matrix ((p .m - p .k) * p .k) (so 0);
-        y-is = eqb-true y (p .m - p .k) (so 1);
+        matrix-is = eqb-true matrix (matrixLength p) (so 0);
+        y-is = eqb-true y (yLength p) (so 1);
         work-fits = leb-true (workLength p) work (so 2);
       }

@@ -10,6 +10,7 @@ use lib.ListN.{length, replicate, length-replicate}
 use Rattle.lists.specs.Zeroed.Laws.{zeroed-all}
 use Rattle.parameters.specs.declared.Parameters.{Parameters}
 use Rattle.layout.specs.Layout.{leaves, sumsLength}
+use Rattle.layout.specs.Maxima.{longestShare}
 use Rattle.parties.specs.Sums.{addedLeaf}
 use Rattle.parties.specs.Sums.Leaves.{sumsTo, sums-none, sums-more, sums-all}
 use Rattle.parties.specs.Drawn.{drawnShare}
@@ -21,7 +22,7 @@ record Inv (p : Parameters) (prefix states sums share : List ℕ) (hidden n i : 
   within : i ≤ n
   made : sums ≡ sumsTo p (drawnShare p prefix states) hidden i
   long : length sums ≡ sumsLength p
-  room : length share ≡ 860
+  room : length share ≡ longestShare
 
 abbrev Inv-loop : tie.InvT-loop
 Inv-loop p prefix states hidden sums₀ shares share₀ n size i₀ sums share i = Inv p prefix states sums share hidden n i
@@ -36,7 +37,7 @@ loop-holds c = let start : tie.Start Inv-loop μ-loop = search in let zeros = c 
       made = zeros .ensures ∙ zeroed-all d (length d) refl ∙ ap (λ (n : ℕ). replicate n 0) (start .pre .room)
           ∙ sums-none (args .p) (drawnShare (args .p) (args .prefix .now) (args .states .now)) (args .hidden-leaf);
       long = zeros .kept .0 ∙ start .pre .room;
-      room = length-replicate {A = ℕ} 860 0;
+      room = length-replicate {A = ℕ} longestShare 0;
     }
 
 loop-again : tie.Need-loop-again Inv-loop μ-loop

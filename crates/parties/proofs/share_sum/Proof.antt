@@ -11,6 +11,7 @@ use Rattle.lists.specs.Sum.{xorList}
 use Rattle.lists.specs.Zeroed.Laws.{zeroed-all}
 use Rattle.parameters.specs.declared.Parameters.{Parameters}
 use Rattle.layout.specs.Layout.{leaves, shareLength}
+use Rattle.layout.specs.Maxima.{longestShare}
 use Rattle.exchange.specs.Parties.{total}
 use Rattle.exchange.specs.Parties.Laws.{total-yes}
 use Rattle.parties.specs.Drawn.{drawnShare}
@@ -21,7 +22,7 @@ record Inv (p : Parameters) (prefix states out share : List ℕ) (n i : ℕ) : T
   within : i ≤ n
   sum : out ≡ total p (λ i. true) (drawnShare p prefix states) i
   long : length out ≡ shareLength p
-  room : length share ≡ 860
+  room : length share ≡ longestShare
 
 abbrev Inv-loop : tie.InvT-loop
 Inv-loop p prefix states out₀ shares share₀ n size i₀ out share i = Inv p prefix states out share n i
@@ -36,7 +37,7 @@ loop-holds c =
       within = omega arith;
       sum = zeros .ensures ∙ zeroed-all out (length out) refl ∙ ap (λ (n : ℕ). replicate n 0) (start .pre .room);
       long = zeros .kept .0 ∙ start .pre .room;
-      room = length-replicate {A = ℕ} 860 0;
+      room = length-replicate {A = ℕ} longestShare 0;
     }
 
 loop-again : tie.Need-loop-again Inv-loop μ-loop

@@ -11,7 +11,6 @@ use Prim.Native.Nat.{ℕ, _≤_}
 use native.Mathlib.Omega.{arith}
 use lib.Dec.{eqb, leb}
 use borrow.Author.Tests.{eqb-true, leb-true}
-use Rattle.lists.specs.Xor.{_⊕_}
 use Rattle.lists.specs.Xor.Laws.{⊕-self}
 use Rattle.prover_phase.specs.Distance.{ones, distance, clear}
 

@@ -1,6 +1,5 @@
 -- The laws of what message 5 holds, where it has its length.
 --
--- siblings-end                   the sibling seeds take 16D bytes
 -- aux-inside                     aux starts within message 5
 -- length-siblingsIn, length-commitmentIn, length-valuesIn   lengths of the sibling seeds, the commitment, and α and β
 -- message5-most                  message 5 is no longer than with aux
@@ -8,20 +7,16 @@
 use mathlib.Core.Path.{_≡_, ap, _∙_}
 use mathlib.Core.Bool.{Bool, true, false, cond}
 use mathlib.Core.List.{List, []}
-use Prim.Native.Nat.{ℕ, _+_, _-_, _*_, _≤_}
-use native.Mathlib.Nat.{one-mul, add-zero, le-of-eq}
+use Prim.Native.Nat.{ℕ, _+_, _-_, _≤_}
+use native.Mathlib.Nat.{add-zero, le-of-eq}
 use native.Mathlib.Omega.{arith}
 use lib.ListN.{length, length-drop, drop-of-length-le}
 use lib.Seq.{length-take-le}
 use Rattle.lists.specs.Part.Laws.{length-part}
 use Rattle.parameters.specs.declared.Parameters.{Parameters}
-use Rattle.layout.specs.Layout.{bits, leaves, isLast, siblingsLength, valuesLength, auxLength, message5Length}
+use Rattle.layout.specs.Layout.{leaves, isLast, siblingsLength, valuesLength, auxLength, message5Length}
 use Rattle.layout.specs.Layout.Laws.{isLast-true}
 use Rattle.reader.specs.Message5.{commitmentPlace, valuesPlace, auxPlace, siblingsIn, commitmentIn, valuesIn, auxIn}
-
-pub siblings-end : (p : Parameters) → commitmentPlace p ≡ 16 * p .axes
-unfolding bits
-siblings-end p = ap (λ (n : ℕ). 16 * n) (one-mul (p .axes))
 
 module _ (p : Parameters) (leaf : ℕ) (m5 : List ℕ) (long : length m5 ≡ message5Length p leaf) where
   whole : length m5 ≡ auxPlace p + cond (isLast p leaf) 0 (auxLength p)

@@ -20,7 +20,7 @@ use Rattle.parameters.specs.declared.Parameters.{Parameters}
 use Rattle.parameters.specs.Limits.{Within}
 use Rattle.layout.specs.Layout.{siblingsLength, valuesLength, message5Length}
 use Rattle.reader.specs.Message5.{commitmentPlace, valuesPlace, auxPlace, siblingsIn, commitmentIn, valuesIn, auxIn}
-use Rattle.reader.specs.Message5.Laws.{siblings-end, length-siblingsIn, length-valuesIn}
+use Rattle.reader.specs.Message5.Laws.{length-siblingsIn, length-valuesIn}
 use Rattle.reader.specs.Taken.{taken, behind}
 use Rattle.reader.specs.Taken.Laws.{taken-whole, behind-whole}
 use Rattle.reader.specs.Opening.{Asked, Parts, second, third, last}

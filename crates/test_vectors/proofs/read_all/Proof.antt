@@ -1,5 +1,5 @@
 -- The loop's invariant: the lengths of the buffers stay. The turns left fall.
-use Prim.Native.Nat.{_-_}
+
 use mathlib.Core.Path.{_≡_}
 use borrow.Author.Needs.{needs}
 use lib.ListN.{length}

@@ -6,8 +6,7 @@ use borrow.Author.Needs.{needs}
 use lib.ListN.{length}
 use lib.Seq.{length-take-le}
 use Rattle.parameters.specs.Limits.{Within}
-use Rattle.keytext.specs.Finish.{sizeOf, rowsOf}
-use Rattle.keytext.specs.Finish.Laws.{size-most, Read, read-done, read-within, read-held}
+use Rattle.keytext.specs.Finish.Laws.{Read, read-done, read-within, read-held}
 use Rattle.unlock.proofs.on_key_read.Statement.{statement}
 use Rattle.unlock.proofs.on_key_read.Tie as tie
 
@@ -24,16 +23,20 @@ passed r = let f : tie.After-read-checks = search in read-done _ _ _ _ (sym (f .
 within : (r : tie.After-parameters-of) → Within (r .parameters-of .result)
 within r = read-within (start r .args .scan) (r .parameters-of .ensures) (passed r)
 
-held : (r : tie.After-parameters-of)
-    → (sizeOf (r .parameters-of .result) ≤ length (start r .args .matrix .now)) × (rowsOf (r .parameters-of .result) ≤ length (start r .args .y .now))
-    × (r .parameters-of .result .k ≤ length (start r .args .x-a .now))
-held r = read-held (start r .args .scan) (r .parameters-of .ensures) (passed r)
+abbrev parsed : tie.After-y-length → tie.After-parameters-of
+parsed n = search
+
+held : (n : tie.After-y-length) → let m : tie.After-matrix-length = search in let a = start (parsed n) .args in
+    (m .matrix-length .result ≤ length (a .matrix .now)) × (n .y-length .result ≤ length (a .y .now))
+    × (parsed n .parameters-of .result .k ≤ length (a .x-a .now))
+held n = let m : tie.After-matrix-length = search in let r = parsed n in let h = read-held (start r .args .scan) (r .parameters-of .ensures) (passed r) in
+    (omega (arith, h .0, m .matrix-length .ensures), omega (arith, h .1, n .y-length .ensures), h .2)
 
 pub on-key-read-spec : {M : Type 1} → statement M
 on-key-read-spec = tie.close (tie.spec (λ c κs. search needs) (λ c. search needs) (λ c κs. search needs) (λ c. search needs) (λ c. search needs)
-    (λ c. search needs) (λ c κs. search needs) (λ c. let r : tie.After-parameters-of = search in omega (arith, within r .k-most))
-    (λ c. let r : tie.After-parameters-of = search in omega (arith, size-most (r .parameters-of .result) (within r)))
-    (λ c. let r : tie.After-parameters-of = search in sym (length-take-le _ (start r .args .matrix .now) (held r .0)))
-    (λ c. let r : tie.After-parameters-of = search in sym (length-take-le _ (start r .args .y .now) (held r .1)))
-    (λ c. let r : tie.After-parameters-of = search in sym (length-take-le _ (start r .args .x-a .now) (held r .2)))
+    (λ c. search needs) (λ c κs. search needs) (λ c κs. let r : tie.After-parameters-of = search in within r)
+    (λ c κs. let r : tie.After-parameters-of = search in within r)
+    (λ c. let n : tie.After-y-length = search in sym (length-take-le _ (start (parsed n) .args .matrix .now) (held n .0)))
+    (λ c. let n : tie.After-y-length = search in sym (length-take-le _ (start (parsed n) .args .y .now) (held n .1)))
+    (λ c. let n : tie.After-y-length = search in sym (length-take-le _ (start (parsed n) .args .x-a .now) (held n .2)))
     (λ c κs. let r : tie.After-parameters-of = search in within r) (λ c. search needs))

@@ -1,7 +1,7 @@
 -- The laws of what a share announces.
 --
 -- partV-gamma          v from γ is the v of the definitions
--- two-lengths          two lists of points take 8t bytes
+-- two-lengths          α and β take their length
 -- announced-front      the front of what a share announces is α and β
 -- v-made               v from the steps of the code, with the constant where `first`
 use mathlib.Core.Path.{_≡_, refl, sym, ap, ap₂, _∙_}
@@ -28,15 +28,15 @@ pub partV-gamma : (p : Parameters) (key : Key) (message2 : List ℕ) (first : Bo
 unfolding partV vOf gamma
 partV-gamma p key message2 first s α̂ β̂ l = refl
 
-pub two-lengths : (f g : ℕ → Point) (t : ℕ) → length (encode f t ++ encode g t) ≡ 8 * t
-two-lengths f g t = length-append (encode f t) (encode g t) ∙ omega (arith, length-encode f t, length-encode g t)
+pub two-lengths : (p : Parameters) (f g : ℕ → Point) → length (encode f (p .t) ++ encode g (p .t)) ≡ valuesLength p
+two-lengths p f g = length-append (encode f (p .t)) (encode g (p .t)) ∙ omega (arith, length-encode f (p .t), length-encode g (p .t))
 
 pub announced-front : (p : Parameters) (key : Key) (message2 : List ℕ) (first : Bool) (s : List ℕ)
     → take (valuesLength p) (announcedOf p key message2 first s) ≡ encode (alpha p key message2 first s) (p .t) ++ encode (beta p key message2 first s) (p .t)
 unfolding announcedOf
 announced-front p key message2 first s =
     ap (take (valuesLength p)) (sym (append-assoc (encode (alpha p key message2 first s) (p .t)) (encode (beta p key message2 first s) (p .t)) _))
-    ∙ take-at (encode (alpha p key message2 first s) (p .t) ++ encode (beta p key message2 first s) (p .t)) _ (valuesLength p) (two-lengths _ _ (p .t))
+    ∙ take-at (encode (alpha p key message2 first s) (p .t) ++ encode (beta p key message2 first s) (p .t)) _ (valuesLength p) (two-lengths p _ _)
 
 regroup : {K : Type 0} (R : Ring2 K) (g x y k a b : K)
     → R .add (R .add g (R .mul (R .add b k) x)) (R .mul a y) ≡ R .add (R .add (R .add g (R .mul x b)) (R .mul y a)) (R .mul x k)

@@ -11,6 +11,7 @@ use Rattle.lists.specs.Part.{part, putAt}
 use Rattle.layout.specs.Layout.{others, rowLength}
 use Rattle.layout.specs.Layout.Laws.{side-others}
 use Rattle.layout.specs.Layout.Bounds.{axis-most}
+use Rattle.layout.specs.Maxima.{longestRow}
 use Rattle.points.specs.Written.{front-length, front-kept}
 use Rattle.parties.specs.Sums.{less}
 use Rattle.axes.specs.Axes.{partyRow, formulaRows}
@@ -34,7 +35,7 @@ whole o = back o .pre .3 ∙ ap (λ (n : ℕ). n * rowLength (back o .args .p)) 
 lent : (o : tie.After-others) → let n = o .others .result * size o .row-length .result in length (take n (back o .args .row .now)) ≡ n
 lent o = length-take-le _ (back o .args .row .now) (omega (arith, front o, whole o))
 
-small : (o : tie.After-others) → size o .row-length .result ≤ 96
+small : (o : tie.After-others) → size o .row-length .result ≤ longestRow
 small o = omega (arith, size o .row-length .ensures, back o .pre .0 .within .t-most)
 
 abbrev counted : tie.After-put-parties → tie.After-others
@@ -68,7 +69,7 @@ abbrev last : tie.After-put-last → List ℕ
 last z = z .put-last .last .1 .1 .1 .0
 
 abbrev behind : tie.After-put-last → List ℕ
-behind z = drop (size (counted (before z)) .row-length .result) (replicate 96 0)
+behind z = drop (size (counted (before z)) .row-length .result) (replicate longestRow 0)
 
 sized : (z : tie.After-put-last) → length (last z) ≡ size (counted (before z)) .row-length .result
 sized z = z .put-last .kept .1 .1 .1 .0 ∙ length-take-le _ _ (small (counted (before z)))

@@ -7,6 +7,7 @@ use borrow.Author.Needs.{needs}
 use lib.ListN.{length, take, drop, replicate}
 use lib.Seq.{take-at, length-take-le}
 use Rattle.layout.specs.Layout.Bounds.{blocks-fit, blocks-most}
+use Rattle.layout.specs.Maxima.{mostBlocks}
 use Rattle.points.specs.Written.{front-length}
 use Rattle.axes.specs.Axes.{rowsBy}
 use Rattle.axes.specs.Rows.{front-there, front-sized}
@@ -16,7 +17,7 @@ use Rattle.axes.proofs.rows.put_all.Tie as tie
 abbrev back : tie.After-blocks-length → tie.Start
 back r = search
 
-room : (r : tie.After-blocks-length) → r .blocks-length .result ≤ 864
+room : (r : tie.After-blocks-length) → r .blocks-length .result ≤ mostBlocks
 room r = omega (arith, r .blocks-length .ensures, blocks-most _ (back r .pre .0 .within))
 
 inside : (r : tie.After-blocks-length) → r .blocks-length .result ≤ length (back r .args .rows .now)
@@ -30,7 +31,7 @@ abbrev blocks : tie.After-copy → List ℕ
 blocks e = e .copy .last .0
 
 abbrev behind : tie.After-copy → List ℕ
-behind e = drop (sized e .blocks-length .result) (replicate 864 0)
+behind e = drop (sized e .blocks-length .result) (replicate mostBlocks 0)
 
 long : (e : tie.After-copy) → length (blocks e) ≡ sized e .blocks-length .result
 long e = e .copy .kept .0 ∙ length-take-le _ _ (room (sized e))

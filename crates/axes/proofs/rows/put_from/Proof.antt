@@ -6,6 +6,7 @@ use native.Mathlib.Omega.{arith}
 use borrow.Author.Needs.{needs}
 use lib.ListN.{length, drop, replicate}
 use lib.Seq.{take-at, length-take-le}
+use Rattle.layout.specs.Maxima.{mostValues, longestRow}
 use Rattle.lists.specs.Part.{putAt}
 use Rattle.exchange.specs.Sequences.{joined}
 use Rattle.points.specs.Written.{front-length}
@@ -20,7 +21,7 @@ back r = search
 abbrev values : tie.After-row-length → tie.After-values-length
 values r = search
 
-small : (r : tie.After-row-length) → (values r .values-length .result ≤ 64) × (r .row-length .result ≤ 96)
+small : (r : tie.After-row-length) → (values r .values-length .result ≤ mostValues) × (r .row-length .result ≤ longestRow)
 small r = let t = back r .pre .0 .within .t-most in (omega (arith, values r .values-length .ensures, t), omega (arith, r .row-length .ensures, t))
 
 total-row-requires : tie.Need-total-row-requires
@@ -50,10 +51,10 @@ total e = e .total-row .last .1 .1 .1 .1 .1 .1 .0
 
 -- and what stands behind it
 abbrev hats-behind : tie.After-total-row → List ℕ
-hats-behind e = drop (values (counted e) .values-length .result) (replicate 64 0)
+hats-behind e = drop (values (counted e) .values-length .result) (replicate mostValues 0)
 
 abbrev total-behind : tie.After-total-row → List ℕ
-total-behind e = drop (counted e .row-length .result) (replicate 96 0)
+total-behind e = drop (counted e .row-length .result) (replicate longestRow 0)
 
 sized-hats : (e : tie.After-total-row) → length (hats e) ≡ values (counted e) .values-length .result
 sized-hats e = e .total-row .kept .1 .1 .1 .1 .1 .0 ∙ length-take-le _ _ (small (counted e) .0)

@@ -8,6 +8,7 @@ use borrow.Author.Needs.{needs}
 use lib.ListN.{length, drop, replicate}
 use lib.Seq.{take-at, length-take-le}
 use Rattle.layout.specs.Layout.{shareLength, rowLength}
+use Rattle.layout.specs.Maxima.{mostCoefficients}
 use Rattle.exchange.specs.Values.{keyOf}
 use Rattle.points.specs.Written.{front-length}
 use Rattle.values.specs.Shares.{Announcements}
@@ -47,7 +48,7 @@ abbrev made : tie.After-interpolate-each → List ℕ
 made d = d .interpolate-each .last .1 .1 .1 .1 .1 .1 .0
 
 abbrev behind : tie.After-interpolate-each → List ℕ
-behind d = drop ((counted d .batch .result + 1) * back (counted d) .args .p .m) (replicate 2550 0)
+behind d = drop ((counted d .batch .result + 1) * back (counted d) .args .p .m) (replicate mostCoefficients 0)
 
 sized : (d : tie.After-interpolate-each) → length (made d) ≡ (counted d .batch .result + 1) * back (counted d) .args .p .m
 sized d = d .interpolate-each .kept .1 .1 .1 .1 .1 .1 .0 ∙ length-take-le _ _ (fits (counted d))

@@ -7,6 +7,7 @@ use borrow.Author.Needs.{needs}
 use mathlib.Core.List.{List}
 use lib.ListN.{replicate}
 use lib.Seq.{length-take-le}
+use Rattle.layout.specs.Maxima.{longestShare, longestSums, longestRow, mostBlocks, mostCoefficients, longestMessage2}
 use Rattle.points.specs.Written.{front-length}
 use Rattle.bench_c.proofs.products.count.Statement.{statement}
 use Rattle.bench_c.proofs.products.count.Tie as tie
@@ -17,23 +18,23 @@ zeros n = replicate n 0
 abbrev back-to-start : tie.After-share-length → tie.Start
 back-to-start c = search
 
-shares-fit : (d : tie.After-share-length) → back-to-start d .args .n * d .share-length .result ≤ 9 * 860
+shares-fit : (d : tie.After-share-length) → back-to-start d .args .n * d .share-length .result ≤ longestSums
 shares-fit d =
     let (w, few) = back-to-start d .pre in
-    let h : d .share-length .result ≤ 860 = omega (arith, d .share-length .ensures) in mul-le-mul few h
+    let h : d .share-length .result ≤ longestShare = omega (arith, d .share-length .ensures) in mul-le-mul few h
 
-rows-fit : (s : tie.Start) → (s .args .n + 1) * s .args .p .m ≤ 10 * 255
+rows-fit : (s : tie.Start) → (s .args .n + 1) * s .args .p .m ≤ mostCoefficients
 rows-fit s = let a : s .args .n + 1 ≤ 10 = omega (arith, s .pre .1) in mul-le-mul a (s .pre .0 .m-most)
 
 abbrev back-to-share : tie.After-row-length → tie.After-share-length
 back-to-share c = search
 
-out-fits : (r : tie.After-row-length) → back-to-start (back-to-share r) .args .n * r .row-length .result ≤ 9 * 96
+out-fits : (r : tie.After-row-length) → back-to-start (back-to-share r) .args .n * r .row-length .result ≤ mostBlocks
 out-fits r =
     let (w, few) = back-to-start (back-to-share r) .pre in
-    let h : r .row-length .result ≤ 96 = omega (arith, r .row-length .ensures) in mul-le-mul few h
+    let h : r .row-length .result ≤ longestRow = omega (arith, r .row-length .ensures) in mul-le-mul few h
 
-points-fit : (m : tie.After-message2-length) → m .message2-length .result ≤ 64
+points-fit : (m : tie.After-message2-length) → m .message2-length .result ≤ longestMessage2
 points-fit m = let s : tie.Start = search back-to-start in let t = s .pre .0 .t-most in omega (arith, m .message2-length .ensures)
 
 announce-each-requires : tie.Need-announce-each-requires
@@ -44,11 +45,11 @@ announce-each-requires c κs =
     let t : tie.After-field-tables = search in
     let s = back-to-start d in
     let (w, few) = s .pre in
-    let shares = length-take-le (s .args .n * d .share-length .result) (zeros 7740) (shares-fit d) ∙ ap (λ (k : ℕ). s .args .n * k) (d .share-length .ensures) in
-    let rows = length-take-le ((s .args .n + 1) * s .args .p .m) (zeros 2550) (rows-fit s) in
-    let message2 = length-take-le (m .message2-length .result) (zeros 64) (points-fit m) ∙ m .message2-length .ensures in
+    let shares = length-take-le (s .args .n * d .share-length .result) (zeros longestSums) (shares-fit d) ∙ ap (λ (k : ℕ). s .args .n * k) (d .share-length .ensures) in
+    let rows = length-take-le ((s .args .n + 1) * s .args .p .m) (zeros mostCoefficients) (rows-fit s) in
+    let message2 = length-take-le (m .message2-length .result) (zeros longestMessage2) (points-fit m) ∙ m .message2-length .ensures in
     let out =
-    length-take-le (s .args .n * r .row-length .result) (zeros 864) (out-fits r) ∙ ap (λ (k : ℕ). s .args .n * k) (r .row-length .ensures)
+    length-take-le (s .args .n * r .row-length .result) (zeros mostBlocks) (out-fits r) ∙ ap (λ (k : ℕ). s .args .n * k) (r .row-length .ensures)
     in
     (omega arith, t .field-tables .ensures)
 

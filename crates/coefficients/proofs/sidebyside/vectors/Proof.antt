@@ -11,6 +11,7 @@ use Rattle.coefficients.specs.Shares.{shareOf}
 use Rattle.coefficients.specs.Made.{prepared-made, prepared-image, vector-made}
 use Rattle.coefficients.proofs.sidebyside.vectors.Statement.{statement}
 use Rattle.coefficients.proofs.sidebyside.vectors.Tie as tie
+use Rattle.layout.specs.Layout.{yLength}
 
 -- k words are lent
 front : (s : tie.Start) → s .args .p .k ≡ length (take (s .args .p .k) (s .args .words .now))
@@ -29,7 +30,7 @@ gathered d = d .gather .kept .1 .1 .1 .1 .0 ∙ sym (front (back-to-start d))
 prepared : (z : tie.After-clear) →
     let d = z .before .before .before .before in let s = back-to-start d in let p = s .args .p in let g = d .gather .last .1 .1 .1 .1 .0 in
     let w = g ++ drop (p .k) (s .args .words .now) in
-    take (p .k) w ++ (z .clear .last .0 ++ drop (length w - p .k) (drop (p .k) w)) ≡ g ++ replicate (p .m - p .k) 0
+    take (p .k) w ++ (z .clear .last .0 ++ drop (length w - p .k) (drop (p .k) w)) ≡ g ++ replicate (yLength p) 0
 prepared z = let d = z .before .before .before .before in let s = back-to-start d in
     prepared-made _ _ (s .args .words .now) (d .gather .last .1 .1 .1 .1 .0) _ (s .pre .sized-words) (gathered d) (below s) (z .clear .ensures)
 

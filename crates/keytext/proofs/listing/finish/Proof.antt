@@ -1,5 +1,5 @@
 -- A refusal is printed; where the checks pass, the parts that are lent have the lengths that the parameters say.
-use mathlib.Core.Path.{_≡_, sym, _∙_}
+use mathlib.Core.Path.{_≡_, sym, ap₂, _∙_}
 use Prim.Native.Nat.{ℕ}
 use native.Mathlib.Omega.{arith}
 use borrow.Author.Needs.{needs}
@@ -7,9 +7,10 @@ use mathlib.Core.List.{List}
 use lib.ListN.{length, take}
 use lib.Seq.{length-take-le}
 use Rattle.parameters.specs.Limits.{Within}
-use Rattle.keytext.specs.Finish.{sizeOf, rowsOf}
+use Rattle.relation.specs.Key.{vectorOf}
+use Rattle.keytext.specs.Finish.{weighed}
 use Rattle.keytext.specs.Listing.Laws.{written-whole}
-use Rattle.keytext.specs.Finish.Laws.{size-most, Read, read-done, read-within, read-held, finish-refused, finish-weighed}
+use Rattle.keytext.specs.Finish.Laws.{Read, read-done, read-within, read-held, finish-refused, finish-weighed}
 use Rattle.keytext.proofs.listing.finish.Statement.{statement}
 use Rattle.keytext.proofs.listing.finish.Tie as tie
 
@@ -32,21 +33,26 @@ within r = read-within (start r .args .scan) (r .parameters-of .ensures) (passed
 abbrev Lent : List ℕ → ℕ → Type 0
 Lent s n = length (take n s) ≡ n
 
-lent : (r : tie.After-parameters-of)
-    → Lent (start r .args .matrix .now) (sizeOf (r .parameters-of .result)) × Lent (start r .args .y .now) (rowsOf (r .parameters-of .result))
-    × Lent (start r .args .x-a .now) (r .parameters-of .result .k)
-lent r = let h = read-held (start r .args .scan) (r .parameters-of .ensures) (passed r) in
-    (length-take-le _ _ (h .0), length-take-le _ _ (h .1), length-take-le _ _ (h .2))
+abbrev parsed : tie.After-y-length → tie.After-parameters-of
+parsed n = search
+
+lent : (n : tie.After-y-length) → let m : tie.After-matrix-length = search in let a = start (parsed n) .args in
+    Lent (a .matrix .now) (m .matrix-length .result) × Lent (a .y .now) (n .y-length .result) × Lent (a .x-a .now) (parsed n .parameters-of .result .k)
+lent n = let m : tie.After-matrix-length = search in let r = parsed n in let h = read-held (start r .args .scan) (r .parameters-of .ensures) (passed r) in
+    (length-take-le _ _ (omega (arith, h .0, m .matrix-length .ensures)), length-take-le _ _ (omega (arith, h .1, n .y-length .ensures)), length-take-le _ _ (h .2))
 
 returns-2 : tie.Need-returns-2
-returns-2 c = let r : tie.After-parameters-of = search in let a = start r .args in
-    rw (finish-weighed (a .scan) (a .matrix .now) (a .y .now) (a .x-a .now) (r .parameters-of .ensures) (passed r))
+returns-2 c = let n : tie.After-y-length = search in let m : tie.After-matrix-length = search in let r = parsed n in let a = start r .args in
+    let p = r .parameters-of .result in
+    rw (finish-weighed (a .scan) (a .matrix .now) (a .y .now) (a .x-a .now) (r .parameters-of .ensures) (passed r)
+    ∙ ap₂ (λ (i j : ℕ). weighed (p .w) (vectorOf (take i (a .matrix .now)) (take j (a .y .now)) (take (p .k) (a .x-a .now))))
+    (sym (m .matrix-length .ensures)) (sym (n .y-length .ensures)))
     (written-whole _ _ (c .listed .ensures))
 
 pub finish-spec : {M : Type 1} → statement M
 finish-spec = tie.close (tie.spec (λ c κs. search needs) (λ c. search needs) (λ c κs. search needs) returns (λ c. search needs) (λ c. search needs)
-    (λ c κs. search needs) (λ c. let r : tie.After-parameters-of = search in omega (arith, within r .k-most))
-    (λ c. let r : tie.After-parameters-of = search in omega (arith, size-most (r .parameters-of .result) (within r)))
-    (λ c. let r : tie.After-parameters-of = search in sym (lent r .0)) (λ c. let r : tie.After-parameters-of = search in sym (lent r .1))
-    (λ c. let r : tie.After-parameters-of = search in sym (lent r .2))
-    (λ c κs. let r : tie.After-parameters-of = search in let l = lent r in (within r, (l .0, l .1, l .2, search needs))) returns-2)
+    (λ c κs. search needs) (λ c κs. let r : tie.After-parameters-of = search in within r) (λ c κs. let r : tie.After-parameters-of = search in within r)
+    (λ c. let n : tie.After-y-length = search in sym (lent n .0)) (λ c. let n : tie.After-y-length = search in sym (lent n .1))
+    (λ c. let n : tie.After-y-length = search in sym (lent n .2))
+    (λ c κs. let n : tie.After-y-length = search in let m : tie.After-matrix-length = search in let l = lent n in
+    (within (parsed n), (l .0 ∙ m .matrix-length .ensures, l .1 ∙ n .y-length .ensures, l .2, search needs))) returns-2)

@@ -4,6 +4,7 @@ use native.Mathlib.Omega.{arith}
 use borrow.Author.Needs.{needs}
 use lib.ListN.{length}
 use Rattle.lists.specs.Part.{putAt}
+use Rattle.layout.specs.Maxima.{mostMatrix, longestY}
 use Rattle.text.specs.Fold.{fold}
 use Rattle.keytext.specs.declared.KeyScan.{KeyScan}
 use Rattle.keytext.specs.Scan.{held, step}
@@ -17,8 +18,8 @@ returns c = let f : tie.After-feed = search in let s : tie.After-new = search in
     let e = ap finished (f .feed .ensures ∙ ap
     (λ (k : KeyScan). fold step (held k (m .matrix-room .result) (y .vector-room .result) (x .vector-room2 .result)) (a .input .now))
     (s .new .ensures)) ∙ finish-listing (a .input .now) (m .matrix-room .result) (y .vector-room .result) (x .vector-room2 .result)
-    (room 16256 (m .matrix-room .ensures) (omega arith)) (room 254 (y .vector-room .ensures) (omega arith))
-    (room 254 (x .vector-room2 .ensures) (omega arith)) in
+    (room mostMatrix (m .matrix-room .ensures) (omega arith)) (room longestY (y .vector-room .ensures) (omega arith))
+    (room longestY (x .vector-room2 .ensures) (omega arith)) in
     (c .finish .ensures .0 ∙ ap length e, c .finish .ensures .1 ∙ ap (putAt (a .out .now) 0) e)
 
 pub listing-spec : {M : Type 1} → statement M

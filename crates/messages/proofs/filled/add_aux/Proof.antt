@@ -9,12 +9,13 @@ use Rattle.lists.specs.Part.Laws.{lent-part}
 use Rattle.layout.specs.Layout.{sumsLength}
 use Rattle.messages.specs.Auxiliary.{auxFor}
 use Rattle.layout.specs.Layout.Bounds.{total-fits}
+use Rattle.layout.specs.Maxima.{longestSums}
 use Rattle.messages.proofs.filled.add_aux.Statement.{statement}
 use Rattle.messages.proofs.filled.add_aux.Tie as tie
 
 -- where the sum of all leaves ends
 fits : (n : tie.After-share-length) → (let s : tie.Start = search in let k = n .share-length .result in
-    (s .args .p .axes * k + k ≤ sumsLength (s .args .p)) × (sumsLength (s .args .p) ≤ 9 * 860))
+    (s .args .p .axes * k + k ≤ sumsLength (s .args .p)) × (sumsLength (s .args .p) ≤ longestSums))
 fits n = let s : tie.Start = search in total-fits (s .args .p) (s .pre .within) _ (n .share-length .ensures)
 
 add-xor-at : tie.Need-add-xor-at

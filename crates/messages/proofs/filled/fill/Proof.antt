@@ -2,6 +2,7 @@
 use mathlib.Core.Path.{sym, _∙_}
 use lib.ListN.{replicate}
 use borrow.Author.Needs.{needs}
+use Rattle.layout.specs.Maxima.{mostStates}
 use Rattle.lists.specs.Part.Laws.{tail-part}
 use Rattle.points.specs.Written.{front-length}
 use Rattle.messages.specs.Fronts.{Rooms, rooms, Front, front-back}
@@ -19,7 +20,7 @@ sized c = search
 room : (n : tie.After-aux-length) → Rooms (start n .args .p) (n .before .states-length .result) (n .aux-length .result)
 room n = rooms (start n .pre .within) (n .before .states-length .ensures) (n .aux-length .ensures)
 
-back : (c : tie.After-own-states) → Front (sized c .before .states-length .result) (c .own-states .last .1 .1 .0) (replicate 8192 0)
+back : (c : tie.After-own-states) → Front (sized c .before .states-length .result) (c .own-states .last .1 .1 .0) (replicate mostStates 0)
 back c = front-back _ _ _ (c .own-states .kept .1 .1 .0) (room (sized c) .states)
 
 own-states-requires : tie.Need-own-states-requires

@@ -7,6 +7,7 @@ use lib.ListN.{length, replicate, length-take, length-drop}
 use borrow.Author.Needs.{needs}
 use Rattle.layout.specs.Layout.{valuesLength}
 use Rattle.layout.specs.Layout.Bounds.{share-most}
+use Rattle.layout.specs.Maxima.{longestShare}
 use Rattle.points.specs.Written.{front-length}
 use Rattle.leaves.specs.After.Laws.{share-begun}
 use Rattle.values.specs.Leaf.{leafValues}
@@ -25,13 +26,13 @@ sized c = search
 abbrev first : tie.After-leaf-share → tie.After-put-leaf-commitment
 first c = search
 
-short : (n : tie.After-share-length) → n .share-length .result ≤ 860
+short : (n : tie.After-share-length) → n .share-length .result ≤ longestShare
 short n = omega (arith, n .share-length .ensures, share-most (start n .args .p) (start n .pre .0 .within))
 
 fits : (n : tie.After-share-length) → 32 + valuesLength (start n .args .p) ≤ length (start n .args .out .now)
 fits n = omega (arith, start n .pre .1)
 
-back : (c : tie.After-leaf-share) → Front (sized (first c) .share-length .result) (c .leaf-share .last .1 .1 .1 .1 .1 .0) (replicate 860 0)
+back : (c : tie.After-leaf-share) → Front (sized (first c) .share-length .result) (c .leaf-share .last .1 .1 .1 .1 .1 .0) (replicate longestShare 0)
 back c = front-back _ _ _ (c .leaf-share .kept .1 .1 .1 .1 .1 .0) (short (sized (first c)))
 
 put-leaf-commitment-requires : tie.Need-put-leaf-commitment-requires

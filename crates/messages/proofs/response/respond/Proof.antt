@@ -9,6 +9,7 @@ use Rattle.points.specs.Written.{front-length}
 use Rattle.shake256.specs.Fips.{SHAKE256}
 use Rattle.layout.specs.Layout.{valuesLength}
 use Rattle.layout.specs.Layout.Bounds.{rows-most}
+use Rattle.layout.specs.Maxima.{mostValues, mostRows}
 use Rattle.exchange.specs.Sequences.{joined}
 use Rattle.exchange.specs.Values.{keyOf}
 use Rattle.axes.specs.Announcing.{rowOf}
@@ -24,14 +25,14 @@ start n = search
 abbrev sized : tie.After-axis-rows → tie.After-rows-length
 sized c = search
 
-few : (n : tie.After-rows-length) → n .rows-length .result ≤ 1536
+few : (n : tie.After-rows-length) → n .rows-length .result ≤ mostRows
 few n = omega (arith, n .rows-length .ensures, rows-most (start n .args .p) (start n .pre .0 .within))
 
-short : (n : tie.After-rows-length) → n .before .values-length .result ≤ 64
+short : (n : tie.After-rows-length) → n .before .values-length .result ≤ mostValues
 short n = omega (arith, n .before .values-length .ensures, start n .pre .0 .within .t-most)
 
 back : (c : tie.After-axis-rows)
-    → (let n = sized c in Front (n .rows-length .result) (c .axis-rows .last .1 .1 .1 .1 .1 .1 .1 .0) (replicate 1536 0))
+    → (let n = sized c in Front (n .rows-length .result) (c .axis-rows .last .1 .1 .1 .1 .1 .1 .1 .0) (replicate mostRows 0))
 back c = front-back _ _ _ (c .axis-rows .kept .1 .1 .1 .1 .1 .1 .1 .0) (few (sized c))
 
 axis-rows-requires : tie.Need-axis-rows-requires
@@ -52,8 +53,8 @@ response-digest-requires c κs = let made : tie.After-axis-rows = search in let 
 returns : tie.Need-returns
 unfolding responseOf
 returns c = let made : tie.After-axis-rows = search in let n = sized made in let s = start n in let a = s .args in
-    let values : take (n .before .values-length .result) (replicate {A = ℕ} 64 0) ≡ replicate (valuesLength (a .p)) 0
-    = zeros-front _ 64 (short n) ∙ ap (λ (k : ℕ). replicate k 0) (n .before .values-length .ensures) in
+    let values : take (n .before .values-length .result) (replicate {A = ℕ} mostValues 0) ≡ replicate (valuesLength (a .p)) 0
+    = zeros-front _ mostValues (short n) ∙ ap (λ (k : ℕ). replicate k 0) (n .before .values-length .ensures) in
     c .before .before .response-digest .ensures ∙ ap₂ (λ (r : List ℕ) (l : ℕ). SHAKE256 (rowsString SHAKE256 (a .p) (a .prefix .now) r) l)
     (back made .again ∙ made .axis-rows .ensures .0
     ∙ ap₂ (λ (k : ℕ) (v : List ℕ). joined (rowOf (a .p) (keyOf (a .matrix .now) (a .y .now)) (a .message2 .now) (a .sums .now) k v) (a .p .axes))

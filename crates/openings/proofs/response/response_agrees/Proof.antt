@@ -1,7 +1,7 @@
 -- The digest of the rows is compared with h' of the statement.
 use mathlib.Core.Path.{ap, ap₂, _∙_}
 use mathlib.Core.List.{List}
-use Prim.Native.Nat.{ℕ, _-_}
+use Prim.Native.Nat.{ℕ}
 use borrow.Author.Needs.{needs}
 use lib.ListN.{take, drop}
 use Rattle.lists.specs.Equal.{eqList}

@@ -8,7 +8,7 @@ use native.Mathlib.Nat.{zero-mul}
 use native.Mathlib.Omega.{arith}
 use borrow.Author.Needs.{needs}
 use lib.ListN.{length, replicate}
-use Rattle.tower.specs.Field.{Point, point, bytesOf}
+use Rattle.tower.specs.Field.{Point, bytesOf}
 use Rattle.points.specs.Multiples.{multiplesOf}
 use Rattle.values.specs.Evaluation.{pointPower, valuesOf}
 use Rattle.values.specs.Evaluation.Laws.{count-turn, count-twice, terms-ready, values-none, values-turn, power-none, power-point, power-turn}

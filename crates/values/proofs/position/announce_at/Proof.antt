@@ -12,13 +12,14 @@ use Rattle.exchange.specs.Reading.{pointAt}
 use Rattle.exchange.specs.Values.{pointOf, multiplierOf}
 use Rattle.points.specs.Multiples.{multiplesOf}
 use Rattle.points.specs.Written.{front-length, front-kept}
+use Rattle.layout.specs.Maxima.{mostEvaluations}
 use Rattle.values.specs.Position.{Valued}
 use Rattle.values.specs.Products.{evaluations-few}
 use Rattle.values.proofs.position.announce_at.Statement.{statement}
 use Rattle.values.proofs.position.announce_at.Tie as tie
 
 abbrev zeros : List ℕ
-zeros = replicate 46 0
+zeros = replicate mostEvaluations 0
 
 abbrev back-to-start : tie.After-point-at → tie.Start
 back-to-start c = search
@@ -31,7 +32,7 @@ module _ (s : tie.Start) where
   abbrev size : ℕ
   size = 3 * s .args .group .n + 1
 
-  fits : size ≤ 46
+  fits : size ≤ mostEvaluations
   fits = omega (arith, s .pre .0 .few)
 
   lent : size ≡ length (take size zeros)

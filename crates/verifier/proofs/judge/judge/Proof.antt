@@ -16,6 +16,7 @@ use Rattle.calls.specs.Verifier.{heldExchange}
 use Rattle.openings.specs.Statement.{exchangeIn}
 use Rattle.openings.specs.Statement.Laws.{exchange-in}
 use Rattle.layout.specs.Layout.Bounds.{opened-most}
+use Rattle.layout.specs.Maxima.{mostOpened, mostStatement}
 use Rattle.verifier.proofs.judge.judge.Statement.{statement}
 use Rattle.verifier.proofs.judge.judge.Tie as tie
 
@@ -48,7 +49,7 @@ points-lent : (c : tie.After-message2-length) → length (take (c .message2-leng
     ≡ message2Length (start-of c .args .s .parameters)
 points-lent c = length-take-le _ _ (points-fit c) ∙ c .message2-length .ensures
 
-stated-fit : (c : tie.After-statement-length) → c .statement-length .result ≤ 160
+stated-fit : (c : tie.After-statement-length) → c .statement-length .result ≤ mostStatement
 stated-fit c = let start = start-of (back-to-points c) in omega (arith, c .statement-length .ensures, start .pre .within .t-most)
 
 put-statement-requires : tie.Need-put-statement-requires
@@ -69,7 +70,7 @@ length-made : (c : tie.After-put-statement) → length (made c) ≡ back-to-stat
 length-made c = c .put-statement .kept .1 .1 .1 .1 .0 ∙ length-take-le _ _ (stated-fit (back-to-stated c))
 
 abbrev lent : tie.After-put-statement → List ℕ
-lent c = let n = back-to-stated c .statement-length .result in take n (made c ++ drop n (replicate 160 0))
+lent c = let n = back-to-stated c .statement-length .result in take n (made c ++ drop n (replicate mostStatement 0))
 
 lent-is : (c : tie.After-put-statement) → lent c ≡ made c
 lent-is c = take-at (made c) _ _ (length-made c)
@@ -79,7 +80,7 @@ length-lent c = ap length (lent-is c) ∙ length-made c
 
 array-share-prefix-statement : tie.Need-array-share-prefix-statement
 array-share-prefix-statement c = let put : tie.After-put-statement = search in
-    omega (arith, length-made put, length-append (made put) (drop (back-to-stated put .statement-length .result) (replicate 160 0)))
+    omega (arith, length-made put, length-append (made put) (drop (back-to-stated put .statement-length .result) (replicate mostStatement 0)))
 
 abbrev back-to-area : tie.After-put-statement → tie.After-work-length
 back-to-area c = search
@@ -90,7 +91,7 @@ area-fits c = let start = start-of (back-to-points (back-to-stated c)) in omega 
 abbrev back-to-given : tie.After-put-statement → tie.After-opened-length
 back-to-given c = search
 
-given-fits : (c : tie.After-put-statement) → back-to-given c .opened-length .result ≤ 9760
+given-fits : (c : tie.After-put-statement) → back-to-given c .opened-length .result ≤ mostOpened
 given-fits c = let start = start-of (back-to-points (back-to-stated c)) in
     omega (arith, back-to-given c .opened-length .ensures, opened-most (start .args .s .parameters) (start .pre .within))
 

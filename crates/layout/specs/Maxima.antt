@@ -1,0 +1,81 @@
+-- The maxima over all parameters within their limits; `Layout.Bounds` shows that nothing is longer, and layout/src/lib.rt has the same numbers.
+--
+-- mostLevels, mostLeaves, mostSide, mostParties, mostSums   of the tree, of the cube, of an axis, of all axes, in the work area
+-- mostMatrix, longestY        the key's matrix; y, which is no shorter than the longest x_A
+-- longestAux, longestShare, longestSums   aux; a share; the sums that the work area holds
+-- mostValues, longestRow, mostBlocks      α and β; what a party announces; a row for each of these sums
+-- mostStates, mostRows, mostOpened   the states of all leaves, the rows of all axes, and all that an opening gives
+-- mostStatement               what an opening is held to, with a prefix of 32 bytes
+-- leafCoefficients, mostCoefficients   the coefficients of S of one share, and of as many as there are sums, and of F
+-- mostEvaluations             the values at a point of Q, S and P of up to fifteen shares, and of F
+-- longestMessage2, longestMessage5, mostWork   the messages; the work area
+use Prim.Native.Nat.{ℕ}
+
+abbrev pub mostLevels : ℕ
+mostLevels = 8
+
+abbrev pub mostLeaves : ℕ
+mostLeaves = 256
+
+abbrev pub mostSide : ℕ
+mostSide = 2
+
+abbrev pub mostParties : ℕ
+mostParties = 16
+
+abbrev pub mostSums : ℕ
+mostSums = 9
+
+abbrev pub mostMatrix : ℕ
+mostMatrix = 16_256
+
+abbrev pub longestY : ℕ
+longestY = 254
+
+abbrev pub longestAux : ℕ
+longestAux = 796
+
+abbrev pub longestShare : ℕ
+longestShare = 860
+
+abbrev pub longestSums : ℕ
+longestSums = 7_740
+
+abbrev pub mostValues : ℕ
+mostValues = 64
+
+abbrev pub longestRow : ℕ
+longestRow = 96
+
+abbrev pub mostBlocks : ℕ
+mostBlocks = 864
+
+abbrev pub mostStates : ℕ
+mostStates = 8_192
+
+abbrev pub mostRows : ℕ
+mostRows = 1_536
+
+abbrev pub mostOpened : ℕ
+mostOpened = 9_760
+
+abbrev pub mostStatement : ℕ
+mostStatement = 160
+
+abbrev pub leafCoefficients : ℕ
+leafCoefficients = 510
+
+abbrev pub mostCoefficients : ℕ
+mostCoefficients = 2_550
+
+abbrev pub mostEvaluations : ℕ
+mostEvaluations = 46
+
+abbrev pub longestMessage2 : ℕ
+longestMessage2 = 64
+
+abbrev pub longestMessage5 : ℕ
+longestMessage5 = 1_020
+
+abbrev pub mostWork : ℕ
+mostWork = 13_760
