@@ -19,7 +19,8 @@ abbrev μ-loop : tie.MeasureT-loop
 μ-loop words n rows₀ m at₀ i₀ rows at i = n - i
 
 -- share i has its place
-inside : (q : tie.In-loop Inv-loop μ-loop) → q .before .loop .at + length (q .before .before .before .before .args .words .now) ≤ length (q .before .loop .rows)
+inside : (q : tie.In-loop Inv-loop μ-loop) → let s : tie.Start Inv-loop μ-loop = search in
+    q .before .loop .at + length (s .args .words .now) ≤ length (q .before .loop .rows)
 inside q = let s : tie.Start Inv-loop μ-loop = search in let p = q .before .loop in
     within-blocks (p .i) (s .args .n) _ (p .at) _ (q .loop-test .taken) (p .inv .1) (p .inv .3 ∙ s .pre .1)
 

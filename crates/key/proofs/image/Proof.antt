@@ -23,9 +23,9 @@ abbrev μ-loop : tie.MeasureT-loop
 μ-loop x matrix out₀ tables k n a₀ i₀ out a i = n - i
 
 -- the row ends within the matrix
-inside : (p : tie.At-loop Inv-loop μ-loop) → p .loop .i < length (p .before .before .before .before .args .out .now)
-    → p .loop .a + length (p .before .before .before .before .args .x .now) ≤ length (p .before .before .before .before .args .matrix .now)
-inside p h = let a = p .before .before .before .before .args in omega (arith, part-fits (p .loop .i) (length (a .out .now)) (length (a .x .now)) h)
+inside : (p : tie.At-loop Inv-loop μ-loop) → let s : tie.Start Inv-loop μ-loop = search in
+    p .loop .i < length (s .args .out .now) → p .loop .a + length (s .args .x .now) ≤ length (s .args .matrix .now)
+inside p h = let s : tie.Start Inv-loop μ-loop = search in let a = s .args in omega (arith, part-fits (p .loop .i) (length (a .out .now)) (length (a .x .now)) h)
 
 loop-again : tie.Need-loop-again Inv-loop μ-loop
 loop-again c = let start : tie.Start Inv-loop μ-loop = search in let p = c .before .before .before in let a = start .args in

@@ -17,8 +17,7 @@ returns c prefix b = let start : tie.Start = search in let args = start .args in
     sym (ap (λ (t : Bool). cond t d (addedLeaf (args .p) (args .leaf) (drawnShare (args .p) prefix (args .states .now) (args .leaf)) d))
     (eq-eqb (args .leaf) (args .hidden-leaf) (c .if1 .taken)))
 
-front : (c : tie.After-draw-share) → Front (c .before .before .before .before .before .before .args .p) (c .draw-share .result)
-    (c .draw-share .last .1 .1 .1 .1 .0)
+front : (c : tie.After-draw-share) → let start : tie.Start = search in Front (start .args .p) (c .draw-share .result) (c .draw-share .last .1 .1 .1 .1 .0)
 front c = let start : tie.Start = search in
     drawn-front (start .args .p) (start .args .leaf) (c .draw-share .result) (c .draw-share .last .1 .1 .1 .1 .0) (c .draw-share .ensures .0)
     (omega (arith, start .pre .draw .room, c .draw-share .kept .1 .1 .1 .1 .0))

@@ -7,7 +7,7 @@ use Rattle.parties.specs.Drawn.Laws.{Front, drawn-front}
 use Rattle.parties.proofs.add_drawn.Statement.{statement}
 use Rattle.parties.proofs.add_drawn.Tie as tie
 
-front : (c : tie.After-draw-share) → Front (c .before .before .before .before .before .args .p) (c .draw-share .result) (c .draw-share .last .1 .1 .1 .1 .0)
+front : (c : tie.After-draw-share) → let start : tie.Start = search in Front (start .args .p) (c .draw-share .result) (c .draw-share .last .1 .1 .1 .1 .0)
 front c = let start : tie.Start = search in
     drawn-front (start .args .p) (start .args .leaf) (c .draw-share .result) (c .draw-share .last .1 .1 .1 .1 .0) (c .draw-share .ensures .0)
     (omega (arith, start .pre .draw .room, c .draw-share .kept .1 .1 .1 .1 .0))

@@ -8,8 +8,8 @@ use Rattle.points.proofs.by_table.Statement.{statement}
 use Rattle.points.proofs.by_table.Tie as tie
 
 -- where the upper bytes add up to a number, they are not all zero
-upper : (c : tie.Then1) → Lower (c .before .before .before .before .before .args .t1) → ⊥
-upper c l = let (a, b, d) = l in omega arith
+upper : (c : tie.Then1) → let s : tie.Start = search in Lower (s .args .t1) → ⊥
+upper c l = let s : tie.Start = search in let (a, b, d) = l in omega arith
 
 whole-product-requires : tie.Need-whole-product-requires
 whole-product-requires c κs = let s : tie.Start = search in ⊎-elim (λ h. h) (λ l. absurd (upper c l)) (s .pre .1)

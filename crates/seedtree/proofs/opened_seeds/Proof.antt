@@ -55,10 +55,9 @@ open-sibling-requires c κs = let start : tie.Start Inv-loop μ-loop = search in
       room = omega (arith, onWay-twice d k w less (inv .on), inv .room);
     }
 
-skipped-fits : (c : tie.After-skipped Inv-loop μ-loop)
-    → c .before .before .before .before .before .before .before .loop .at + 16 * c .skipped .result ≤ length
-    (c .before .before .before .before .before .before .before .loop .seeds)
-skipped-fits c = let head = c .before .before .before .before .before .before .before in
+skipped-fits : (c : tie.After-skipped Inv-loop μ-loop) → let head : tie.At-loop Inv-loop μ-loop = search in
+    head .loop .at + 16 * c .skipped .result ≤ length (head .loop .seeds)
+skipped-fits c = let head : tie.At-loop Inv-loop μ-loop = search in
     omega (arith, c .skipped .ensures, skipped-le (head .loop .way), head .loop .inv .room)
 
 next-requires : tie.Need-next-requires Inv-loop μ-loop
@@ -89,8 +88,8 @@ loop-again c = let after-open-sibling : tie.After-open-sibling Inv-loop μ-loop 
           ∙ sym (λ t. opening SHAKE256 prefix length-SHAKE256 d s (k + 1) (next-is t) (seeds-is t) (head .loop .at + 16 * skipped-is t));
     }
 
-last-level : (c : tie.After-loop Inv-loop μ-loop) → c .before .loop .k ≡ c .before .before .before .before .before .before .before .args .d
-last-level c = omega (arith, c .before .loop .inv .on .within)
+last-level : (c : tie.After-loop Inv-loop μ-loop) → let start : tie.Start Inv-loop μ-loop = search in c .before .loop .k ≡ start .args .d
+last-level c = let start : tie.Start Inv-loop μ-loop = search in omega (arith, c .before .loop .inv .on .within)
 
 last-room : (c : tie.After-loop Inv-loop μ-loop) → c .before .loop .at + 16 ≤ length (c .before .loop .seeds)
 last-room c = let start : tie.Start Inv-loop μ-loop = search in let inv = c .before .loop .inv in let d = start .args .d in

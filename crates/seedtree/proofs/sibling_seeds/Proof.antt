@@ -50,9 +50,8 @@ loop-holds c = let start : tie.Start Inv-loop μ-loop = search in let args = sta
     let none : 0 ≡ args .d - args .d = omega arith in
     (omega arith, subst (Inv (args .prefix .now) (args .d) (args .root .now) (args .leaf) (args .out .now) (args .out .now) w pair 0) none at-root)
 
-level : (c : tie.In-loop Inv-loop μ-loop) → c .before .before .before .before .before .before .before .before .before .before .args .d - c .before .loop .left
-    < c .before .before .before .before .before .before .before .before .before .before .args .d
-level c = omega (arith, c .loop-test .taken, c .before .loop .inv .0)
+level : (c : tie.In-loop Inv-loop μ-loop) → let start : tie.Start Inv-loop μ-loop = search in start .args .d - c .before .loop .left < start .args .d
+level c = let start : tie.Start Inv-loop μ-loop = search in omega (arith, c .loop-test .taken, c .before .loop .inv .0)
 
 expand-requires : tie.Need-expand-requires Inv-loop μ-loop
 expand-requires c κs = let start : tie.Start Inv-loop μ-loop = search in let head = c .before .before in let inv = head .loop .inv .1 in

@@ -13,7 +13,7 @@ returns c = let n = c .before .before .answer-number .ensures in
     rw (n, sym (ap judges n) ∙ sym (c .before .is-judged .ensures) ∙ not-true _ (c .if1 .taken))
 
 -- past the test the opening was judged
-so : (c : tie.Else1) → judges (answerNumber (c .before .before .before .before .args .called .answer)) ≡ true
+so : (c : tie.Else1) → let start : tie.Start = search in judges (answerNumber (start .args .called .answer)) ≡ true
 so c = sym (ap judges (c .before .before .answer-number .ensures)) ∙ sym (c .before .is-judged .ensures) ∙ not-false _ (c .if1 .left)
 
 returns-2 : tie.Need-returns-2

@@ -26,8 +26,8 @@ abbrev μ-loop : tie.MeasureT-loop
 
 -- the entry stands within the matrix
 inside : (q : tie.In-loop Inv-loop μ-loop) →
-    let a = q .before .before .before .before .args in q .before .loop .j * a .k + a .i < length (a .matrix .now)
-inside q = let a = q .before .before .before .before .args in
+    let s : tie.Start Inv-loop μ-loop = search in let a = s .args in q .before .loop .j * a .k + a .i < length (a .matrix .now)
+inside q = let s : tie.Start Inv-loop μ-loop = search in let a = s .args in
     omega (arith, part-fits (q .before .loop .j) (length (a .out .now)) (a .k) (q .loop-test .taken))
 
 loop-holds : tie.Need-loop-holds Inv-loop μ-loop

@@ -28,10 +28,10 @@ gathered : (d : tie.After-gather) → length (d .gather .last .1 .1 .1 .1 .0) �
 gathered d = d .gather .kept .1 .1 .1 .1 .0 ∙ sym (front (back-to-start d))
 
 prepared : (z : tie.After-clear) →
-    let d = z .before .before .before .before in let s = back-to-start d in let p = s .args .p in let g = d .gather .last .1 .1 .1 .1 .0 in
+    let d : tie.After-gather = search in let s = back-to-start d in let p = s .args .p in let g = d .gather .last .1 .1 .1 .1 .0 in
     let w = g ++ drop (p .k) (s .args .words .now) in
     take (p .k) w ++ (z .clear .last .0 ++ drop (length w - p .k) (drop (p .k) w)) ≡ g ++ replicate (yLength p) 0
-prepared z = let d = z .before .before .before .before in let s = back-to-start d in
+prepared z = let d : tie.After-gather = search in let s = back-to-start d in
     prepared-made _ _ (s .args .words .now) (d .gather .last .1 .1 .1 .1 .0) _ (s .pre .sized-words) (gathered d) (below s) (z .clear .ensures)
 
 image-requires : tie.Need-image-requires

@@ -48,10 +48,11 @@ loop-again c = let first : tie.After-begin Inv-loop μ-loop = search in let star
     (omega arith, c .absorb-commitment .ensures ∙ ap₂ absorbed (head .loop .inv .1) is ∙ committed-more (args .prefix .now) f i)
 
 returns : tie.Need-returns Inv-loop μ-loop
-returns c = let filled = c .before .before .digest in let head = c .before .before .before .before .before in let counted = head .before in
-    let args = counted .before .before .before .before .before .before .before .before .args in
+returns c = let filled = c .before .before .digest in let head : tie.At-loop Inv-loop μ-loop = search in
+    let counted = head .before in let start : tie.Start Inv-loop μ-loop = search in let args = start .args in
     let f = commitmentsOf (args .p) (args .prefix .now) (args .states .now) (args .hidden-leaf) (args .given .now) (args .aux .now) in
-    let size = length (args .out .now) in let last : head .loop .i ≡ counted .leaf-count .result = omega arith in
+    let size = length (args .out .now) in let ended : tie.After-loop Inv-loop μ-loop = search in
+    let last : head .loop .i ≡ counted .leaf-count .result = omega (arith, ended .loop-test .left, head .loop .inv .0) in
     filled .ensures ∙ ap (λ (s : Sponge). hashed s [] size) (head .loop .inv .1) ∙ committed-digest (args .prefix .now) f (head .loop .i) size
     ∙ ap (λ (n : ℕ). SHAKE256 (string5 (args .prefix .now) f n) size) (last ∙ counted .leaf-count .ensures)
 

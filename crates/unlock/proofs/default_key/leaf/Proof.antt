@@ -20,4 +20,4 @@ returns c =
 
 pub leaf-spec : {M : Type 1} → statement M
 leaf-spec = tie.close (tie.spec (λ c. search needs) (λ c. search needs) (λ c κs. search needs) (λ c. search needs) (λ c κs. search needs)
-    (λ c κs. let p = c .before .before .before .before .before .args .p in omega (arith, c .leaf-count .ensures, leaves-pos p)) returns)
+    (λ c κs. let start : tie.Start = search in omega (arith, c .leaf-count .ensures, leaves-pos (start .args .p))) returns)

@@ -25,7 +25,7 @@ Inv-loop s n stride at own values₀ made count₀ i₀ values count i =
 abbrev μ-loop : tie.MeasureT-loop
 μ-loop s n stride at own values₀ made count₀ i₀ values count i = n - i
 
-small : (p : tie.In-loop Inv-loop μ-loop) → p .before .loop .i * p .before .before .before .before .before .args .stride ≤ 4194304
+small : (p : tie.In-loop Inv-loop μ-loop) → let s : tie.Start Inv-loop μ-loop = search in p .before .loop .i * s .args .stride ≤ 4194304
 small p = let s : tie.Start Inv-loop μ-loop = search in
     place-small (p .before .loop .i) (s .args .n) (s .args .stride) (omega arith) (s .pre .0 .few) (s .pre .0 .near)
 

@@ -19,4 +19,4 @@ returns c = let made = c .before .before .before in
 pub next-spec : {M : Type 1} → statement M
 next-spec = tie.close (tie.spec (λ c κs. search needs) (λ c κs. search needs) (λ c. search needs)
     (λ c. omega (arith, c .before .before .side .ensures, side-le (c .before .before .before .args .self)))
-    (λ c. omega (arith, c .before .before .skipped .ensures, skipped-least (c .before .before .before .before .args .self))) returns)
+    (λ c. let s : tie.Start = search in omega (arith, c .before .before .skipped .ensures, skipped-least (s .args .self))) returns)
