@@ -1,10 +1,10 @@
 // The extractor's call.
-use comparison::findings::Extraction;
+use extractor::findings::Extraction;
 use parameters::set::parameters_of;
 ghost use mathlib.Core.Path.{_≡_};
 ghost use Rattle.exchange.specs.Values.{keyOf};
 ghost use Rattle.calls.specs.Extractor.{transcript};
-ghost use Rattle.comparison.specs.Answer.{extractionAnswer};
+ghost use Rattle.extractor.specs.Answer.{extractionAnswer};
 ghost use Rattle.capi.specs.Extract.{extractNumber, given, extractSet};
 
 fn wide(b: u8) -> u32

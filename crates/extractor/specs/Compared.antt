@@ -7,8 +7,8 @@ use lib.ListN.{length, take}
 use Rattle.parameters.specs.declared.Parameters.{Parameters}
 use Rattle.reader.specs.Message5.{auxPlace, auxIn}
 use Rattle.layout.specs.Layout.{openedLength}
-use Rattle.comparison.specs.declared.Hidden.{Hidden}
-use Rattle.comparison.specs.Shapes.{Openings}
+use Rattle.extractor.specs.declared.Hidden.{Hidden}
+use Rattle.extractor.specs.Shapes.{Openings}
 
 pub record Comparing (p : Parameters) (m1 : List ℕ) (hidden : Hidden) (m5 opened other5 other out : List ℕ) : Type 0 where
   pub salt : 32 ≤ length m1

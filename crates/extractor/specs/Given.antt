@@ -4,8 +4,8 @@
 use mathlib.Core.List.{List}
 use Prim.Native.Nat.{ℕ}
 use Rattle.calls.specs.Extractor.{Outcome}
-use Rattle.comparison.specs.declared.findings.Extraction.{Extraction}
-use Rattle.comparison.specs.Answer.{extractionAnswer}
+use Rattle.extractor.specs.declared.findings.Extraction.{Extraction}
+use Rattle.extractor.specs.Answer.{extractionAnswer}
 pub mod Laws
 
 abbrev pub given : Extraction → List ℕ → List ℕ → Outcome

@@ -19,9 +19,9 @@ use Rattle.exchange.specs.Opening.{Exchange, auxOf}
 use Rattle.reader.specs.Message5.{auxIn}
 use Rattle.openings.specs.Checked.{Checked}
 use Rattle.openings.specs.Checked.Laws.{checked-state, checked-row}
-use Rattle.comparison.specs.Comparison.Laws.{Shows}
-use Rattle.comparison.specs.Opened.{viewOf}
-use Rattle.comparison.specs.Opened.Laws.{state-front}
+use Rattle.extractor.specs.Comparison.Laws.{Shows}
+use Rattle.extractor.specs.Opened.{viewOf}
+use Rattle.extractor.specs.Opened.Laws.{state-front}
 pub mod Laws
 pub mod Pair
 

@@ -1,4 +1,12 @@
+pub mod Answer
+pub mod Chain
 pub mod Compared
-pub mod Given
+pub mod Comparison
 pub mod Early
+pub mod Found
+pub mod Given
+pub mod Head
 pub mod Judged
+pub mod Opened
+pub mod Output
+pub mod Shapes

@@ -1,16 +1,16 @@
 // Two checked openings compared.
-use comparison::Hidden;
-use comparison::findings::Extraction;
-use comparison::findings::compare;
+use crate::Hidden;
+use crate::findings::Extraction;
+use crate::findings::compare;
 use layout::opened_length;
 use parameters::Parameters;
 use reader::opening::aux_place;
 ghost use lib.ListN.{take};
 ghost use Rattle.reader.specs.Message5.{auxIn};
 ghost use Rattle.layout.specs.Layout.{openedLength};
-ghost use Rattle.comparison.specs.Comparison.{comparison};
-ghost use Rattle.comparison.specs.Opened.{viewOf};
-ghost use Rattle.comparison.specs.Found.{Found};
+ghost use Rattle.extractor.specs.Comparison.{comparison};
+ghost use Rattle.extractor.specs.Opened.{viewOf};
+ghost use Rattle.extractor.specs.Found.{Found};
 ghost use Rattle.extractor.specs.Compared.{Comparing};
 
 // Compares what two openings gave, in the fronts of `opened` and `other`; aux ends message 5.

@@ -1,16 +1,22 @@
 // The extractor: from two accepted openings of one commitment, two unequal strings hashed to one digest, or every leaf's state.
+mod axis;
 mod checks;
+mod commitments;
 mod compare;
+mod digests;
+pub mod findings;
 mod judge;
+mod opened;
+mod output;
+mod rows;
 
+use crate::findings::Extraction;
 use answers::Answer;
 use checks::early_checks;
 use checks::exchange_lengths;
 use checks::lent_lengths;
 use checks::same_statement;
 use compare::compare_openings;
-use comparison::Hidden;
-use comparison::findings::Extraction;
 use judge::judge;
 use layout::MOST_OPENED;
 use layout::MOST_STATEMENT;
@@ -22,6 +28,12 @@ ghost use Rattle.shake256.specs.Fips.{SHAKE256};
 ghost use Rattle.exchange.specs.Values.{keyOf};
 ghost use Rattle.calls.specs.Extractor as spec;
 ghost use Rattle.extractor.specs.Given.{given};
+
+// The hidden leaves of two openings.
+pub struct Hidden {
+    pub first: usize,
+    pub second: usize,
+}
 
 // Compares two openings of one commitment with different hidden leaves: names the first unequal pair of strings hashed
 // to one digest, or fills out with every leaf's state and aux.

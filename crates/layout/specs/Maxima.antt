@@ -1,4 +1,5 @@
--- The maxima over all parameters within their limits; `Layout.Bounds` shows that nothing is longer, and layout/src/lib.rt has the same numbers.
+-- The maxima over all parameters within their limits, for which arrays have room; layout/src/lib.rt has the same numbers.
+-- That nothing is longer is shown in `Layout.Bounds`, or where the array is lent.
 --
 -- mostLevels, mostLeaves, mostSide, mostParties, mostSums   of the tree, of the cube, of an axis, of all axes, in the work area
 -- mostMatrix, longestY        the key's matrix; y, which is no shorter than the longest x_A

@@ -324,7 +324,7 @@ pub fn statement_length(p: Parameters) -> usize
     prefix_place(p) + 32
 }
 
-// The length of the work area that a call zeroes: a share for each of the two parties of every axis.
+// The length of the work area that a call zeroes: a share for each party of every axis.
 pub fn work_length(p: Parameters) -> usize
     requires { ⌜ Within p ⌝ }
     ensures { λ r. ⌜ r ≡ spec.workLength p ⌝ }

@@ -19,11 +19,11 @@ use Rattle.layout.specs.Layout.{workLength}
 use Rattle.exchange.specs.Values.{Key}
 use Rattle.exchange.specs.Opening.{verdict}
 use Rattle.exchange.specs.Extractor.{Finding, unequal, states, extract}
-use Rattle.comparison.specs.declared.findings.Extraction.{Extraction}
-use Rattle.comparison.specs.declared.findings.Extraction.the-variants.{Refused}
+use Rattle.extractor.specs.declared.findings.Extraction.{Extraction}
+use Rattle.extractor.specs.declared.findings.Extraction.the-variants.{Refused}
 use Rattle.extractor.specs.Given.{given}
 use Rattle.calls.specs.Extractor.{Transcript, exchangeOf, earlyChecks, found, second, first, early, extraction}
-use Rattle.comparison.specs.Found.{answered, left, Found}
+use Rattle.extractor.specs.Found.{answered, left, Found}
 
 pub zeroed-twice : (n : ℕ) (d : List ℕ) → zeroed n (zeroed n d) ≡ zeroed n d
 unfolding zeroed

@@ -22,11 +22,11 @@ use Rattle.layout.specs.Maxima.{mostOpened}
 use Rattle.openings.specs.Statement.{statementOf, exchangeIn}
 use Rattle.openings.specs.Statement.Laws.{exchange-in}
 use Rattle.calls.specs.Extractor.{Transcript, exchangeOf}
-use Rattle.comparison.specs.declared.findings.Extraction.{Extraction}
-use Rattle.comparison.specs.Comparison.{View, comparison}
-use Rattle.comparison.specs.Comparison.Laws.{comparison-is}
-use Rattle.comparison.specs.Opened.{viewOf}
-use Rattle.comparison.specs.Found.{Found}
+use Rattle.extractor.specs.declared.findings.Extraction.{Extraction}
+use Rattle.extractor.specs.Comparison.{View, comparison}
+use Rattle.extractor.specs.Comparison.Laws.{comparison-is}
+use Rattle.extractor.specs.Opened.{viewOf}
+use Rattle.extractor.specs.Found.{Found}
 use Rattle.extractor.specs.Early.{Early}
 use Rattle.extractor.specs.Compared.{Comparing}
 use Rattle.extractor.specs.Judged.{Judged, shows}
