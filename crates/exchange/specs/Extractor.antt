@@ -1,6 +1,7 @@
 -- What the extractor makes of two accepted openings of one commitment.
 --
 -- stringAt e l n       the string of layer l (4 to 7) and number n: 'the axis for 6, the leaf for 4, 0 for 7 and 5'
+-- openedInBoth u u′ i  leaf i is neither of the hidden leaves u and u′
 -- compared e e′        'It compares the strings of both openings at layer 7, 6 (axis ascending), 5, 4 (leaves opened in both,
 --                      ascending)': the layers and numbers, in this order
 -- unequalAt e e′       those of them at which the two strings differ
@@ -26,14 +27,14 @@ pub data Finding : Type 0 where
   unequal : ℕ → ℕ → Finding
   states : ℕ → List ℕ → Finding
 
-module _ (p : Parameters) (e e′ : Exchange) where
-  unfoldable pub openedInBoth : ℕ → Bool
-  openedInBoth i = not (eqb i (e .leaf)) && not (eqb i (e′ .leaf))
+unfoldable pub openedInBoth : ℕ → ℕ → ℕ → Bool
+openedInBoth u u′ i = not (eqb i u) && not (eqb i u′)
 
+module _ (p : Parameters) (e e′ : Exchange) where
   unfoldable pub compared : List (ℕ × ℕ)
   compared =
       ((7, 0) ∷ listed (λ j. (6, j + 1)) (p .axes))
-      ++ ((5, 0) ∷ those (λ n. openedInBoth (n .1)) (listed (λ i. (4, i)) (leaves p)))
+      ++ ((5, 0) ∷ those (λ n. openedInBoth (e .leaf) (e′ .leaf) (n .1)) (listed (λ i. (4, i)) (leaves p)))
 
   unfoldable pub axis : ℕ
   axis = least (λ j. not (eqb (digit p j (e .leaf)) (digit p j (e′ .leaf)))) (p .axes) + 1

@@ -50,13 +50,13 @@ module _ (hash : List ℕ → ℕ → List ℕ) (p : Parameters) (key : Key) (e 
   all = listed (λ i. (4, i)) (leaves p)
 
   abbrev both : ℕ × ℕ → Bool
-  both n = openedInBoth p e e′ (n .1)
+  both n = openedInBoth (e .leaf) (e′ .leaf) (n .1)
 
   -- layers 5 and 4
   leaves-chain : headOr named otherwise (those differs ((5, 0) ∷ those both all))
       ≡ cond (differsAt 5 0) (unequal 5 0)
-      (cond (ltb (least (λ i. openedInBoth p e e′ i && differsAt 4 i) (leaves p)) (leaves p))
-      (unequal 4 (least (λ i. openedInBoth p e e′ i && differsAt 4 i) (leaves p))) otherwise)
+      (cond (ltb (least (λ i. openedInBoth (e .leaf) (e′ .leaf) i && differsAt 4 i) (leaves p)) (leaves p))
+      (unequal 4 (least (λ i. openedInBoth (e .leaf) (e′ .leaf) i && differsAt 4 i) (leaves p))) otherwise)
   leaves-chain =
       headOr-those named differs otherwise (5, 0) (those both all)
       ∙ ap (cond (differsAt 5 0) (unequal 5 0))
@@ -65,7 +65,7 @@ module _ (hash : List ℕ → ℕ → List ℕ) (p : Parameters) (key : Key) (e 
 
   pub extract-chain : extract hash p key e e′
       ≡ rowChain (differsAt 7 0) (least (λ j. differsAt 6 (j + 1)) (p .axes)) (p .axes)
-      (leafChain (differsAt 5 0) (least (λ i. openedInBoth p e e′ i && differsAt 4 i) (leaves p)) (leaves p) otherwise)
+      (leafChain (differsAt 5 0) (least (λ i. openedInBoth (e .leaf) (e′ .leaf) i && differsAt 4 i) (leaves p)) (leaves p) otherwise)
   unfolding extract unequalAt compared rowChain leafChain differsAt
   extract-chain =
       found-head (those differs (compared p e e′))

@@ -8,7 +8,6 @@
 -- commitments p prefix v i   commitment of leaf i; the hidden leaf's is the one given
 -- leafAt                 what layer 4's string has behind the number of leaf i
 -- apart f g i            f i and g i differ
--- openedBoth u u′ i      leaf i is neither of the hidden leaves (exchange's `openedInBoth` takes whole exchanges)
 -- firstApart f g n       the first number below n at which f and g differ, or n
 -- firstOpened u u′ f g n   the same among the leaves opened in both
 -- stateOf u, outputOf u  the state of leaf i, and the output, from the opening that discloses them; the first one hides leaf u
@@ -28,7 +27,7 @@ use Rattle.parameters.specs.declared.Parameters.{Parameters}
 use Rattle.layout.specs.Layout.{leaves, isLast, axisLength}
 use Rattle.exchange.specs.Sequences.{joined, least}
 use Rattle.exchange.specs.Strings.{string}
-use Rattle.exchange.specs.Extractor.{Finding, states as extracted}
+use Rattle.exchange.specs.Extractor.{Finding, openedInBoth, states as extracted}
 pub use Rattle.leaves.specs.States.{stateAt}
 use Rattle.leaves.specs.Commitments.{commitmentsOf}
 use Rattle.extractor.specs.Chain.{rowChain, leafChain}
@@ -63,14 +62,11 @@ leafAt p states aux i = stateAt states i ++ cond (isLast p i) aux []
 unfoldable pub apart : (ℕ → List ℕ) → (ℕ → List ℕ) → ℕ → Bool
 apart f g i = not (eqList (f i) (g i))
 
-unfoldable pub openedBoth : ℕ → ℕ → ℕ → Bool
-openedBoth u u′ i = not (eqb i u) && not (eqb i u′)
-
 unfoldable pub firstApart : (ℕ → List ℕ) → (ℕ → List ℕ) → ℕ → ℕ
 firstApart f g n = least (apart f g) n
 
 unfoldable pub firstOpened : ℕ → ℕ → (ℕ → List ℕ) → (ℕ → List ℕ) → ℕ → ℕ
-firstOpened u u′ f g n = least (λ i. openedBoth u u′ i && apart f g i) n
+firstOpened u u′ f g n = least (λ i. openedInBoth u u′ i && apart f g i) n
 
 -- ---- the answer
 

@@ -9,7 +9,8 @@ ghost use mathlib.Core.Bool.{_&&_};
 ghost use Prim.Native.Nat.{_<_};
 ghost use Rattle.lists.specs.Equal.{eqList};
 ghost use Rattle.layout.specs.Layout.{leaves};
-ghost use Rattle.extractor.specs.Comparison.{leafAt, apart, openedBoth, firstOpened};
+ghost use Rattle.exchange.specs.Extractor.{openedInBoth};
+ghost use Rattle.extractor.specs.Comparison.{leafAt, apart, firstOpened};
 ghost use Rattle.extractor.specs.Shapes.{Both};
 
 // Is what is hashed of a leaf the same in both openings?
@@ -47,7 +48,7 @@ fn leaf_differs(
     leaf: usize,
 ) -> bool
     requires { ⌜ Both p (now opened) (now «other_opened») × (leaf < leaves p) ⌝ }
-    ensures { λ r. ⌜ r ≡ (openedBoth (hidden .first) (hidden .second) leaf &&
+    ensures { λ r. ⌜ r ≡ (openedInBoth (hidden .first) (hidden .second) leaf &&
         apart (leafAt p (now (opened .entry)) (now (aux .entry))) (leafAt p (now («other_opened» .entry)) (now («other_aux» .entry))) leaf) ⌝ }
 {
     leaf != hidden.first

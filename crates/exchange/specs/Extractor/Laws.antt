@@ -40,13 +40,13 @@ module _ (p : Parameters) (e e′ : Exchange) where
 
   -- layer 4
   abbrev pub lower : List (ℕ × ℕ)
-  lower = those (λ n. openedInBoth p e e′ (n .1)) (listed (λ i. (4, i)) (leaves p))
+  lower = those (λ n. openedInBoth (e .leaf) (e′ .leaf) (n .1)) (listed (λ i. (4, i)) (leaves p))
 
-  both-when : (i : ℕ) → (i ≡ e .leaf → ⊥) → (i ≡ e′ .leaf → ⊥) → openedInBoth p e e′ i ≡ true
+  both-when : (i : ℕ) → (i ≡ e .leaf → ⊥) → (i ≡ e′ .leaf → ⊥) → openedInBoth (e .leaf) (e′ .leaf) i ≡ true
   unfolding openedInBoth
   both-when i n n′ = rw (ne-eqb i (e .leaf) n, ne-eqb i (e′ .leaf) n′)
 
-  both-then : (i : ℕ) → openedInBoth p e e′ i ≡ true → (i ≡ e .leaf → ⊥) × (i ≡ e′ .leaf → ⊥)
+  both-then : (i : ℕ) → openedInBoth (e .leaf) (e′ .leaf) i ≡ true → (i ≡ e .leaf → ⊥) × (i ≡ e′ .leaf → ⊥)
   unfolding openedInBoth
   both-then i t = (
     eqb-false i (e .leaf) (not-true _ (and-left (not (eqb i (e .leaf))) (not (eqb i (e′ .leaf))) t)),
@@ -60,7 +60,7 @@ module _ (p : Parameters) (e e′ : Exchange) where
   mem-compared a atCommitment = Memᴰ·append-right upper (List·Memᴰ·head refl)
   mem-compared a (atLeaf i h n n′) =
       Memᴰ·append-right upper
-      (List·Memᴰ·tail (mem-those (λ n. openedInBoth p e e′ (n .1)) (listed (λ i. (4, i)) (leaves p)) (4, i) (mem-listed (λ i. (4, i)) (leaves p) i h) (both-when i n n′)))
+      (List·Memᴰ·tail (mem-those (λ n. openedInBoth (e .leaf) (e′ .leaf) (n .1)) (listed (λ i. (4, i)) (leaves p)) (4, i) (mem-listed (λ i. (4, i)) (leaves p) i h) (both-when i n n′)))
 
   pub compared-is : compared p e e′ ≡ upper ++ ((5, 0) ∷ lower)
   unfolding compared
@@ -71,9 +71,9 @@ module _ (p : Parameters) (e e′ : Exchange) where
 
   lower-mem : (a : ℕ × ℕ) → List·Memᴰ a lower → Compared a
   lower-mem a m =
-      let t = those-mem (λ n. openedInBoth p e e′ (n .1)) (listed (λ i. (4, i)) (leaves p)) a m in
+      let t = those-mem (λ n. openedInBoth (e .leaf) (e′ .leaf) (n .1)) (listed (λ i. (4, i)) (leaves p)) a m in
       let f = listed-mem (λ i. (4, i)) (leaves p) a (t .0) in
-      let b = both-then (f .0) (ap (λ (n : ℕ × ℕ). openedInBoth p e e′ (n .1)) (sym (f .2)) ∙ t .1) in
+      let b = both-then (f .0) (ap (λ (n : ℕ × ℕ). openedInBoth (e .leaf) (e′ .leaf) (n .1)) (sym (f .2)) ∙ t .1) in
       rw (f .2) (atLeaf (f .0) (f .1) (b .0) (b .1))
 
   pub compared-mem : (a : ℕ × ℕ) → List·Memᴰ a (compared p e e′) → Compared a

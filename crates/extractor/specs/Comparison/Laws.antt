@@ -36,7 +36,7 @@ use Rattle.leaves.specs.Commitments.{commitmentsOf}
 use Rattle.leaves.specs.Commitments.Laws.{opened-commitments}
 use Rattle.extractor.specs.Head.{least-ext}
 use Rattle.extractor.specs.Chain.{differsAt, extract-chain}
-use Rattle.extractor.specs.Comparison.{View, stateAt, rowAt, digestAt, leafAt, apart, openedBoth, commitments, firstApart, firstOpened, stateOf, outputOf, axisOf, leafComparison, comparison}
+use Rattle.extractor.specs.Comparison.{View, stateAt, rowAt, digestAt, leafAt, apart, commitments, firstApart, firstOpened, stateOf, outputOf, axisOf, leafComparison, comparison}
 
 -- ---- comparisons
 
@@ -147,15 +147,15 @@ module _ (p : Parameters) (within : Within p) (key : Key) (prefix : List ℕ) (e
       (string-5 SHAKE256 p key e′ ∙ commitment-string p key prefix e′ v′ s′)
       ∙ sym (joined-apart _ _ (leaves p) 32 5 prefix (length-commitment p key prefix e v s) (length-commitment p key prefix e′ v′ s′))
 
-  at-4 : least (λ i. openedInBoth p e e′ i && differsAt SHAKE256 p key e e′ 4 i) (leaves p) ≡ firstOpened (v .leaf) (v′ .leaf) (leafAt p (v .states) (v .aux)) (leafAt p (v′ .states) (v′ .aux)) (leaves p)
+  at-4 : least (λ i. openedInBoth (e .leaf) (e′ .leaf) i && differsAt SHAKE256 p key e e′ 4 i) (leaves p) ≡ firstOpened (v .leaf) (v′ .leaf) (leafAt p (v .states) (v .aux)) (leafAt p (v′ .states) (v′ .aux)) (leaves p)
   unfolding firstOpened
   at-4 =
-      least-ext (λ i. openedInBoth p e e′ i && differsAt SHAKE256 p key e e′ 4 i)
-      (λ i. openedBoth (v .leaf) (v′ .leaf) i && apart (leafAt p (v .states) (v .aux)) (leafAt p (v′ .states) (v′ .aux)) i) (leaves p)
-      (λ i l. go i l (openedInBoth p e e′ i) refl ∙ ap (λ (b : Bool). b && apart (leafAt p (v .states) (v .aux)) (leafAt p (v′ .states) (v′ .aux)) i) (both i))
+      least-ext (λ i. openedInBoth (e .leaf) (e′ .leaf) i && differsAt SHAKE256 p key e e′ 4 i)
+      (λ i. openedInBoth (v .leaf) (v′ .leaf) i && apart (leafAt p (v .states) (v .aux)) (leafAt p (v′ .states) (v′ .aux)) i) (leaves p)
+      (λ i l. go i l (openedInBoth (e .leaf) (e′ .leaf) i) refl ∙ ap (λ (b : Bool). b && apart (leafAt p (v .states) (v .aux)) (leafAt p (v′ .states) (v′ .aux)) i) (both i))
     where
-      both : (i : ℕ) → openedInBoth p e e′ i ≡ openedBoth (v .leaf) (v′ .leaf) i
-      both i = unfold openedInBoth openedBoth in ap₂ (λ (a b : ℕ). not (eqb i a) && not (eqb i b)) (s .leaf) (s′ .leaf)
+      both : (i : ℕ) → openedInBoth (e .leaf) (e′ .leaf) i ≡ openedInBoth (v .leaf) (v′ .leaf) i
+      both i = ap₂ (λ (a b : ℕ). openedInBoth a b i) (s .leaf) (s′ .leaf)
 
       differ : (i : ℕ) → i < leaves p → (i ≡ e .leaf → ⊥) → (i ≡ e′ .leaf → ⊥)
           → differsAt SHAKE256 p key e e′ 4 i ≡ apart (leafAt p (v .states) (v .aux)) (leafAt p (v′ .states) (v′ .aux)) i
@@ -166,7 +166,7 @@ module _ (p : Parameters) (within : Within p) (key : Key) (prefix : List ℕ) (e
           ∙ ap not
           (eqList-same _ _ _ _ (λ z. ap (drop 1) (string-inj 4 prefix _ _ z)) (λ z. ap (λ (r : List ℕ). string 4 prefix (i ∷ r)) z))
 
-      go : (i : ℕ) → i < leaves p → (b : Bool) → openedInBoth p e e′ i ≡ b
+      go : (i : ℕ) → i < leaves p → (b : Bool) → openedInBoth (e .leaf) (e′ .leaf) i ≡ b
           → (b && differsAt SHAKE256 p key e e′ 4 i) ≡ (b && apart (leafAt p (v .states) (v .aux)) (leafAt p (v′ .states) (v′ .aux)) i)
       go i l true z =
           unfold openedInBoth in

@@ -7,14 +7,15 @@ use borrow.Author.Count.{below-more}
 use borrow.Author.Needs.{needs}
 use Rattle.layout.specs.Layout.{leaves}
 use Rattle.extractor.specs.Head.{least-found, least-none}
-use Rattle.extractor.specs.Comparison.{leafAt, apart, openedBoth, firstOpened}
+use Rattle.exchange.specs.Extractor.{openedInBoth}
+use Rattle.extractor.specs.Comparison.{leafAt, apart, firstOpened}
 use Rattle.extractor.proofs.opened.first_leaf.Statement.{statement}
 use Rattle.extractor.proofs.opened.first_leaf.Tie as tie
 
 abbrev Inv-loop : tie.InvT-loop
 Inv-loop p hidden aux opened other-aux other-opened n leaf₀ leaf =
     (leaf ≤ leaves p)
-    × ((k : ℕ) → k < leaf → (openedBoth (hidden .first) (hidden .second) k && apart (leafAt p opened aux) (leafAt p other-opened other-aux) k) ≡ false)
+    × ((k : ℕ) → k < leaf → (openedInBoth (hidden .first) (hidden .second) k && apart (leafAt p opened aux) (leafAt p other-opened other-aux) k) ≡ false)
 
 abbrev μ-loop : tie.MeasureT-loop
 μ-loop p hidden aux opened other-aux other-opened n leaf₀ leaf = n - leaf
