@@ -1,4 +1,4 @@
--- The maxima over all parameters within their limits, for which arrays have room; layout/src/lib.rt has the same numbers.
+-- The maxima over all parameters within their limits; those of which arrays are made are constants in layout/src/lib.rt too.
 -- That nothing is longer is shown in `Layout.Bounds`, or where the array is lent.
 --
 -- mostLevels, mostLeaves, mostSide, mostParties, mostSums   of the tree, of the cube, of an axis, of all axes, in the work area
