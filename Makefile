@@ -1,4 +1,6 @@
 # make test      the gate: proves every crate, tries the must-fail edits, runs the programs and the comparisons
+# make firmware  the library and its header for a Cortex-M4, in target/firmware/; OPT=-Os: for size
+# make emulate   one exchange on an emulated Cortex-M4
 # make unlock    one exchange with the key that the program holds; KEY=FILE or '<FILE' for another key
 # make example   the same exchange in C
 # make bench     the table of docs/PERFORMANCE.md, measured here
@@ -6,11 +8,19 @@
 
 SEED = 1
 COUNT = 100000
+OPT = -O2
 
-.PHONY: test unlock example bench soak
+.PHONY: test firmware emulate unlock example bench soak
 
 test:
 	@tools/test
+
+firmware:
+	@tools/firmware $(OPT)
+
+emulate: firmware
+	@tools/core-program target/firmware/exchange target/firmware/libunlock.a firmware/main.c examples/exchange.c
+	@tools/on-core target/firmware/exchange
 
 unlock:
 	@tools/unlock $(if $(KEY),"$(KEY)")
@@ -18,7 +28,7 @@ unlock:
 example:
 	@tools/staticlib capi
 	@mkdir -p target/example
-	@$(CC) -std=c99 -O2 -Wall -Wextra -Iinclude -o target/example/exchange examples/exchange.c target/staticlib/libcapi.a
+	@$(CC) -std=c99 -O2 -Wall -Wextra -Iinclude -o target/example/exchange examples/*.c target/staticlib/libcapi.a
 	@target/example/exchange
 
 bench:

@@ -1,14 +1,16 @@
 /*
- * One unlock exchange at the shipped set, probe and target in one program, through include/unlock.h.
+ * One unlock exchange at the shipped set, probe and target in one program, through include/unlock.h. It runs on x86-64 (main.c)
+ * and on a bare Cortex-M4 (firmware/main.c).
  *
  * The probe holds the key and is the prover, the target is the verifier. All storage is static and nothing is allocated.
  * Salt, root, points and leaf are expanded from labels, so that every run prints the same; a product draws them fresh from
  * its random source: salt and root on the probe, points and leaf on the target.
  */
+#include <stddef.h>
 #include <stdint.h>
-#include <stdio.h>
-#include <string.h>
 
+#include "exchange.h"
+#include "print.h"
 #include "unlock.h"
 
 /* The shipped set. */
@@ -47,22 +49,21 @@ static uint8_t message1[64], message2[8 * T], message3[32], leaf, message5[UNLOC
         if (answer != UNLOCK_DONE) return answer;    \
     } while (0)
 
-/* Stands in for a random source. */
-static void expand(const char *label, uint8_t *out, uint64_t length)
-{
-    char text[32] = "Risvatey unlock: ";
-    strcat(text, label);
-    unlock_shake256((const uint8_t *)text, strlen(text), out, length);
-}
+/* Bytes from a label: stands in for a random source. */
+#define EXPAND(label, out, length)                                                                                               \
+    unlock_shake256((const uint8_t *)"Risvatey unlock: " label, sizeof "Risvatey unlock: " label - 1, out, length)
 
 /* A message's name, its length and the digest of its bytes. */
 static void report(const char *name, const uint8_t *message, uint64_t length)
 {
     uint8_t digest[32];
     unlock_shake256(message, length, digest, sizeof digest);
-    printf("%s\t%u\t", name, (unsigned)length);
-    for (size_t i = 0; i < sizeof digest; i++) printf("%02x", digest[i]);
-    printf("\n");
+    print(name);
+    print("\t");
+    print_number((uint32_t)length);
+    print("\t");
+    print_bytes(digest, sizeof digest);
+    print("\n");
 }
 
 /* Is the library linked the one that the header's sizes are of? */
@@ -75,8 +76,8 @@ static int storage_fits(void)
 /* Message 1: the probe commits to the shares of every leaf. */
 static uint8_t commitment(void)
 {
-    expand("salt", salt, sizeof salt);
-    expand("root", root, sizeof root);
+    EXPAND("salt", salt, sizeof salt);
+    EXPAND("root", root, sizeof root);
     TRY(unlock_prover_new(prover, sizeof prover));
     TRY(unlock_prover_begin(prover, sizeof prover, set, UNLOCK_SET_LENGTH, x_a, sizeof x_a, salt, sizeof salt, root, sizeof root,
                             matrix, sizeof matrix, y, sizeof y, work, sizeof work, message1, sizeof message1));
@@ -88,7 +89,7 @@ static uint8_t commitment(void)
 /* Messages 2 and 3: the target asks for the values at its points, the probe answers with a digest. */
 static uint8_t response(void)
 {
-    expand("points", message2, sizeof message2);
+    EXPAND("points", message2, sizeof message2);
     TRY(unlock_verifier_points(verifier, sizeof verifier, message2, sizeof message2));
     report("2 points", message2, sizeof message2);
     TRY(unlock_prover_points(prover, sizeof prover, message2, sizeof message2,
@@ -100,7 +101,7 @@ static uint8_t response(void)
 /* Messages 4 and 5: the target names the leaf that stays hidden, the probe opens all others, the target judges. */
 static uint8_t opening(void)
 {
-    expand("leaf", &leaf, 1); /* with D = 8 every byte is below n */
+    EXPAND("leaf", &leaf, 1); /* with D = 8 every byte is below n */
     TRY(unlock_verifier_leaf(verifier, sizeof verifier, leaf));
     report("4 leaf", &leaf, 1);
     uint64_t length = unlock_opening_size(set, UNLOCK_SET_LENGTH, leaf); /* shorter for the last leaf */
@@ -123,18 +124,39 @@ static uint8_t exchange(void)
     return opening();
 }
 
-int main(void)
+static void report_set(void)
+{
+    print("set");
+    for (int i = 0; i < UNLOCK_SET_LENGTH; i++) {
+        print("\t");
+        print_number((uint32_t)set[i]);
+    }
+    print("\n");
+}
+
+static void report_verdict(uint8_t answer)
+{
+    print("verdict\t");
+    if (answer == UNLOCK_DONE) {
+        print("accepted\n");
+    } else {
+        print("refused\t");
+        print_number(answer);
+        print("\n");
+    }
+}
+
+int run_exchange(void)
 {
     if (!storage_fits()) {
-        fprintf(stderr, "the library asks for other lengths\n");
+        print("the library asks for other lengths\n");
         return 2;
     }
-    expand("matrix", matrix, sizeof matrix);
-    printf("set\t%d\t%d\t%d\t%d\t%d\n", M, K, W, AXES, T);
+    EXPAND("matrix", matrix, sizeof matrix);
+    report_set();
     uint8_t answer = exchange();
     wipe(prover, sizeof prover); /* it holds x and root */
     wipe(root, sizeof root);
-    if (answer == UNLOCK_DONE) printf("verdict\taccepted\n");
-    else printf("verdict\trefused\t%u\n", (unsigned)answer);
+    report_verdict(answer);
     return answer == UNLOCK_DONE ? 0 : 1;
 }

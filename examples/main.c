@@ -1,0 +1,4 @@
+/* The exchange on a system that has stdio. */
+#include "exchange.h"
+
+int main(void) { return run_exchange(); }
