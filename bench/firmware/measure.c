@@ -1,5 +1,5 @@
 /*
- * The exchange of bench/calls on the core, at the set SET: of each call the instructions and the stack that it touched, as lines of
+ * The exchange of bench/calls on the core, at the set of NUMBERS: of each call the instructions and the stack that it touched, as lines of
  * bench/table.py; and of SHAKE256 of a string with one permutation and with two.
  *
  * Instructions: in the emulator with -icount shift=0 one takes a nanosecond, and SysTick counts the 25 MHz of the board, so a tick is
@@ -12,8 +12,8 @@
 #include "stack.h"
 #include "unlock.h"
 
-#ifndef SET
-#define SET 230, 126, 79, 8, 3
+#ifndef NUMBERS
+#define NUMBERS 230, 126, 79, 8, 3
 #endif
 
 #define PAINT 0xc7c7c7c7u
@@ -50,7 +50,7 @@ __attribute__((noinline)) static struct use measure(void (*call)(void))
 
 static void report(const char *name, struct use use)
 {
-    static const uint32_t set[] = { SET };
+    static const uint32_t set[] = { NUMBERS };
     print("core\t");
     for (int i = 0; i < 5; i++) {
         if (i > 0) print(" ");
@@ -72,7 +72,7 @@ static void hash_twice(void) { unlock_shake256(message, sizeof message, output, 
 
 int main(void)
 {
-    static const uint64_t set[] = { SET };
+    static const uint64_t set[] = { NUMBERS };
     report("nothing", measure(nothing));
     report("one permutation", measure(hash_once));
     report("two permutations", measure(hash_twice));
