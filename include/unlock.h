@@ -1,5 +1,6 @@
 /*
- * The hypercube unlock exchange (document 01): prover, verifier, extractor and SHAKE256.
+ * The hypercube unlock exchange (document 01): prover, verifier, extractor and SHAKE256. One header for the library on a Cortex-M4
+ * (libunlock.a) and on x86-64 (libcapi.a).
  *
  * Slices. A slice is an address and a length, in bytes, or for a set in numbers; every length is a uint64_t, also where size_t is
  * shorter. Slices that a call writes to (session, work, out) may not overlap any other slice of the call. No address is null, not

@@ -2,8 +2,8 @@
 (executions.c), and prints instructions and the two ends of the estimate; with -v also the functions that take most.
 
 Cycles are those of ARM's reference manual for the Cortex-M4, for memory that never makes the core wait: flash of a real part does.
-The low end lets a load or store that follows another one take one cycle, refills the pipeline in one cycle and divides in two; the
-high end does not, refills in three and divides in twelve.
+The low end lets a store, and a load behind another load or store, take one cycle, refills the pipeline in one and divides in two; the
+high end has two, three and twelve.
 """
 import re
 import subprocess
@@ -40,7 +40,7 @@ def cost(name, operands, after_access, taken):
     into_pc = "pc" in operands and (name.startswith("pop") or name.startswith("ldm") or operands.startswith("pc"))
     refill = (1, 3) if into_pc or JUMP.match(name) else (taken, 3 * taken) if BRANCH.match(name) else (0, 0)
     if SINGLE.match(name):
-        own = (1 if after_access else 2), 2
+        own = (1 if after_access or name.startswith("str") else 2), 2
     elif PAIR.match(name):
         own = 3, 3
     elif SEVERAL.match(name):
