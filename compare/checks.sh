@@ -22,9 +22,22 @@ prints() {
     shift 2
     printed=$(mktemp)
     "$@" >"$printed" || status=1
-    diff "$expected" "$printed" || status=1
-    rm -f "$printed"
+    diff "$expected" "$printed" >"$printed.diff" || { status=1; head -n 8 "$printed.diff"; }
+    rm -f "$printed" "$printed.diff"
     settle "$name" "$status"
+}
+
+# add_up COMMAND..: adds the checks of a command that ends in 'N passed, M failed'.
+add_up() {
+    local said
+    said=$("$@") || true
+    if [[ $said =~ ([0-9]+)\ passed,\ ([0-9]+)\ failed$ ]]; then
+        passed=$((passed + BASH_REMATCH[1]))
+        failed=$((failed + BASH_REMATCH[2]))
+        [[ ${BASH_REMATCH[2]} -eq 0 ]] || echo "$said"
+    else
+        settle "$*, which has no closing line" 1
+    fi
 }
 
 # there PROGRAM: is it installed? Says so if not.
