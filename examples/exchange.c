@@ -50,8 +50,8 @@ static uint8_t message1[64], message2[8 * T], message3[32], leaf, message5[UNLOC
     } while (0)
 
 /* Bytes from a label: stands in for a random source. */
-#define EXPAND(label, out, length)                                                                                               \
-    unlock_shake256((const uint8_t *)"Risvatey unlock: " label, sizeof "Risvatey unlock: " label - 1, out, length)
+#define LABEL(name) "Risvatey unlock: " name
+#define EXPAND(name, out, length) unlock_shake256((const uint8_t *)LABEL(name), sizeof LABEL(name) - 1, out, length)
 
 /* A message's name, its length and the digest of its bytes. */
 static void report(const char *name, const uint8_t *message, uint64_t length)

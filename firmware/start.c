@@ -18,7 +18,6 @@ static void enable_floating_point(void)
 }
 #endif
 
-void reset(void);
 void reset(void)
 {
     uint32_t *source = data_source;

@@ -8,10 +8,11 @@
 #include <ucontext.h>
 
 #include "measured.h"
+#include "unlock.h"
 
-enum { ROOM = 256 * 1024, SET_WORDS = 5 };
+enum { ROOM = 256 * 1024 };
 
-static const char *set_words; /* the set, as it is printed */
+static char set_words[64]; /* the set, as it is printed */
 
 /* callgrind counts from here on, to its end */
 __attribute__((noinline)) void counted(void (*call)(void)) {
@@ -61,17 +62,18 @@ static void make_calls(const char *measured) {
 }
 
 int main(int words, char **word) {
-    static char joined[64];
-    uint64_t set[SET_WORDS];
-    if (words != SET_WORDS + 2) {
+    uint64_t set[UNLOCK_SET_LENGTH];
+    const char *measured = word[words - 1];
+    if (words != UNLOCK_SET_LENGTH + 2) {
         fprintf(stderr, "usage: calls M K W D T begin|points|leaf|opening|extract|stack|sizes\n");
         return 2;
     }
-    for (int i = 0; i < SET_WORDS; i++) set[i] = strtoul(word[i + 1], 0, 10);
-    snprintf(joined, sizeof joined, "%s %s %s %s %s", word[1], word[2], word[3], word[4], word[5]);
-    set_words = joined;
+    for (int i = 0; i < UNLOCK_SET_LENGTH; i++) {
+        set[i] = strtoul(word[i + 1], 0, 10);
+        snprintf(set_words + strlen(set_words), sizeof set_words - strlen(set_words), i > 0 ? " %s" : "%s", word[i + 1]);
+    }
     prepare_exchange(set);
-    if (!strcmp(word[6], "sizes")) print_sizes();
-    else make_calls(word[6]);
+    if (!strcmp(measured, "sizes")) print_sizes();
+    else make_calls(measured);
     return 0;
 }

@@ -1,6 +1,7 @@
 #include <string.h>
 
 #include "measured.h"
+#include "syndrome.h"
 #include "unlock.h"
 
 static uint64_t set[UNLOCK_SET_LENGTH], m, k, w, t;
@@ -22,16 +23,6 @@ static void fill(const char *label, uint8_t *to, uint64_t length)
     unlock_shake256((const uint8_t *)label, label_length, to, length);
 }
 
-static uint8_t product(uint8_t a, uint8_t b)
-{
-    uint8_t r = 0;
-    for (; b; b >>= 1) {
-        if (b & 1) r ^= a;
-        a = (uint8_t)(a << 1 ^ (a & 0x80 ? 0x1b : 0));
-    }
-    return r;
-}
-
 /* x has w nonzero entries, spread over x_A and x_B; y follows. */
 static void make_key(void)
 {
@@ -44,10 +35,7 @@ static void make_key(void)
         if (take && left) left--;
         else x[i] = 0;
     }
-    for (uint64_t i = 0; i < m - k; i++) {
-        y[i] = x[k + i];
-        for (uint64_t j = 0; j < k; j++) y[i] ^= product(matrix[i * k + j], x[j]);
-    }
+    syndrome(matrix, x, (uint32_t)m, (uint32_t)k, y);
 }
 
 void prepare_exchange(const uint64_t *numbers)

@@ -1,9 +1,9 @@
 /*
- * The exchange of bench/calls on the core, at the set of NUMBERS: of each call the instructions and the stack that it touched, as lines of
- * bench/table.py; and of SHAKE256 of a string with one permutation and with two.
+ * The exchange of bench/calls on the core, at the set that the compiler's command gives as NUMBERS: of each call the instructions and
+ * the stack that it touched, as lines of bench/table.py; and of SHAKE256 of a string with one permutation and with two.
  *
  * Instructions: in the emulator with -icount shift=0 one takes a nanosecond, and SysTick counts the 25 MHz of the board, so a tick is
- * 40 instructions. Stack: the part that is not in use is painted before the call.
+ * 40 instructions, and its 24 bits are enough for 671 million. Stack: the part that is not in use is painted before the call.
  */
 #include <stdint.h>
 
@@ -11,10 +11,6 @@
 #include "print.h"
 #include "stack.h"
 #include "unlock.h"
-
-#ifndef NUMBERS
-#define NUMBERS 230, 126, 79, 8, 3
-#endif
 
 #define PAINT 0xc7c7c7c7u
 enum { INSTRUCTIONS_A_TICK = 40, SYSTICK_MAX = 0xffffff };
@@ -48,13 +44,14 @@ __attribute__((noinline)) static struct use measure(void (*call)(void))
     return use;
 }
 
+static const uint64_t set[UNLOCK_SET_LENGTH] = { NUMBERS };
+
 static void report(const char *name, struct use use)
 {
-    static const uint32_t set[] = { NUMBERS };
     print("core\t");
-    for (int i = 0; i < 5; i++) {
+    for (int i = 0; i < UNLOCK_SET_LENGTH; i++) {
         if (i > 0) print(" ");
-        print_number(set[i]);
+        print_number((uint32_t)set[i]);
     }
     print("\t");
     print(name);
@@ -72,7 +69,6 @@ static void hash_twice(void) { unlock_shake256(message, sizeof message, output, 
 
 int main(void)
 {
-    static const uint64_t set[] = { NUMBERS };
     report("nothing", measure(nothing));
     report("one permutation", measure(hash_once));
     report("two permutations", measure(hash_twice));

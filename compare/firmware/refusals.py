@@ -5,8 +5,8 @@ import subprocess
 import sys
 import tempfile
 
-# A line, and a part of what is said of it. It becomes the first of the function FIRST, which has a parameter %a0; a line that
-# starts without a blank becomes the first of the module.
+# A line, and a part of what is said of it. It becomes the first of the first function that has a parameter %a0; a line that starts
+# without a blank becomes the first of the module.
 LINES = [
     ("  %x = ptrtoint ptr %a0 to i64", "an address becomes a number"),
     ("  %x = inttoptr i64 8 to ptr", "an address becomes a number"),

@@ -2,30 +2,22 @@
  * Random scripts of calls through unlock.h, the same on every core. A script is an exchange at a random set and an extraction from
  * two openings of its commitment. Most have faults: parameters of up to 64 bits, lengths that are off, damaged messages and sessions,
  * leaves out of range, calls that are not due. A line for each script has its set and a digest of every answer and of every byte
- * that a call could write; the last line says how often each number was answered.
+ * that a call could write; the last line says how often each number was answered. SCRIPTS and SEED, how many and which, come from
+ * the compiler's command.
  */
 #include <string.h>
 
 #include "print.h"
+#include "syndrome.h"
 #include "unlock.h"
-
-#ifndef SCRIPTS
-#define SCRIPTS 200
-#endif
-#ifndef SEED
-#define SEED 1
-#endif
 
 /* Longer than any set asks, so that a slice can be too long. */
 static uint8_t prover[UNLOCK_PROVER_SIZE + 8], answered[sizeof prover], verifier[UNLOCK_VERIFIER_SIZE + 8];
 static uint8_t matrix[128 * 127 + 8], x[255], y[254 + 8], x_a[254 + 8], salt[32 + 8], root[16 + 8];
 static uint8_t work[UNLOCK_WORK_SIZE(254, 255, 8, 8) + 8], states[UNLOCK_EXTRACT_SIZE(254, 255, 8, 8) + 8];
-static uint8_t message5[UNLOCK_OPENING_MAX(254, 255, 8, 8) + 8];
-
-struct transcript {
-    uint8_t message1[64 + 8], message2[64 + 8], message3[32 + 8], leaf, message5[sizeof message5];
-};
-static struct transcript first, second;
+static struct transcript {
+    uint8_t message1[64 + 8], message2[64 + 8], message3[32 + 8], leaf, message5[UNLOCK_OPENING_MAX(254, 255, 8, 8) + 8];
+} first, second;
 
 /* ---- chance */
 
@@ -87,17 +79,7 @@ static void note_answer(uint32_t answer)
 /* ---- the key */
 
 static uint32_t m, k, w, axes, t;
-
-static uint8_t product(uint8_t a, uint8_t b)
-{
-    uint32_t sum = 0, multiple = a;
-    for (; b > 0; b >>= 1) {
-        if (b & 1) sum ^= multiple;
-        multiple <<= 1;
-        if (multiple & 0x100) multiple ^= 0x11b;
-    }
-    return (uint8_t)sum;
-}
+static uint64_t right[UNLOCK_SET_LENGTH]; /* the same, as a set */
 
 /* x of weight w, or now and then one more. */
 static void draw_key(void)
@@ -110,10 +92,7 @@ static void draw_key(void)
         left -= (uint32_t)chosen;
     }
     memcpy(x_a, x, k);
-    for (uint32_t i = 0; i < m - k; i++) {
-        y[i] = x[k + i];
-        for (uint32_t j = 0; j < k; j++) y[i] ^= product(matrix[i * k + j], x[j]);
-    }
+    syndrome(matrix, x, m, k, y);
 }
 
 static void draw_set(uint32_t number)
@@ -125,6 +104,7 @@ static void draw_set(uint32_t number)
     axes = 1 + below(large ? 8 : 4);
     t = 1 + below(large ? 8 : 4);
     if (number % 50 == 0) m = 230, k = 126, w = 79, axes = 8, t = 3;
+    right[0] = m, right[1] = k, right[2] = w, right[3] = axes, right[4] = t;
 }
 
 /* ---- what the next call is lent */
@@ -149,7 +129,6 @@ static uint64_t off(uint64_t right, uint64_t room) { return fault() ? below((uin
 
 static void draw_lent(uint8_t leaf)
 {
-    const uint64_t right[UNLOCK_SET_LENGTH] = { m, k, w, axes, t };
     for (int i = 0; i < UNLOCK_SET_LENGTH; i++) set[i] = bent(right[i]);
     length.prover = off(UNLOCK_PROVER_SIZE, sizeof prover);
     length.verifier = off(UNLOCK_VERIFIER_SIZE, sizeof verifier);
@@ -235,7 +214,7 @@ static void open_again(void)
 
 static void extract(void)
 {
-    uint64_t length5 = unlock_opening_size(set, UNLOCK_SET_LENGTH, second.leaf);
+    uint64_t length5 = unlock_opening_size(right, UNLOCK_SET_LENGTH, second.leaf);
     if (chance(8)) second.message2[below(8 * t)] ^= 1;
     damage(second.message1, 64);
     damage(second.message5, length5);
