@@ -72,7 +72,7 @@ int main(int words, char **word) {
         set[i] = strtoul(word[i + 1], 0, 10);
         snprintf(set_words + strlen(set_words), sizeof set_words - strlen(set_words), i > 0 ? " %s" : "%s", word[i + 1]);
     }
-    prepare_exchange(set);
+    prepare_exchange(set, "");
     if (!strcmp(measured, "sizes")) print_sizes();
     else make_calls(measured);
     return 0;

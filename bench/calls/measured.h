@@ -4,7 +4,19 @@
 
 #include <stdint.h>
 
+#include "unlock.h"
+
 enum { CALLS = 5 };
+
+/* What the exchange is made of, and what the calls gave. Two openings, hiding the two leaves, are what the extractor takes. */
+struct exchange {
+    const char *variant;
+    uint64_t set[UNLOCK_SET_LENGTH];
+    uint8_t matrix[128 * 127], y[254], x[255], salt[32], root[16];
+    uint8_t message1[64], message2[64], message3[32], leaf[2], opening[2][UNLOCK_OPENING_MAX(254, 255, 8, 8)];
+    uint8_t states[UNLOCK_EXTRACT_SIZE(254, 255, 8, 8)];
+};
+extern struct exchange exchange;
 
 struct call {
     const char *name;
@@ -18,11 +30,19 @@ extern const struct call calls[CALLS];
 /* What the last call answered. */
 extern uint32_t answer;
 
-/* The set, a key for it with x of weight w, and what is drawn in the exchange. */
-void prepare_exchange(const uint64_t *numbers);
+/* The set, a key for it with x of weight w, and what is drawn in the exchange; other variants, of at most 40 characters, draw
+   others. */
+void prepare_exchange(const uint64_t *numbers, const char *variant);
+
+/* Bytes that follow from a label, of at most 20 characters, and the variant. */
+void draw(const char *label, uint8_t *to, uint64_t length);
 
 /* What comes before a call: for the opening the verifier's other calls, for the extractor a second opening. 0 where they answer 0. */
 uint32_t prepare_call(int call);
+
+/* Keeps both sessions, and puts them back, so that a call can be made again. */
+void keep_sessions(void);
+void restore_sessions(void);
 
 /* A length that a caller lends, and its name; the name is 0 past the last. */
 struct size {

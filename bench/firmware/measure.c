@@ -72,7 +72,7 @@ int main(void)
     report("nothing", measure(nothing));
     report("one permutation", measure(hash_once));
     report("two permutations", measure(hash_twice));
-    prepare_exchange(set);
+    prepare_exchange(set, "");
     for (int i = 0; i < CALLS; i++) {
         if (prepare_call(i) != 0) return 1;
         struct use use = measure(calls[i].make);
