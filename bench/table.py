@@ -1,7 +1,7 @@
 """Prints the table of a run of bench/run, whose lines it reads: fields parted by tabs, of which the first says what follows.
 
 ratio         what, against what, ratio of the times
-time          set, call, ratio of the times to the second implementation
+time          set, call, ratio of the times to the opponent in C
 instructions  set, call, instructions, those of the permutation, permutations
 products      set, call, products of the points field that its evaluations make
 stack         set, call, bytes
@@ -16,7 +16,7 @@ core code     level, bytes of code and constants, bytes of variables
 import sys
 
 CALLS = ["begin", "points", "leaf", "opening", "extract"]
-HEAD = ["call", "time to reference", "instructions", "outside permutation", "permutations", "products", "stack"]
+HEAD = ["call", "time to C", "instructions", "outside permutation", "permutations", "products", "stack"]
 CORE_HEAD = ["call", "instructions", "painted stack", "stack bound", "estimated cycles", "ms at 120 MHz"]
 FUNCTIONS = {
     "begin": "unlock_prover_begin",

@@ -1,0 +1,257 @@
+/*
+ * Times each call of the library, through its C interface, against the opponent's: the same inputs in one process, in turn, the
+ * least processor time of each. Prints lines 'time', set, call, ratio, parted by tabs. Before that it compares what both give, and
+ * what they answer where a bit of message 5 is changed.
+ *
+ * times M K W D T           that set
+ * times --check COUNT SEED  only compares: sets at the limits, then COUNT random sets, each with a random key and exchange
+ */
+#define _POSIX_C_SOURCE 199309L
+
+#include <stdio.h>
+#include <stdlib.h>
+#include <string.h>
+#include <time.h>
+
+#include "measured.h"
+#include "opponent.h"
+#include "syndrome.h"
+#include "unlock.h"
+
+/* How often both are timed in turn. */
+enum { TURNS = 200 };
+
+static struct set set;
+static struct key key;
+static struct opponent_prover prover;
+static struct opponent_verifier verifiers[2];
+static struct exchange ours; /* what the opponent gives */
+static uint32_t our_answer;
+
+static void begin(void)
+{
+    our_answer = opponent_begin(&prover, &set, exchange.x, exchange.salt, exchange.root, &key, ours.message1);
+}
+
+static void points(void)
+{
+    opponent_points(&prover, exchange.message2, &key, ours.message3);
+    our_answer = 0;
+}
+
+static void leaf(void)
+{
+    opponent_leaf(&prover, exchange.leaf[0], &key, ours.opening[0]);
+    our_answer = 0;
+}
+
+static void opening(void) { our_answer = opponent_opening(&verifiers[0], exchange.opening[0], &key); }
+
+static void extract(void)
+{
+    our_answer = opponent_extract(&verifiers[0], exchange.opening[0], &verifiers[1], exchange.opening[1], &key, ours.states);
+}
+
+static void (*const our_calls[CALLS])(void) = { begin, points, leaf, opening, extract };
+
+/* What the verifier's calls before the opening leave. */
+static void open_verifiers(void)
+{
+    for (int i = 0; i < 2; i++) {
+        verifiers[i].set = set;
+        memcpy(verifiers[i].message1, exchange.message1, sizeof exchange.message1);
+        memcpy(verifiers[i].message2, exchange.message2, sizeof exchange.message2);
+        memcpy(verifiers[i].message3, exchange.message3, sizeof exchange.message3);
+        verifiers[i].leaf = exchange.leaf[i];
+    }
+}
+
+static void expect(int holds, const char *call, const char *what)
+{
+    if (holds) return;
+    printf("%s, m %u, k %u, w %u, D %u, t %u, variant '%s': %s\n", call, set.m, set.k, set.w, set.D, set.t, exchange.variant, what);
+    exit(1);
+}
+
+/* Whether both have given the same up to now. */
+static int same(void)
+{
+    return !memcmp(exchange.message1, ours.message1, sizeof ours.message1) &&
+           !memcmp(exchange.message3, ours.message3, sizeof ours.message3) &&
+           !memcmp(exchange.opening, ours.opening, sizeof ours.opening) &&
+           !memcmp(exchange.states, ours.states, sizeof ours.states);
+}
+
+/* Both make a call from the sessions that are kept. */
+static void make_both(int call)
+{
+    restore_sessions();
+    calls[call].make();
+    our_calls[call]();
+}
+
+/* The extractor's second opening is the opponent's own: the library has made it to prepare the call. */
+static void prepare_both(int call)
+{
+    expect(prepare_call(call) == 0, calls[call].name, "what comes before is refused");
+    if (call == 3) open_verifiers();
+    if (call == 4) opponent_leaf(&prover, exchange.leaf[1], &key, ours.opening[1]);
+    keep_sessions();
+}
+
+static unsigned lowest_axis(unsigned bits)
+{
+    unsigned axis = 1;
+    while (!(bits >> (axis - 1) & 1)) axis++;
+    return axis;
+}
+
+static void compare_call(int call)
+{
+    uint32_t expected = call == 4 ? 256 + lowest_axis(exchange.leaf[0] ^ exchange.leaf[1]) : 0;
+    make_both(call);
+    expect(answer == expected, calls[call].name, "the library refuses");
+    expect(our_answer == expected, calls[call].name, "the opponent refuses");
+    expect(same(), calls[call].name, "what both give differs");
+}
+
+/* Opening or extractor with one bit changed in a message 5: both give the same number. */
+static void compare_refusal(int call, int which, size_t bit)
+{
+    uint8_t *byte = &exchange.opening[which][bit / 8], mask = (uint8_t)(1 << bit % 8);
+    *byte ^= mask;
+    make_both(call);
+    *byte ^= mask;
+    expect(answer == UNLOCK_COMMITMENT || answer == UNLOCK_RESPONSE, calls[call].name, "the library accepts a changed message 5");
+    expect(our_answer == answer, calls[call].name, "the answers to a changed message 5 differ");
+    expect(same(), calls[call].name, "a refused call gives something");
+}
+
+/* A bit of the siblings, one of alpha and beta, and one of all. */
+static void compare_refusals(int call, int which)
+{
+    uint8_t drawn[12];
+    uint32_t numbers[3];
+    size_t length = unlock_opening_size(exchange.set, UNLOCK_SET_LENGTH, exchange.leaf[which]);
+    draw("bits", drawn, sizeof drawn);
+    memcpy(numbers, drawn, sizeof numbers);
+    compare_refusal(call, which, numbers[0] % (128 * set.D));
+    compare_refusal(call, which, 8 * (16 * set.D + 32) + numbers[1] % (64 * set.t));
+    compare_refusal(call, which, numbers[2] % (8 * length));
+}
+
+static void prepare_opponent(void)
+{
+    set.m = (unsigned)exchange.set[0], set.k = (unsigned)exchange.set[1], set.w = (unsigned)exchange.set[2];
+    set.D = (unsigned)exchange.set[3], set.t = (unsigned)exchange.set[4];
+    key.matrix = exchange.matrix;
+    key.y = exchange.y;
+}
+
+static double now(void)
+{
+    struct timespec time;
+    clock_gettime(CLOCK_PROCESS_CPUTIME_ID, &time);
+    return 1e9 * (double)time.tv_sec + (double)time.tv_nsec;
+}
+
+static double time_of(void (*call)(void))
+{
+    double start = now();
+    call();
+    return now() - start;
+}
+
+static void print_ratio(int call)
+{
+    double theirs = 1e18, own = 1e18;
+    for (int turn = 0; turn < TURNS; turn++) {
+        restore_sessions();
+        double first = time_of(calls[call].make), second = time_of(our_calls[call]);
+        if (first < theirs) theirs = first;
+        if (second < own) own = second;
+    }
+    expect(same(), calls[call].name, "what both give differs");
+    printf("time\t%u %u %u %u %u\t%s\t%.2f\n", set.m, set.k, set.w, set.D, set.t, calls[call].name, theirs / own);
+}
+
+static void compare_and_time(int timed)
+{
+    prepare_opponent();
+    for (int call = 0; call < CALLS; call++) {
+        prepare_both(call);
+        compare_call(call);
+        if (call >= 3) compare_refusals(call, call - 3);
+        if (timed) print_ratio(call);
+    }
+}
+
+static const uint64_t LIMITS[][UNLOCK_SET_LENGTH] = {
+    { 2, 1, 1, 1, 1 },      { 2, 1, 2, 1, 8 },      { 255, 254, 255, 8, 8 }, { 255, 1, 255, 8, 1 },
+    { 255, 127, 255, 8, 8 }, { 255, 127, 1, 1, 1 }, { 230, 126, 79, 8, 3 },  { 120, 64, 40, 6, 3 },
+    { 40, 20, 12, 4, 2 },   { 40, 20, 40, 1, 2 },   { 127, 60, 30, 2, 4 },   { 128, 60, 30, 3, 5 },
+};
+enum { LIMIT_SETS = sizeof LIMITS / sizeof *LIMITS };
+
+static void draw_set(uint64_t *numbers)
+{
+    uint8_t drawn[5];
+    draw("set", drawn, sizeof drawn);
+    numbers[0] = 2 + drawn[0] % 254u;
+    numbers[1] = 1 + drawn[1] % (numbers[0] - 1);
+    numbers[2] = 1 + drawn[2] % numbers[0];
+    numbers[3] = 1 + drawn[3] % 8u;
+    numbers[4] = 1 + drawn[4] % 8u;
+}
+
+/* A lighter x, points that are bytes or pairs, any two leaves. */
+static void vary_exchange(void)
+{
+    uint8_t lighter[256], shorter[16], chosen[2];
+    draw("lighter", lighter, sizeof lighter);
+    draw("shorter", shorter, sizeof shorter);
+    draw("leaves", chosen, sizeof chosen);
+    for (unsigned i = 0; i < exchange.set[0]; i++)
+        if (lighter[255] % 4 == 0 && lighter[i] % 4 == 0) exchange.x[i] = 0;
+    syndrome(exchange.matrix, exchange.x, (uint32_t)exchange.set[0], (uint32_t)exchange.set[1], exchange.y);
+    for (unsigned i = 0; i < 2 * exchange.set[4]; i++) {
+        if (shorter[i] % 8 < 2) memset(exchange.message2 + 4 * i + 2, 0, 2);
+        if (shorter[i] % 8 == 0) exchange.message2[4 * i + 1] = 0;
+    }
+    unsigned n = 1u << exchange.set[3];
+    exchange.leaf[0] = (uint8_t)(chosen[0] % n);
+    exchange.leaf[1] = (uint8_t)((exchange.leaf[0] + 1 + chosen[1] % (n - 1)) % n);
+}
+
+static void check(unsigned long count, const char *seed)
+{
+    for (unsigned long i = 0; i < LIMIT_SETS + count; i++) {
+        char variant[40];
+        uint64_t numbers[UNLOCK_SET_LENGTH];
+        snprintf(variant, sizeof variant, "%s.%lu", seed, i);
+        exchange.variant = variant;
+        if (i < LIMIT_SETS) memcpy(numbers, LIMITS[i], sizeof numbers);
+        else draw_set(numbers);
+        prepare_exchange(numbers, variant);
+        vary_exchange();
+        compare_and_time(0);
+    }
+    printf("%lu passed, 0 failed\n", LIMIT_SETS + count);
+}
+
+int main(int words, char **word)
+{
+    opponent_prepare();
+    if (words == 4 && !strcmp(word[1], "--check")) {
+        check(strtoul(word[2], 0, 10), word[3]);
+    } else if (words == 1 + UNLOCK_SET_LENGTH) {
+        uint64_t numbers[UNLOCK_SET_LENGTH];
+        for (int i = 0; i < UNLOCK_SET_LENGTH; i++) numbers[i] = strtoul(word[i + 1], 0, 10);
+        prepare_exchange(numbers, "");
+        compare_and_time(1);
+    } else {
+        fprintf(stderr, "usage: times M K W D T, or times --check COUNT SEED\n");
+        return 2;
+    }
+    return 0;
+}
