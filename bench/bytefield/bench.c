@@ -2,7 +2,8 @@
 #include <stdint.h>
 #include <stdio.h>
 #include <stdlib.h>
-#include <time.h>
+
+#include "clock.h"
 
 enum { LENGTH = 4096, CALLS = 200, ROUNDS = 300 };
 
@@ -47,15 +48,12 @@ static volatile uint8_t sink;
 /* Nanoseconds a product. */
 static double time_of(dot_function *dot)
 {
-    struct timespec start, end;
-    clock_gettime(CLOCK_PROCESS_CPUTIME_ID, &start);
+    double start = processor_time();
     for (int i = 0; i < CALLS; i++) {
         a[i % LENGTH] ^= 1;
         sink ^= dot(a, LENGTH, b, LENGTH);
     }
-    clock_gettime(CLOCK_PROCESS_CPUTIME_ID, &end);
-    double ns = 1e9 * (double)(end.tv_sec - start.tv_sec) + (double)(end.tv_nsec - start.tv_nsec);
-    return ns / CALLS / LENGTH;
+    return (processor_time() - start) / CALLS / LENGTH;
 }
 
 int main(void)
@@ -75,13 +73,12 @@ int main(void)
             }
         }
     }
-    /* the least of many rounds, in turn, so that other work on the machine counts for neither */
-    double rattle = 1e9, c = 1e9;
+    /* many rounds, in turn, so that other work on the machine counts for neither */
+    static double rattle[ROUNDS], c[ROUNDS];
     for (int round = 0; round < ROUNDS; round++) {
-        double r = time_of(bytefield_c_dot), s = time_of(c_dot);
-        if (r < rattle) rattle = r;
-        if (s < c) c = s;
+        rattle[round] = time_of(bytefield_c_dot);
+        c[round] = time_of(c_dot);
     }
-    printf("ratio\tproduct of bytes\tthe same in C\t%.2f\n", rattle / c);
+    printf("ratio\tproduct of bytes\tthe same in C\t%.2f\n", low_time(rattle, ROUNDS) / low_time(c, ROUNDS));
     return 0;
 }

@@ -1,7 +1,7 @@
 /*
- * Times each call of the library, through its C interface, against the opponent's: the same inputs in one process, in turn, the
- * least processor time of each. Prints lines 'time', set, call, ratio, parted by tabs. Before that it compares what both give, and
- * what they answer where a bit of message 5 is changed.
+ * Times each call of the library, through its C interface, against the opponent's: the same inputs in one process, in turn, a low
+ * processor time of each (clock.h). Prints lines 'time', set, call, ratio, parted by tabs. Before that it compares what both give,
+ * and what they answer where a bit of message 5 is changed.
  *
  * times M K W D T           that set
  * times --check COUNT SEED  only compares: sets at the limits, then COUNT random sets, each with a random key and exchange
@@ -11,15 +11,15 @@
 #include <stdio.h>
 #include <stdlib.h>
 #include <string.h>
-#include <time.h>
 
+#include "clock.h"
 #include "measured.h"
 #include "opponent.h"
 #include "syndrome.h"
 #include "unlock.h"
 
-/* How often both are timed in turn. */
-enum { TURNS = 200 };
+/* How often both are timed in turn, times the leaves: 200 turns at D 8, more for shorter calls. */
+enum { LEAF_TURNS = 200 << 8 };
 
 static struct set set;
 static struct key key;
@@ -148,31 +148,25 @@ static void prepare_opponent(void)
     key.y = exchange.y;
 }
 
-static double now(void)
-{
-    struct timespec time;
-    clock_gettime(CLOCK_PROCESS_CPUTIME_ID, &time);
-    return 1e9 * (double)time.tv_sec + (double)time.tv_nsec;
-}
-
 static double time_of(void (*call)(void))
 {
-    double start = now();
+    double start = processor_time();
     call();
-    return now() - start;
+    return processor_time() - start;
 }
 
 static void print_ratio(int call)
 {
-    double theirs = 1e18, own = 1e18;
-    for (int turn = 0; turn < TURNS; turn++) {
+    static double times[2][LEAF_TURNS];
+    int turns = LEAF_TURNS >> set.D;
+    for (int turn = 0; turn < turns; turn++) {
         restore_sessions();
-        double first = time_of(calls[call].make), second = time_of(our_calls[call]);
-        if (first < theirs) theirs = first;
-        if (second < own) own = second;
+        times[0][turn] = time_of(calls[call].make);
+        times[1][turn] = time_of(our_calls[call]);
     }
     expect(same(), calls[call].name, "what both give differs");
-    printf("time\t%u %u %u %u %u\t%s\t%.2f\n", set.m, set.k, set.w, set.D, set.t, calls[call].name, theirs / own);
+    double ratio = low_time(times[0], turns) / low_time(times[1], turns);
+    printf("time\t%u %u %u %u %u\t%s\t%.2f\n", set.m, set.k, set.w, set.D, set.t, calls[call].name, ratio);
 }
 
 static void compare_and_time(int timed)

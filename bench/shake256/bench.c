@@ -5,8 +5,8 @@
 #include <stdio.h>
 #include <stdlib.h>
 #include <string.h>
-#include <time.h>
 
+#include "clock.h"
 #include "keccak.h"
 #include "strings.h"
 
@@ -41,43 +41,47 @@ static void openssl_pieces(const uint8_t *message, size_t length, uint8_t *outpu
     EVP_DigestFinalXOF(context, output, count);
 }
 
-static double now(void) {
-    struct timespec t;
-    clock_gettime(CLOCK_PROCESS_CPUTIME_ID, &t);
-    return t.tv_sec * 1e9 + t.tv_nsec;
-}
-
 typedef void (*hash)(const uint8_t *, size_t, uint8_t *, size_t);
 typedef void (*permutation)(uint64_t *);
 
 static double permutes(permutation f) {
     static uint64_t lanes[25];
     enum { TURNS = 1000 };
-    double start = now();
+    double start = processor_time();
     for (int i = 0; i < TURNS; i++) f(lanes);
-    return (now() - start) / TURNS;
+    return (processor_time() - start) / TURNS;
 }
 
 static uint8_t message[136 * 257], output[136 * 257];
 
 static double hashes(hash f, size_t length, size_t count, int turns) {
-    double start = now();
+    double start = processor_time();
     for (int i = 0; i < turns; i++) f(message, length, output, count);
-    return (now() - start) / turns;
+    return (processor_time() - start) / turns;
 }
 
-// The least of interleaved runs, so that a busy machine hurts both sides alike.
+// Interleaved runs, so that a busy machine hurts both sides alike.
 enum { RUNS = 600 };
+static double ours[RUNS], theirs[RUNS];
 
-static double least(double old, double new) { return old == 0 || new < old ? new : old; }
+static void print_ratio(const char *what, const char *to) {
+    printf("ratio\t%s\t%s\t%.2f\n", what, to, low_time(ours, RUNS) / low_time(theirs, RUNS));
+}
+
+static void compare_permutations(void) {
+    for (int i = 0; i < RUNS; i++) {
+        ours[i] = permutes(unlock_test_permute);
+        theirs[i] = permutes(opponent_permute);
+    }
+    print_ratio("permutation", "C, lanes complemented");
+}
 
 static void compare(const char *what, hash our, hash their, size_t length, size_t count, int turns) {
-    double ours = 0, theirs = 0;
     for (int i = 0; i < RUNS; i++) {
-        ours = least(ours, hashes(our, length, count, turns));
-        theirs = least(theirs, hashes(their, length, count, turns));
+        ours[i] = hashes(our, length, count, turns);
+        theirs[i] = hashes(their, length, count, turns);
     }
-    printf("ratio\t%s\tOpenSSL\t%.2f\n", what, ours / theirs);
+    print_ratio(what, "OpenSSL");
 }
 
 static void expect_equal(const void *a, const void *b, size_t length, const char *what) {
@@ -111,13 +115,7 @@ int main(void) {
     context = EVP_MD_CTX_new();
     EVP_DigestInit_ex(context, EVP_shake256(), NULL);
     check_all();
-
-    double ours = 0, theirs = 0;
-    for (int i = 0; i < RUNS; i++) {
-        ours = least(ours, permutes(unlock_test_permute));
-        theirs = least(theirs, permutes(opponent_permute));
-    }
-    printf("ratio\tpermutation\tC, lanes complemented\t%.2f\n", ours / theirs);
+    compare_permutations();
     hash our = unlock_test_shake256, their = openssl_shake256;
     compare("a block absorbed, of 256", our, their, 136 * 256, 1, 4);
     compare("a block squeezed, of 257", our, their, 1, 136 * 257, 4);
