@@ -60,19 +60,18 @@ fn round(a: &[u64; 25], c: u64, out: &mut [u64; 25])
     put_chi(fifth, 0, 20, out);
 }
 
-// KECCAK-f[1600] (3.4): the 24 rounds, two a turn, from one array to the other and back. The table is copied once, before
-// the loop reads it.
-pub fn permute(a: [u64; 25]) -> [u64; 25]
-    ensures { λ r. ⌜ r ≡ spec.keccakF a ⌝ }
+// KECCAK-f[1600] (3.4) in place: the 24 rounds, two a turn, from a to another array and back. The table is copied once,
+// before the loop reads it. A lent array brings no length to a proof, so that the length is asked.
+pub fn permute(a: &mut [u64; 25])
+    requires { ⌜ length (now a) ≡ 25 ⌝ }
+    ensures { λ _. ⌜ now (a .exit) ≡ spec.keccakF (now (a .entry)) ⌝ }
 {
     let constants = ROUND_CONSTANTS;
-    let mut even = a;
     let mut odd = [0; 25];
     let mut k: usize = 0;
     while k < 24 {
-        round(&even, constants[k], &mut odd);
-        round(&odd, constants[k + 1], &mut even);
+        round(a, constants[k], &mut odd);
+        round(&odd, constants[k + 1], a);
         k += 2;
     }
-    even
 }

@@ -1,6 +1,7 @@
 pub mod Xor
 pub mod Lanes
 pub mod Sponges
+pub mod Lengths
 pub mod Turns
 pub mod Blocks
 pub mod Laws

@@ -12,14 +12,14 @@ use Rattle.keccak.proofs.permute.Statement.{statement}
 use Rattle.keccak.proofs.permute.Tie as tie
 
 abbrev Inv-loop : tie.InvT-loop
-Inv-loop constants b₀ o₀ k₀ b o k = (k ≤ 24) × (k % 2 ≡ 0) × (b ≡ rounds k b₀) × (length b ≡ 25) × (length o ≡ 25)
+Inv-loop a₀ constants o₀ k₀ a o k = (k ≤ 24) × (k % 2 ≡ 0) × (a ≡ rounds k a₀) × (length a ≡ 25) × (length o ≡ 25)
 
 abbrev μ-loop : tie.MeasureT-loop
-μ-loop constants b₀ o₀ k₀ b o k = 24 - k
+μ-loop a₀ constants o₀ k₀ a o k = 24 - k
 
 loop-holds : tie.Need-loop-holds Inv-loop μ-loop
 unfolding rounds
-loop-holds c = (omega arith, refl, refl, c .good .0 .1 .0 .1, refl)
+loop-holds c = (omega arith, refl, refl, c .pre, refl)
 
 two-rounds : (k : ℕ) (a : List ℕ) → round (getD roundConstants (k + 1) 0) (round (getD roundConstants k 0) (rounds k a)) ≡ rounds (k + 2) a
 unfolding rounds
@@ -39,7 +39,7 @@ loop-again c = let first : tie.After-round Inv-loop μ-loop = search in let l : 
 returns : tie.Need-returns Inv-loop μ-loop
 unfolding keccakF
 returns c = let k-is : c .before .loop .k ≡ 24 = omega arith in
-    c .before .loop .inv .2 ∙ ap (λ (n : ℕ). rounds n (c .before .before .args .a)) k-is
+    c .before .loop .inv .2 ∙ ap (λ (n : ℕ). rounds n (c .before .before .args .a .now)) k-is
 
 pub permute-spec : {M : Type 1} → statement M
 permute-spec = tie.close (tie.spec Inv-loop μ-loop loop-holds (λ c. omega arith) (λ c. omega arith) (λ c κs. omega arith) (λ c. omega arith)

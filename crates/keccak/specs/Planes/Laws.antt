@@ -52,15 +52,17 @@ unfolding round ι χ π ρ θ
 all-round a c o h = ap (λ (l : List ℕ). chiIota (turned a (effect a) 0) c ++ (chiPlane (turned a (effect a) 1) ++ (chiPlane (turned a (effect a) 2) ++
     (chiPlane (turned a (effect a) 3) ++ (chiPlane (turned a (effect a) 4) ++ l))))) (rest o h)
 
-module _ (a d : List ℕ) (c : ℕ) (o p q r s t : List ℕ) (h : length o ≡ 25) (e : d ≡ effect a) where
-  pub planes-round : p ≡ placed o 0 (chiIota (turned a d 0) c) → q ≡ placed p 5 (chiIota (turned a d 1) 0)
-      → r ≡ placed q 10 (chiIota (turned a d 2) 0) → s ≡ placed r 15 (chiIota (turned a d 3) 0)
-      → t ≡ placed s 20 (chiIota (turned a d 4) 0) → t ≡ round c a
-  planes-round first second third fourth fifth =
-      step s 20 4 fifth ∙ ap (λ (l : List ℕ). placed l 20 (chiPlane (turned a d 4))) (step r 15 3 fourth
-      ∙ ap (λ (l : List ℕ). placed l 15 (chiPlane (turned a d 3))) (step q 10 2 third
-      ∙ ap (λ (l : List ℕ). placed l 10 (chiPlane (turned a d 2))) (step p 5 1 second
-      ∙ ap (λ (l : List ℕ). placed l 5 (chiPlane (turned a d 1))) first))) ∙ ap (λ (l : List ℕ). all a l c o) e ∙ all-round a c o h
+-- the planes f, g, h, i, j after θ, ρ and π, and what is written after each
+module _ (a d : List ℕ) (c : ℕ) (o p q r s t f g h i j : List ℕ) (long : length o ≡ 25) (is-effect : d ≡ effect a) where
+  pub planes-round : p ≡ placed o 0 (chiIota f c) → f ≡ turned a d 0 → q ≡ placed p 5 (chiIota g 0) → g ≡ turned a d 1
+      → r ≡ placed q 10 (chiIota h 0) → h ≡ turned a d 2 → s ≡ placed r 15 (chiIota i 0) → i ≡ turned a d 3
+      → t ≡ placed s 20 (chiIota j 0) → j ≡ turned a d 4 → t ≡ round c a
+  planes-round first f-is second g-is third h-is fourth i-is fifth j-is =
+      step s 20 4 fifth j-is ∙ ap (λ (l : List ℕ). placed l 20 (chiPlane (turned a d 4))) (step r 15 3 fourth i-is
+      ∙ ap (λ (l : List ℕ). placed l 15 (chiPlane (turned a d 3))) (step q 10 2 third h-is
+      ∙ ap (λ (l : List ℕ). placed l 10 (chiPlane (turned a d 2))) (step p 5 1 second g-is
+      ∙ ap (λ (l : List ℕ). placed l 5 (chiPlane (turned a d 1))) (first ∙ ap (λ (b : List ℕ). placed o 0 (chiIota b c)) f-is))))
+      ∙ ap (λ (l : List ℕ). all a l c o) is-effect ∙ all-round a c o long
     where
-      step : {n : List ℕ} (l : List ℕ) (i y : ℕ) → n ≡ placed l i (chiIota (turned a d y) 0) → n ≡ placed l i (chiPlane (turned a d y))
-      step l i y made = made ∙ ap (placed l i) (chiIota-zero (turned a d y))
+      step : {n b : List ℕ} (l : List ℕ) (k y : ℕ) → n ≡ placed l k (chiIota b 0) → b ≡ turned a d y → n ≡ placed l k (chiPlane (turned a d y))
+      step l k y made is = made ∙ ap (λ (b : List ℕ). placed l k (chiIota b 0)) is ∙ ap (placed l k) (chiIota-zero (turned a d y))
