@@ -5,7 +5,8 @@
 -- ShareBytes i st      a leaf's number of one byte, and a state that begins with its seed
 -- Share p i st aux s   a leaf's state and aux where it is leaf n−1, and room for its share
 -- Commitment p i s     a leaf, and room for its commitment
--- States n st     at most 256 leaves, and room for their states
+-- States n st          at most 256 leaves, and room for their states
+-- OpenedStates p i s st   a leaf, its sibling seeds, and room for the states of all leaves
 -- Absorb p i st        a leaf, and its state among the states st
 -- Commitments p st     parameters within their limits, and the states of all leaves
 use mathlib.Core.Path.{_≡_}
@@ -15,7 +16,7 @@ use Prim.Native.Nat.{ℕ, _≤_, _<_, _*_, _+_}
 use lib.ListN.{length}
 use Rattle.parameters.specs.declared.Parameters.{Parameters}
 use Rattle.parameters.specs.Limits.{Within}
-use Rattle.layout.specs.Layout.{isLast, auxLength, shareLength, statesLength}
+use Rattle.layout.specs.Layout.{leaves, isLast, auxLength, shareLength, siblingsLength, statesLength}
 
 pub record LeafOf (p : Parameters) (i : ℕ) : Type 0 where
   pub within : Within p
@@ -42,6 +43,12 @@ pub record Share (p : Parameters) (i : ℕ) (st aux s : List ℕ) : Type 0 where
 pub record States (n : ℕ) (st : List ℕ) : Type 0 where
   pub most : n ≤ 256
   pub room : length st ≡ 32 * n
+
+pub record OpenedStates (p : Parameters) (i : ℕ) (siblings states : List ℕ) : Type 0 where
+  pub within : Within p
+  pub is-leaf : i < leaves p
+  pub sized-siblings : length siblings ≡ siblingsLength p
+  pub sized-states : length states ≡ statesLength p
 
 pub record Absorb (p : Parameters) (i : ℕ) (st : List ℕ) : Type 0 where
   pub of : LeafOf p i

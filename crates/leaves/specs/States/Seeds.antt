@@ -1,12 +1,14 @@
 -- The states of all leaves from the seeds that the seed tree gives.
 --
--- half-back       the seeds, when the second half of the states, `&mut w[a..]`, comes back with them
--- own-states      from all leaf seeds: the prover's states
--- opened-states   from the leaf seeds that an opening's siblings give: the states of the leaves that it discloses
+-- half-back            the seeds, when the second half of the states, `&mut w[a..]`, comes back with them
+-- own-states           from all leaf seeds, and no leaf hidden: the prover's states
+-- stateAt-statesFrom   from the sibling seeds of a leaf: the state of any other
+-- opened-states        from those that an opening gives: the states of the leaves that it discloses
 use mathlib.Core.Path.{_≡_, ap, _∙_}
-use mathlib.Core.List.{List, _++_}
+use mathlib.Core.List.{List, [], _++_}
 use Prim.Native.Nat.{ℕ, _-_, _≤_, _<_}
-use lib.ListN.{length, take, drop}
+use native.Mathlib.Omega.{arith}
+use lib.ListN.{length, getD, take, drop}
 use lib.Seq.{drop-at, length-take-le}
 use Rattle.lists.specs.Part.Laws.{tail-back}
 use Rattle.shake256.specs.Fips.{SHAKE256}
@@ -21,27 +23,29 @@ use Rattle.exchange.specs.Opening.{Exchange, pathOf, openedState}
 use Rattle.seedtree.specs.Laid.{laid}
 use Rattle.seedtree.specs.Levels.Laws.{leafSeeds-part}
 use Rattle.seedtree.specs.Opened.{openedSeeds-part}
-use Rattle.leaves.specs.States.{stateAt, statesOf}
+use Rattle.leaves.specs.States.{stateAt, statesOf, statesFrom}
 use Rattle.leaves.specs.States.Laws.{stateAt-statesOf}
 
 pub half-back : (w seeds : List ℕ) (a : ℕ) → a ≤ length w → drop a (take a w ++ (seeds ++ drop (length w - a) (drop a w))) ≡ seeds
 half-back w seeds a h = ap (drop a) (tail-back w seeds a h) ∙ drop-at (take a w) seeds a (length-take-le a w h)
 
 module _ (p : Parameters) (x : List ℕ) (run : Run) (sixteen : length (run .root) ≡ 16) where
-  pub own-states : (i : ℕ) → i < leaves p → stateAt (statesOf (run .prefix) (laid (leafSeeds SHAKE256 (run .prefix) (levels p) 1 (run .root))) (leaves p)) i ≡ ownState SHAKE256 p x run i
+  pub own-states : (i : ℕ) → i < leaves p
+      → stateAt (statesOf (run .prefix) (laid (leafSeeds SHAKE256 (run .prefix) (levels p) 1 (run .root))) (leaves p) (leaves p)) i ≡ ownState SHAKE256 p x run i
   unfolding ownState
   own-states i h =
-      stateAt-statesOf (run .prefix) (laid (leafSeeds SHAKE256 (run .prefix) (levels p) 1 (run .root))) (leaves p) i h
+      stateAt-statesOf (run .prefix) (laid (leafSeeds SHAKE256 (run .prefix) (levels p) 1 (run .root))) (leaves p) (leaves p) i h (λ e. omega arith)
       ∙ ap (state SHAKE256 (run .prefix) i) (leafSeeds-part SHAKE256 (run .prefix) length-SHAKE256 (levels p) 1 (run .root) sixteen i h)
 
-module _ (p : Parameters) (e : Exchange) (is-leaf : e .leaf < leaves p) (long : siblingsLength p ≤ length (e .message5)) where
-  path : length (pathOf p e) ≡ siblingsLength p
-  unfolding pathOf
-  path = length-take-le (siblingsLength p) (e .message5) long
+pub stateAt-statesFrom : (p : Parameters) (prefix : List ℕ) (leaf : ℕ) (s : List ℕ) → leaf < leaves p → length s ≡ siblingsLength p
+    → (i : ℕ) → i < leaves p → (i ≡ leaf → ⊥)
+    → stateAt (statesFrom p prefix leaf s) i ≡ state SHAKE256 prefix i (getD (openedSeeds SHAKE256 prefix (levels p) 1 leaf s) i [])
+unfolding statesFrom
+stateAt-statesFrom p prefix leaf s is-leaf long i h other =
+    stateAt-statesOf prefix (laid (openedSeeds SHAKE256 prefix (levels p) 1 leaf s)) leaf (leaves p) i h other
+    ∙ ap (state SHAKE256 prefix i) (openedSeeds-part SHAKE256 prefix length-SHAKE256 (levels p) 1 leaf i s long is-leaf h other)
 
-  pub opened-states : (i : ℕ) → i < leaves p → (i ≡ e .leaf → ⊥)
-      → stateAt (statesOf (e .prefix) (laid (openedSeeds SHAKE256 (e .prefix) (levels p) 1 (e .leaf) (pathOf p e))) (leaves p)) i ≡ openedState SHAKE256 p e i
-  unfolding openedState
-  opened-states i h other =
-      stateAt-statesOf (e .prefix) (laid (openedSeeds SHAKE256 (e .prefix) (levels p) 1 (e .leaf) (pathOf p e))) (leaves p) i h
-      ∙ ap (state SHAKE256 (e .prefix) i) (openedSeeds-part SHAKE256 (e .prefix) length-SHAKE256 (levels p) 1 (e .leaf) i (pathOf p e) path is-leaf h other)
+pub opened-states : (p : Parameters) (e : Exchange) → e .leaf < leaves p → siblingsLength p ≤ length (e .message5)
+    → (i : ℕ) → i < leaves p → (i ≡ e .leaf → ⊥) → stateAt (statesFrom p (e .prefix) (e .leaf) (pathOf p e)) i ≡ openedState SHAKE256 p e i
+unfolding openedState pathOf
+opened-states p e is-leaf long = stateAt-statesFrom p (e .prefix) (e .leaf) (pathOf p e) is-leaf (length-take-le (siblingsLength p) (e .message5) long)

@@ -1,5 +1,6 @@
--- The seeds are made in the second half of `states`, and from them all states.
+-- The seeds are made in the second half of `states`, and from them the states.
 use mathlib.Core.Path.{_≡_, ap, ap₂, _∙_}
+use mathlib.Core.List.{List}
 use Prim.Native.Nat.{ℕ, _*_, _^_}
 use native.Mathlib.Omega.{arith}
 use borrow.Author.Needs.{needs}
@@ -9,11 +10,10 @@ use Rattle.layout.specs.Layout.{leaves}
 use Rattle.layout.specs.Layout.Bounds.{leaves-most, levels-most}
 use Rattle.exchange.specs.Tree.{openedSeeds}
 use Rattle.seedtree.specs.Laid.{laid}
-use Rattle.leaves.specs.States.{statesOf}
+use Rattle.leaves.specs.States.{statesOf, statesFrom}
 use Rattle.leaves.specs.States.Seeds.{half-back}
-use Rattle.openings.specs.From.{statesFrom}
-use Rattle.openings.proofs.commitment.opened_states.Statement.{statement}
-use Rattle.openings.proofs.commitment.opened_states.Tie as tie
+use Rattle.leaves.proofs.states.opened_states.Statement.{statement}
+use Rattle.leaves.proofs.states.opened_states.Tie as tie
 
 opened-seeds-requires : tie.Need-opened-seeds-requires
 opened-seeds-requires c κs = let deep : tie.After-levels = search in let s : tie.Start = search in let e = deep .levels .ensures in
@@ -24,8 +24,8 @@ returns : tie.Need-returns
 unfolding statesFrom
 returns c = let filled : tie.After-leaf-states = search in let seeded : tie.After-opened-seeds = search in let deep : tie.After-levels = search in
     let counted : tie.After-leaf-count = search in let s : tie.Start = search in let args = s .args in
-    filled .leaf-states .ensures ∙ ap₂ (statesOf (args .prefix .now)) (half-back (args .states .now) _ (16 * counted .leaf-count .result)
-    (omega arith) ∙ seeded .opened-seeds .ensures ∙ ap
+    filled .leaf-states .ensures ∙ ap₂ (λ (seeds : List ℕ). statesOf (args .prefix .now) seeds (args .hidden-leaf))
+    (half-back (args .states .now) _ (16 * counted .leaf-count .result) (omega arith) ∙ seeded .opened-seeds .ensures ∙ ap
     (λ (d : ℕ). laid (openedSeeds SHAKE256 (args .prefix .now) d 1 (args .hidden-leaf) (args .siblings .now))) (deep .levels .ensures))
     (counted .leaf-count .ensures)
 
