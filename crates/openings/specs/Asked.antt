@@ -4,7 +4,6 @@
 -- LeavesAsked p leaf a work o        of message 5 aux a, which may be empty; work area and room for what the opening gives
 -- AxesAsked p s v matrix y work o    the same with a statement, α and β in v, and the key
 -- VerdictAsked p s o                 a statement, and what an opening gives
--- SiblingsAsked p leaf s st          a leaf, its sibling seeds, and room for the states of all leaves
 -- SumsAsked p aux st sums            aux, which may be empty, the states of all leaves, and room for the sums
 use mathlib.Core.Path.{_≡_}
 use mathlib.Core.List.{List}
@@ -12,7 +11,7 @@ use Prim.Native.Nat.{ℕ, _≤_, _<_}
 use lib.ListN.{length}
 use Rattle.parameters.specs.declared.Parameters.{Parameters}
 use Rattle.parameters.specs.Limits.{Within}
-use Rattle.layout.specs.Layout.{leaves, valuesLength, auxLength, siblingsLength, message5Length, sumsLength, workLength, prefixPlace, statesLength, openedLength, yLength, matrixLength}
+use Rattle.layout.specs.Layout.{leaves, valuesLength, auxLength, message5Length, sumsLength, workLength, prefixPlace, statesLength, openedLength, yLength, matrixLength}
 
 pub record OpeningAsked (p : Parameters) (s : List ℕ) (leaf : ℕ) (m5 matrix y work o : List ℕ) : Type 0 where
   pub within : Within p
@@ -44,12 +43,6 @@ pub record VerdictAsked (p : Parameters) (s o : List ℕ) : Type 0 where
   pub within : Within p
   pub sized-statement : prefixPlace p ≤ length s
   pub sized-opened : length o ≡ openedLength p
-
-pub record SiblingsAsked (p : Parameters) (leaf : ℕ) (siblings states : List ℕ) : Type 0 where
-  pub within : Within p
-  pub is-leaf : leaf < leaves p
-  pub sized-siblings : length siblings ≡ siblingsLength p
-  pub sized-states : length states ≡ statesLength p
 
 pub record SumsAsked (p : Parameters) (aux states sums : List ℕ) : Type 0 where
   pub within : Within p

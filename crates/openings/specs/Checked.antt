@@ -14,10 +14,11 @@ use Rattle.parameters.specs.declared.Parameters.{Parameters}
 use Rattle.layout.specs.Layout.{siblingsLength, sumsLength, workLength}
 use Rattle.exchange.specs.Values.{Key}
 use Rattle.exchange.specs.Opening.{Exchange, commitmentOf, verdict}
+use Rattle.leaves.specs.States.{statesFrom}
 use Rattle.parties.specs.Sums.Front.{filled}
 use Rattle.openings.specs.Statement.{message2In}
 use Rattle.openings.specs.Parts.{statesIn, rowsIn, hiddenCommitment}
-use Rattle.openings.specs.From.{statesFrom, announcedFrom}
+use Rattle.openings.specs.From.{announcedFrom}
 use Rattle.openings.specs.Opened.{openedStates, openedRows}
 pub mod Laws
 

@@ -1,6 +1,5 @@
 -- What each step makes from what it is lent.
 --
--- statesFrom p pre leaf s          the states of all leaves, from the sibling seeds s of the hidden leaf
 -- digestFrom p pre leaf c a st n   n bytes of the digest of all commitments, from the states st, and commitment c and aux a of message 5
 -- announcedFrom p key m2 sums leaf v    what the parties of every axis announce, from the sums, and α and β in v
 -- responseFrom p pre rows n        n bytes of the digest of what the parties of every axis announce
@@ -13,21 +12,15 @@ use Rattle.answers.specs.declared.Answer.{Answer}
 use Rattle.answers.specs.declared.Refusal.the-variants.{Commitment, Response}
 use Rattle.answers.specs.Checks.{checks}
 use Rattle.parameters.specs.declared.Parameters.{Parameters}
-use Rattle.layout.specs.Layout.{levels, leaves}
+use Rattle.layout.specs.Layout.{leaves}
 use Rattle.exchange.specs.Sequences.{joined}
 use Rattle.exchange.specs.Strings.{string5}
-use Rattle.exchange.specs.Tree.{openedSeeds}
 use Rattle.exchange.specs.Values.{Key}
-use Rattle.seedtree.specs.Laid.{laid}
-use Rattle.leaves.specs.States.{statesOf}
 use Rattle.leaves.specs.Commitments.{commitmentsOf}
 use Rattle.axes.specs.Announcing.{rowOf}
 use Rattle.axes.specs.RowStrings.{rowsString}
 use Rattle.openings.specs.Statement.{digestIn, responseIn, prefixIn}
 use Rattle.openings.specs.Parts.{statesIn, rowsIn, hiddenCommitment}
-
-unfoldable pub statesFrom : Parameters → List ℕ → ℕ → List ℕ → List ℕ
-statesFrom p prefix leaf siblings = statesOf prefix (laid (openedSeeds SHAKE256 prefix (levels p) 1 leaf siblings)) (leaves p)
 
 unfoldable pub digestFrom : Parameters → List ℕ → ℕ → List ℕ → List ℕ → List ℕ → ℕ → List ℕ
 digestFrom p prefix leaf commitment aux states n = SHAKE256 (string5 prefix (commitmentsOf p prefix states leaf commitment aux) (leaves p)) n

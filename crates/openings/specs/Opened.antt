@@ -1,6 +1,6 @@
 -- What an opening gives, in the lists that the code leaves.
 --
--- openedStates p e       the states of all leaves, one after another; the hidden leaf's place means nothing
+-- openedStates p e       the states of all leaves, one after another; the hidden leaf's place is zeros
 -- openedRow p e key j    what the parties of axis j announce: what is hashed at layer 6 behind the axis
 -- openedRows p e key     the same of every axis, one after another
 use mathlib.Core.List.{List}
@@ -12,7 +12,7 @@ use Rattle.exchange.specs.Sequences.{joined}
 use Rattle.exchange.specs.Values.{Key}
 use Rattle.exchange.specs.Parties.{announcedBytes}
 use Rattle.exchange.specs.Opening.{Exchange, pathOf, announced}
-use Rattle.openings.specs.From.{statesFrom}
+use Rattle.leaves.specs.States.{statesFrom}
 pub mod Laws
 pub mod Made
 

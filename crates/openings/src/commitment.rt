@@ -1,7 +1,5 @@
 // Layers 1 to 5 of an opening: the states of the disclosed leaves, their sums, and h recomputed.
 use layout::at_x;
-use layout::leaf_count;
-use layout::levels;
 use layout::prefix_place;
 use layout::rows_end;
 use layout::share_length;
@@ -9,43 +7,19 @@ use layout::siblings_length;
 use layout::states_length;
 use layout::sums_length;
 use leaves::commitments::digest_commitments;
-use leaves::states::leaf_states;
+use leaves::states::opened_states;
 use lists::equal;
 use lists::xor_at;
 use parameters::Parameters;
 use parties::party_sums;
-use seedtree::opened_seeds;
 ghost use mathlib.Core.Path.{_≡_};
 ghost use Rattle.lists.specs.Equal.{eqList};
 ghost use Rattle.parties.specs.Sums.Front.{filled};
 ghost use Rattle.openings.specs.Statement.{digestIn, prefixIn};
 ghost use Rattle.openings.specs.Parts.{statesIn, hiddenCommitment};
-ghost use Rattle.openings.specs.From.{statesFrom, digestFrom};
-ghost use Rattle.openings.specs.Asked.{SiblingsAsked, SumsAsked, LeavesAsked, VerdictAsked};
+ghost use Rattle.openings.specs.From.{digestFrom};
+ghost use Rattle.openings.specs.Asked.{SumsAsked, LeavesAsked, VerdictAsked};
 ghost use Rattle.openings.specs.Checked.{LeavesOpened};
-
-// Fills `states` with the states of all leaves, from the sibling seeds of the hidden leaf.
-fn opened_states(
-    p: Parameters,
-    prefix: &[u8],
-    hidden_leaf: usize,
-    siblings: &[u8],
-    states: &mut [u8],
-)
-    requires { ⌜ SiblingsAsked p «hidden_leaf» (now siblings) (now states) ⌝ }
-    ensures { λ _. ⌜ now (states .exit) ≡ statesFrom p (now (prefix .entry)) «hidden_leaf» (now (siblings .entry)) ⌝ }
-{
-    let n = leaf_count(p);
-    let half = 16 * n;
-    opened_seeds(
-        prefix,
-        levels(p),
-        hidden_leaf,
-        siblings,
-        &mut states[half..],
-    );
-    leaf_states(prefix, n, states);
-}
 
 // The sums over the disclosed leaves. Aux is in leaf n−1 alone, which is in the last party of every axis; where that leaf is
 // hidden, aux is empty.

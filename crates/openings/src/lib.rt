@@ -43,8 +43,9 @@ fn verdict_of(
     Answer::Done
 }
 
-// Checks the opening of an exchange against its statement. Whatever the answer, `opened` then holds the states of all leaves,
-// what the parties of every axis announce and the hidden leaf's commitment, and the work area is zeros.
+// Checks the opening of an exchange against its statement. Whatever the answer, `opened` then holds the states of all leaves
+// but the hidden one, whose place is zeros, what the parties of every axis announce and the hidden leaf's commitment, and the
+// work area is zeros.
 pub fn check_opening(
     p: Parameters,
     statement: &[u8],

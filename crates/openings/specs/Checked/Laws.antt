@@ -20,11 +20,12 @@ use Rattle.exchange.specs.Strings.{string, string6}
 use Rattle.exchange.specs.Values.{Key}
 use Rattle.exchange.specs.Parties.{axisString}
 use Rattle.exchange.specs.Opening.{Exchange, pathOf, commitmentOf, openedState, announced, verdict}
+use Rattle.leaves.specs.States.{statesFrom}
 use Rattle.parties.specs.Sums.Front.{filled}
 use Rattle.reader.specs.Message5.{siblingsIn, commitmentIn, valuesIn, auxIn}
 use Rattle.openings.specs.Statement.{message2In, prefixIn, digestIn, responseIn, exchangeIn}
 use Rattle.openings.specs.Parts.{statesIn, rowsIn, hiddenCommitment}
-use Rattle.openings.specs.From.{statesFrom, digestFrom, announcedFrom, responseFrom, judged}
+use Rattle.openings.specs.From.{digestFrom, announcedFrom, responseFrom, judged}
 use Rattle.openings.specs.Opened.{openedStates, openedRow, openedRows}
 use Rattle.openings.specs.Opened.Laws.{opened-state, row-opened}
 use Rattle.openings.specs.Opened.Made.{made-rows, made-commitment, made-response}

@@ -22,12 +22,11 @@ use Rattle.leaves.specs.States.{stateAt}
 use Rattle.leaves.specs.States.Seeds.{opened-states}
 use Rattle.axes.specs.RowStrings.{rowString, rowsString}
 use Rattle.reader.specs.Message5.Laws.{aux-inside}
-use Rattle.openings.specs.From.{statesFrom}
 use Rattle.openings.specs.Opened.{openedStates, openedRow, openedRows}
 
 pub opened-state : (p : Parameters) (e : Exchange) → e .leaf < leaves p → length (e .message5) ≡ message5Length p (e .leaf)
     → (i : ℕ) → i < leaves p → (i ≡ e .leaf → ⊥) → stateAt (openedStates p e) i ≡ openedState SHAKE256 p e i
-unfolding openedStates statesFrom
+unfolding openedStates
 opened-state p e below long i h other =
     let k = aux-inside p (e .leaf) (e .message5) long in opened-states p e below (omega arith) i h other
 

@@ -8,8 +8,8 @@ use lib.ListN.{length, take, drop}
 use lib.Seq.{take-at, drop-at, length-take-le}
 use Rattle.layout.specs.Layout.{statesLength, openedLength}
 use Rattle.layout.specs.Layout.Bounds.{sums-fit, siblings-fit}
+use Rattle.leaves.specs.States.{statesFrom}
 use Rattle.parties.specs.Sums.Front.{filled}
-use Rattle.openings.specs.From.{statesFrom}
 use Rattle.openings.specs.Parts.Laws.{put-states, length-put-states, states-commitment, states-lent, length-states-lent}
 use Rattle.openings.proofs.commitment.open_leaves.Statement.{statement}
 use Rattle.openings.proofs.commitment.open_leaves.Tie as tie
