@@ -1,6 +1,6 @@
 -- What the prover has of its leaves, from what its session holds.
 --
--- ownStates p run           the states of all leaves, one after another
+-- ownStates p run           the states of all leaves, one after another; none is hidden
 -- sumOf p prefix states     the sum of all shares as hashed, with no aux
 use mathlib.Core.Bool.{true}
 use mathlib.Core.List.{List}
@@ -17,7 +17,7 @@ use Rattle.parties.specs.Drawn.{drawnShare}
 pub mod Laws
 
 unfoldable pub ownStates : Parameters → Run → List ℕ
-ownStates p run = statesOf (run .prefix) (laid (leafSeeds SHAKE256 (run .prefix) (levels p) 1 (run .root))) (leaves p)
+ownStates p run = statesOf (run .prefix) (laid (leafSeeds SHAKE256 (run .prefix) (levels p) 1 (run .root))) (leaves p) (leaves p)
 
 abbrev pub sumOf : Parameters → List ℕ → List ℕ → List ℕ
 sumOf p prefix states = total p (λ i. true) (drawnShare p prefix states) (leaves p)

@@ -27,7 +27,7 @@ pub fn own_states(p: Parameters, run: &[u8], states: &mut [u8])
     let d = levels(p);
     let half = 16 * n;
     leaf_seeds(&run[16..], d, &run[..16], &mut states[half..]);
-    leaf_states(&run[16..], n, states);
+    leaf_states(&run[16..], n, n, states);
 }
 
 // Fills `states` with the states of all leaves and aux with aux; the named length of the work area ends as zeros.

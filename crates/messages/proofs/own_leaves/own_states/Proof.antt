@@ -1,10 +1,10 @@
 -- The seeds are made in the second half of `states`, and from them all states.
 use mathlib.Core.Path.{_≡_, ap, ap₂, _∙_}
 use mathlib.Core.List.{List}
-use Prim.Native.Nat.{ℕ, _*_, _^_}
+use Prim.Native.Nat.{ℕ, _-_, _*_, _^_}
 use native.Mathlib.Omega.{arith}
 use borrow.Author.Needs.{needs}
-use lib.ListN.{take, length-take, length-drop}
+use lib.ListN.{length, take, drop, length-take, length-drop}
 use lib.Seq.{length-take-le}
 use Rattle.lists.specs.Part.Laws.{tail-part}
 use Rattle.points.specs.Written.{front-length}
@@ -32,11 +32,11 @@ returns : tie.Need-returns
 unfolding ownStates
 returns c = let filled : tie.After-leaf-states = search in let seeded : tie.After-leaf-seeds = search in let d : tie.After-levels = search in
     let counted : tie.After-leaf-count = search in let s : tie.Start = search in let run = s .args .run .now in
+    let n = leaves (s .args .p) in
     filled .leaf-states .ensures
-    ∙ ap₂ (statesOf _) (half-back (s .args .states .now) _ (16 * counted .leaf-count .result) (omega arith) ∙ seeded .leaf-seeds .ensures)
-    (counted .leaf-count .ensures)
-    ∙ ap₂ (λ (q : List ℕ) (k : ℕ). statesOf q (laid (leafSeeds SHAKE256 q k 1 (take 16 run))) (leaves (s .args .p))) (tail-part run 16)
-    (d .levels .ensures)
+    ∙ ap₂ (λ (seeds : List ℕ) (k : ℕ). statesOf (take (length run - 16) (drop 16 run)) seeds k k)
+    (half-back (s .args .states .now) _ (16 * counted .leaf-count .result) (omega arith) ∙ seeded .leaf-seeds .ensures) (counted .leaf-count .ensures)
+    ∙ ap₂ (λ (q : List ℕ) (k : ℕ). statesOf q (laid (leafSeeds SHAKE256 q k 1 (take 16 run))) n n) (tail-part run 16) (d .levels .ensures)
 
 pub own-states-spec : {M : Type 1} → statement M
 own-states-spec = tie.close (tie.spec (λ c κs. search needs) (λ c κs. search needs) (λ c. search needs) (λ c. search needs) (λ c. search needs)
