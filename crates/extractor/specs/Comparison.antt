@@ -33,6 +33,7 @@ use Rattle.leaves.specs.Commitments.{commitmentsOf}
 use Rattle.extractor.specs.Chain.{rowChain, leafChain}
 pub mod Laws
 pub mod Leaf
+pub mod Same
 pub mod Steps
 
 pub record View : Type 0 where

@@ -1,5 +1,6 @@
-// The leaf commitments of two openings compared (layer 5).
+// The leaf commitments of two openings compared (layer 5): a leaf opened in both, of which the same is hashed, is passed over.
 use crate::Hidden;
+use crate::opened::leaf_agrees;
 use layout::leaf_count;
 use layout::rows_end;
 use leaves::COMMITMENTS;
@@ -13,10 +14,8 @@ ghost use mathlib.Core.Path.{_≡_};
 ghost use Prim.Native.Nat.{_<_};
 ghost use Rattle.lists.specs.Equal.{eqList};
 ghost use Rattle.layout.specs.Layout.{leaves};
-ghost use Rattle.leaves.specs.Commitments.{commitmentsAfter};
-ghost use Rattle.openings.specs.Parts.{hiddenCommitment};
 ghost use Rattle.extractor.specs.Comparison.{commitments, firstApart};
-ghost use Rattle.extractor.specs.Opened.{viewOf};
+ghost use Rattle.extractor.specs.Opened.{viewOf, commitmentAt};
 ghost use Rattle.extractor.specs.Shapes.{Committed, Both};
 
 // Fills out with the commitment of a leaf; the hidden leaf's is the one given.
@@ -30,8 +29,7 @@ fn commitment_at(
     out: &mut [u8],
 )
     requires { ⌜ Committed p leaf (now opened) (now out) ⌝ }
-    ensures { λ _. ⌜ now (out .exit)
-        ≡ commitmentsAfter start p (now (opened .entry)) «hidden_leaf» (hiddenCommitment p (now (opened .entry))) (now (aux .entry)) leaf ⌝ }
+    ensures { λ _. ⌜ now (out .exit) ≡ commitmentAt start p «hidden_leaf» (now (aux .entry)) (now (opened .entry)) leaf ⌝ }
 {
     if leaf == hidden_leaf {
         let at = rows_end(p);
@@ -42,8 +40,8 @@ fn commitment_at(
     leaf_commitment(start, p, leaf, &opened[at..at + 32], aux, out);
 }
 
-// Is the commitment of a leaf the same in both openings?
-fn same_commitment(
+// Have both openings the same commitment of a leaf? Both are made.
+fn commitments_agree(
     start: Sponge,
     p: Parameters,
     hidden: Hidden,
@@ -54,10 +52,8 @@ fn same_commitment(
     leaf: usize,
 ) -> bool
     requires { ⌜ Both p (now opened) (now «other_opened») × (leaf < leaves p) ⌝ }
-    ensures { λ r. ⌜ r ≡ eqList
-        (commitmentsAfter start p (now (opened .entry)) (hidden .first) (hiddenCommitment p (now (opened .entry))) (now (aux .entry)) leaf)
-        (commitmentsAfter start p (now («other_opened» .entry)) (hidden .second) (hiddenCommitment p (now («other_opened» .entry)))
-        (now («other_aux» .entry)) leaf) ⌝ }
+    ensures { λ r. ⌜ r ≡ eqList (commitmentAt start p (hidden .first) (now (aux .entry)) (now (opened .entry)) leaf)
+        (commitmentAt start p (hidden .second) (now («other_aux» .entry)) (now («other_opened» .entry)) leaf) ⌝ }
 {
     let mut a = [0u8; 32];
     commitment_at(start, p, leaf, hidden.first, aux, opened, &mut a);
@@ -72,6 +68,27 @@ fn same_commitment(
         &mut b,
     );
     equal(&a, &b)
+}
+
+// Is the commitment of a leaf the same in both openings? What is the same in both has one commitment.
+fn same_commitment(
+    start: Sponge,
+    p: Parameters,
+    hidden: Hidden,
+    aux: &[u8],
+    opened: &[u8],
+    other_aux: &[u8],
+    other_opened: &[u8],
+    leaf: usize,
+) -> bool
+    requires { ⌜ Both p (now opened) (now «other_opened») × (leaf < leaves p) ⌝ }
+    ensures { λ r. ⌜ r ≡ eqList (commitmentAt start p (hidden .first) (now (aux .entry)) (now (opened .entry)) leaf)
+        (commitmentAt start p (hidden .second) (now («other_aux» .entry)) (now («other_opened» .entry)) leaf) ⌝ }
+{
+    if leaf_agrees(p, hidden, aux, opened, other_aux, other_opened, leaf) {
+        return true;
+    }
+    commitments_agree(start, p, hidden, aux, opened, other_aux, other_opened, leaf)
 }
 
 // The first leaf whose commitments differ, or n where none does.

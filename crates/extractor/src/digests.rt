@@ -1,4 +1,5 @@
-// The digests of the axes compared (layer 7).
+// The digests of the axes compared (layer 7): only rows that differ are hashed.
+use crate::rows::same_row;
 use axes::digests::axis_digest;
 use layout::axis_length;
 use lists::equal;
@@ -9,8 +10,8 @@ ghost use Rattle.lists.specs.Equal.{eqList};
 ghost use Rattle.extractor.specs.Comparison.{digestAt, firstApart};
 ghost use Rattle.extractor.specs.Shapes.{Rows};
 
-// Is the digest of an axis the same in both openings?
-fn same_digest(p: Parameters, prefix: &[u8], rows: &[u8], others: &[u8], axis: usize) -> bool
+// Have the rows of an axis of both openings the same digest? Both are hashed.
+fn digests_agree(p: Parameters, prefix: &[u8], rows: &[u8], others: &[u8], axis: usize) -> bool
     requires { ⌜ Rows p (now rows) (now others) × (axis < p .axes) ⌝ }
     ensures { λ r. ⌜ r ≡ eqList (digestAt p (now (prefix .entry)) (now (rows .entry)) axis)
         (digestAt p (now (prefix .entry)) (now (others .entry)) axis) ⌝ }
@@ -23,6 +24,18 @@ fn same_digest(p: Parameters, prefix: &[u8], rows: &[u8], others: &[u8], axis: u
     let mut b = [0u8; 32];
     axis_digest(prefix, axis, &others[at..end], &mut b);
     equal(&a, &b)
+}
+
+// Is the digest of an axis the same in both openings? Equal rows have one digest.
+fn same_digest(p: Parameters, prefix: &[u8], rows: &[u8], others: &[u8], axis: usize) -> bool
+    requires { ⌜ Rows p (now rows) (now others) × (axis < p .axes) ⌝ }
+    ensures { λ r. ⌜ r ≡ eqList (digestAt p (now (prefix .entry)) (now (rows .entry)) axis)
+        (digestAt p (now (prefix .entry)) (now (others .entry)) axis) ⌝ }
+{
+    if same_row(p, rows, others, axis) {
+        return true;
+    }
+    digests_agree(p, prefix, rows, others, axis)
 }
 
 // The first axis, from 0, whose digests differ, or D where none does.

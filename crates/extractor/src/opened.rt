@@ -37,6 +37,30 @@ fn same_leaf(
     true
 }
 
+// Is the leaf opened in both openings?
+fn in_both(hidden: Hidden, leaf: usize) -> bool
+    ensures { λ r. ⌜ r ≡ openedInBoth (hidden .first) (hidden .second) leaf ⌝ }
+{
+    leaf != hidden.first && leaf != hidden.second
+}
+
+// Is the leaf opened in both openings, and what is hashed of it the same in both?
+pub fn leaf_agrees(
+    p: Parameters,
+    hidden: Hidden,
+    aux: &[u8],
+    opened: &[u8],
+    other_aux: &[u8],
+    other_opened: &[u8],
+    leaf: usize,
+) -> bool
+    requires { ⌜ Both p (now opened) (now «other_opened») × (leaf < leaves p) ⌝ }
+    ensures { λ r. ⌜ r ≡ (openedInBoth (hidden .first) (hidden .second) leaf &&
+        eqList (leafAt p (now (opened .entry)) (now (aux .entry)) leaf) (leafAt p (now («other_opened» .entry)) (now («other_aux» .entry)) leaf)) ⌝ }
+{
+    in_both(hidden, leaf) && same_leaf(p, aux, opened, other_aux, other_opened, leaf)
+}
+
 // Is the leaf opened in both openings, and not the same in both?
 fn leaf_differs(
     p: Parameters,
@@ -51,8 +75,7 @@ fn leaf_differs(
     ensures { λ r. ⌜ r ≡ (openedInBoth (hidden .first) (hidden .second) leaf &&
         apart (leafAt p (now (opened .entry)) (now (aux .entry))) (leafAt p (now («other_opened» .entry)) (now («other_aux» .entry))) leaf) ⌝ }
 {
-    leaf != hidden.first
-        && (leaf != hidden.second && !same_leaf(p, aux, opened, other_aux, other_opened, leaf))
+    in_both(hidden, leaf) && !same_leaf(p, aux, opened, other_aux, other_opened, leaf)
 }
 
 // The first leaf opened in both openings that differs, or n where none does.

@@ -9,7 +9,7 @@ ghost use Rattle.extractor.specs.Comparison.{rowAt, firstApart};
 ghost use Rattle.extractor.specs.Shapes.{Rows};
 
 // Are the rows of an axis the same in both openings?
-fn same_row(p: Parameters, rows: &[u8], others: &[u8], axis: usize) -> bool
+pub fn same_row(p: Parameters, rows: &[u8], others: &[u8], axis: usize) -> bool
     requires { ⌜ Rows p (now rows) (now others) × (axis < p .axes) ⌝ }
     ensures { λ r. ⌜ r ≡ eqList (rowAt p (now (rows .entry)) axis) (rowAt p (now (others .entry)) axis) ⌝ }
 {

@@ -1,14 +1,12 @@
--- Both commitments are made, then compared.
-use mathlib.Core.Path.{ap₂, _∙_}
+-- A leaf that is the same in both openings has one commitment (`commitment-same`); of any other both are made.
+use mathlib.Core.Path.{sym, _∙_}
 use borrow.Author.Needs.{needs}
-use Rattle.lists.specs.Equal.{eqList}
+use Rattle.extractor.specs.Comparison.Same.{commitment-same}
 use Rattle.extractor.proofs.commitments.same_commitment.Statement.{statement}
 use Rattle.extractor.proofs.commitments.same_commitment.Tie as tie
 
 returns : tie.Need-returns
-returns c = let second : tie.After-commitment-at2 = search in let first : tie.After-commitment-at = search in
-    c .equal .ensures ∙ ap₂ eqList (first .commitment-at .ensures) (second .commitment-at2 .ensures)
+returns c = commitment-same _ _ _ _ _ _ _ _ _ _ _ (sym (c .before .leaf-agrees .ensures) ∙ c .if1 .taken)
 
 pub same-commitment-spec : {M : Type 1} → statement M
-same-commitment-spec = tie.close (tie.spec (λ c. search needs) (λ c κs. search needs) (λ c. search needs) (λ c κs. search needs) (λ c. search needs)
-    (λ c. search needs) (λ c κs. search needs) returns)
+same-commitment-spec = tie.close (tie.spec (λ c κs. search needs) returns (λ c κs. search needs) (λ c. search needs))
