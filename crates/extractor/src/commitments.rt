@@ -8,20 +8,19 @@ use leaves::leaf_commitment;
 use lists::copy;
 use lists::equal;
 use parameters::Parameters;
-use shake256::Sponge;
 use strings::begin;
 ghost use mathlib.Core.Path.{_≡_};
 ghost use Prim.Native.Nat.{_<_};
 ghost use Rattle.lists.specs.Equal.{eqList};
 ghost use Rattle.layout.specs.Layout.{leaves};
 ghost use Rattle.extractor.specs.Comparison.{commitments, firstApart};
-ghost use Rattle.extractor.specs.Opened.{viewOf, commitmentAt};
+ghost use Rattle.extractor.specs.Opened.{viewOf};
 ghost use Rattle.extractor.specs.Shapes.{Committed, Both};
 
 // Fills out with the commitment of a leaf; the hidden leaf's is the one given.
 fn commitment_at(
-    start: Sponge,
     p: Parameters,
+    prefix: &[u8],
     leaf: usize,
     hidden_leaf: usize,
     aux: &[u8],
@@ -29,21 +28,22 @@ fn commitment_at(
     out: &mut [u8],
 )
     requires { ⌜ Committed p leaf (now opened) (now out) ⌝ }
-    ensures { λ _. ⌜ now (out .exit) ≡ commitmentAt start p «hidden_leaf» (now (aux .entry)) (now (opened .entry)) leaf ⌝ }
+    ensures { λ _. ⌜ now (out .exit) ≡ commitments p (now (prefix .entry)) (viewOf p «hidden_leaf» (now (aux .entry)) (now (opened .entry))) leaf ⌝ }
 {
     if leaf == hidden_leaf {
         let at = rows_end(p);
         copy(out, &opened[at..]);
         return;
     }
+    let start = begin(COMMITMENTS, prefix);
     let at = 32 * leaf;
     leaf_commitment(start, p, leaf, &opened[at..at + 32], aux, out);
 }
 
 // Have both openings the same commitment of a leaf? Both are made.
 fn commitments_agree(
-    start: Sponge,
     p: Parameters,
+    prefix: &[u8],
     hidden: Hidden,
     aux: &[u8],
     opened: &[u8],
@@ -52,15 +52,16 @@ fn commitments_agree(
     leaf: usize,
 ) -> bool
     requires { ⌜ Both p (now opened) (now «other_opened») × (leaf < leaves p) ⌝ }
-    ensures { λ r. ⌜ r ≡ eqList (commitmentAt start p (hidden .first) (now (aux .entry)) (now (opened .entry)) leaf)
-        (commitmentAt start p (hidden .second) (now («other_aux» .entry)) (now («other_opened» .entry)) leaf) ⌝ }
+    ensures { λ r. ⌜ r ≡ eqList
+        (commitments p (now (prefix .entry)) (viewOf p (hidden .first) (now (aux .entry)) (now (opened .entry))) leaf)
+        (commitments p (now (prefix .entry)) (viewOf p (hidden .second) (now («other_aux» .entry)) (now («other_opened» .entry))) leaf) ⌝ }
 {
     let mut a = [0u8; 32];
-    commitment_at(start, p, leaf, hidden.first, aux, opened, &mut a);
+    commitment_at(p, prefix, leaf, hidden.first, aux, opened, &mut a);
     let mut b = [0u8; 32];
     commitment_at(
-        start,
         p,
+        prefix,
         leaf,
         hidden.second,
         other_aux,
@@ -72,8 +73,8 @@ fn commitments_agree(
 
 // Is the commitment of a leaf the same in both openings? What is the same in both has one commitment.
 fn same_commitment(
-    start: Sponge,
     p: Parameters,
+    prefix: &[u8],
     hidden: Hidden,
     aux: &[u8],
     opened: &[u8],
@@ -82,13 +83,23 @@ fn same_commitment(
     leaf: usize,
 ) -> bool
     requires { ⌜ Both p (now opened) (now «other_opened») × (leaf < leaves p) ⌝ }
-    ensures { λ r. ⌜ r ≡ eqList (commitmentAt start p (hidden .first) (now (aux .entry)) (now (opened .entry)) leaf)
-        (commitmentAt start p (hidden .second) (now («other_aux» .entry)) (now («other_opened» .entry)) leaf) ⌝ }
+    ensures { λ r. ⌜ r ≡ eqList
+        (commitments p (now (prefix .entry)) (viewOf p (hidden .first) (now (aux .entry)) (now (opened .entry))) leaf)
+        (commitments p (now (prefix .entry)) (viewOf p (hidden .second) (now («other_aux» .entry)) (now («other_opened» .entry))) leaf) ⌝ }
 {
     if leaf_agrees(p, hidden, aux, opened, other_aux, other_opened, leaf) {
         return true;
     }
-    commitments_agree(start, p, hidden, aux, opened, other_aux, other_opened, leaf)
+    commitments_agree(
+        p,
+        prefix,
+        hidden,
+        aux,
+        opened,
+        other_aux,
+        other_opened,
+        leaf,
+    )
 }
 
 // The first leaf whose commitments differ, or n where none does.
@@ -107,11 +118,19 @@ pub fn first_commitment(
         (commitments p (now (prefix .entry)) (viewOf p (hidden .second) (now («other_aux» .entry)) (now («other_opened» .entry))))
         (leaves p) ⌝ }
 {
-    let start = begin(COMMITMENTS, prefix);
     let n = leaf_count(p);
     let mut leaf = 0;
     while leaf < n {
-        if !same_commitment(start, p, hidden, aux, opened, other_aux, other_opened, leaf) {
+        if !same_commitment(
+            p,
+            prefix,
+            hidden,
+            aux,
+            opened,
+            other_aux,
+            other_opened,
+            leaf,
+        ) {
             return leaf;
         }
         leaf += 1;

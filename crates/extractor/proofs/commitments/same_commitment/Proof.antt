@@ -2,11 +2,14 @@
 use mathlib.Core.Path.{sym, _∙_}
 use borrow.Author.Needs.{needs}
 use Rattle.extractor.specs.Comparison.Same.{commitment-same}
+use Rattle.extractor.specs.Opened.{viewOf}
 use Rattle.extractor.proofs.commitments.same_commitment.Statement.{statement}
 use Rattle.extractor.proofs.commitments.same_commitment.Tie as tie
 
 returns : tie.Need-returns
-returns c = commitment-same _ _ _ _ _ _ _ _ _ _ _ (sym (c .before .leaf-agrees .ensures) ∙ c .if1 .taken)
+returns c = let s : tie.Start = search in let a = s .args in
+    commitment-same (a .p) (a .prefix .now) (viewOf (a .p) (a .hidden .first) (a .aux .now) (a .opened .now))
+    (viewOf (a .p) (a .hidden .second) (a .other-aux .now) (a .other-opened .now)) (a .leaf) (sym (c .before .leaf-agrees .ensures) ∙ c .if1 .taken)
 
 pub same-commitment-spec : {M : Type 1} → statement M
 same-commitment-spec = tie.close (tie.spec (λ c κs. search needs) returns (λ c κs. search needs) (λ c. search needs))
