@@ -16,8 +16,8 @@ use native.Mathlib.Decide.{decLt}
 use native.Mathlib.Omega.{arith}
 use borrow.Author.Tests.{lt-ltb, le-ltb}
 use lib.Dec.{ltb}
-use lib.ListN.{length, getD, take, drop, replicate, length-take, length-drop, List·getD-append}
-use lib.Seq.{drop-drop, getD-append-add}
+use lib.ListN.{length, getD, take, drop, replicate, length-take, length-drop}
+use lib.Seq.{drop-drop}
 use Rattle.lists.specs.Part.{part, putAt}
 use Rattle.lists.specs.Part.Laws.{putAt-whole}
 use Rattle.exchange.specs.Tree.{leafSeeds, openedSeeds}
@@ -25,7 +25,7 @@ use Rattle.exchange.specs.Tree.Laws.{length-leafSeeds, length-leafSeed, length-
 use Rattle.seedtree.specs.Writes.{putAt-front, putAt-behind}
 use Rattle.seedtree.specs.Laid.{slot, laid, Slotted}
 use Rattle.seedtree.specs.Laid.Laws.{slot-seed, part-laid, full-slotted, each-append, laid-append, length-laid}
-use Rattle.seedtree.specs.Levels.Laws.{full-leafSeeds, length-leaves}
+use Rattle.seedtree.specs.Levels.Laws.{in-first, in-second, full-leafSeeds, length-leaves}
 use Rattle.seedtree.specs.declared.nodes.Way.{Way}
 use Rattle.seedtree.specs.Way.{second, rootWay, side, skipped, next, OnWay}
 use Rattle.seedtree.specs.Way.Laws.{level-less, onWay-half, onWay-side, onWay-skipped}
@@ -80,29 +80,21 @@ module _ (hash : List ℕ → ℕ → List ℕ) (prefix : List ℕ) where
         whole-length : (v k : ℕ) → k < 2 ^ l → length (getD (whole v) k []) ≡ 16
         whole-length v k h = length-leafSeed hash prefix hash-length l v (take 16 s) (one-length l s e) k h
 
-        first : (a b : List (List ℕ)) → length a ≡ 2 ^ l → k < 2 ^ l → getD (a ++ b) k [] ≡ getD a k []
-        first a b n h = List·getD-append a b [] k (omega arith)
-
-        last : (a b : List (List ℕ)) → length a ≡ 2 ^ l → 2 ^ l ≤ k → getD (a ++ b) k [] ≡ getD b (k - 2 ^ l) []
-        last a b n h =
-            let q : k ≡ length a + (k - 2 ^ l) = omega arith in
-            ap (λ (z : ℕ). getD (a ++ b) z []) q ∙ getD-append-add a b (k - 2 ^ l) []
-
         go : Dec (i < 2 ^ l) → Dec (k < 2 ^ l) → (i < 2 ^ l → k < 2 ^ l → length (getD (way (2 * v) i) k []) ≡ 16)
             → (i - 2 ^ l < 2 ^ l → k - 2 ^ l < 2 ^ l → (k - 2 ^ l ≡ i - 2 ^ l → ⊥) → length (getD (way (2 * v + 1) (i - 2 ^ l)) (k - 2 ^ l) []) ≡ 16)
             → length (getD (cond (ltb i (2 ^ l)) (way (2 * v) i ++ whole (2 * v + 1)) (whole (2 * v) ++ way (2 * v + 1) (i - 2 ^ l))) k []) ≡ 16
         go (yes a) (yes b) ih jh =
-            rw (lt-ltb i (2 ^ l) a) (ap length (first (way (2 * v) i) (whole (2 * v + 1)) (length-openedSeeds hash prefix l (2 * v) i (drop 16 s)) b) ∙ ih a b)
+            rw (lt-ltb i (2 ^ l) a) (ap length (in-first (way (2 * v) i) (whole (2 * v + 1)) (2 ^ l) k (length-openedSeeds hash prefix l (2 * v) i (drop 16 s)) b) ∙ ih a b)
         go (yes a) (no b) ih jh =
             rw (lt-ltb i (2 ^ l) a)
-            (ap length (last (way (2 * v) i) (whole (2 * v + 1)) (length-openedSeeds hash prefix l (2 * v) i (drop 16 s)) (omega arith))
+            (ap length (in-second (way (2 * v) i) (whole (2 * v + 1)) (2 ^ l) k (length-openedSeeds hash prefix l (2 * v) i (drop 16 s)) (omega arith))
             ∙ whole-length (2 * v + 1) (k - 2 ^ l) (omega (arith, two)))
         go (no a) (yes b) ih jh =
             rw (le-ltb i (2 ^ l) (omega arith))
-            (ap length (first (whole (2 * v)) (way (2 * v + 1) (i - 2 ^ l)) (length-leafSeeds hash prefix l (2 * v) (take 16 s)) b) ∙ whole-length (2 * v) k b)
+            (ap length (in-first (whole (2 * v)) (way (2 * v + 1) (i - 2 ^ l)) (2 ^ l) k (length-leafSeeds hash prefix l (2 * v) (take 16 s)) b) ∙ whole-length (2 * v) k b)
         go (no a) (no b) ih jh =
             rw (le-ltb i (2 ^ l) (omega arith))
-            (ap length (last (whole (2 * v)) (way (2 * v + 1) (i - 2 ^ l)) (length-leafSeeds hash prefix l (2 * v) (take 16 s)) (omega arith))
+            (ap length (in-second (whole (2 * v)) (way (2 * v + 1) (i - 2 ^ l)) (2 ^ l) k (length-leafSeeds hash prefix l (2 * v) (take 16 s)) (omega arith))
             ∙ jh (omega (arith, two)) (omega (arith, two)) (λ z. differ (omega arith)))
 
     pub openedSeeds-part : (l v i k : ℕ) (s : List ℕ) → length s ≡ 16 * l → i < 2 ^ l → k < 2 ^ l → (k ≡ i → ⊥)

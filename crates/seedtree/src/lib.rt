@@ -10,8 +10,8 @@ use lists::put_at;
 use shake256::Sponge;
 use strings::begin;
 ghost use mathlib.Core.Path.{_≡_};
-ghost use mathlib.Core.List.{List};
-ghost use lib.ListN.{length};
+ghost use mathlib.Core.List.{List, []};
+ghost use lib.ListN.{length, getD};
 ghost use Prim.Native.Nat.{ℕ, _+_, _-_, _*_, _/_};
 ghost use Rattle.shake256.specs.Fips.{SHAKE256};
 ghost use Rattle.lists.specs.Part.{putAt};
@@ -58,10 +58,12 @@ pub fn leaf_seeds(prefix: &[u8], d: usize, root: &[u8], seeds: &mut [u8])
     below(nodes, d, 1, root, seeds);
 }
 
-// Fills out with the sibling seeds of a leaf, from the root side down. Only the nodes on the way to the leaf are expanded.
-pub fn sibling_seeds(prefix: &[u8], d: usize, root: &[u8], leaf: usize, out: &mut [u8])
+// Fills out with the sibling seeds of a leaf, from the root side down, and returns the leaf's own seed. Only the nodes on the
+// way to the leaf are expanded.
+pub fn sibling_seeds(prefix: &[u8], d: usize, root: &[u8], leaf: usize, out: &mut [u8]) -> [u8; 16]
     requires { ⌜ Siblings d leaf (now root) (now out) ⌝ }
-    ensures { λ _. ⌜ now (out .exit) ≡ tree.siblingSeeds SHAKE256 (now (prefix .entry)) d 1 (now (root .entry)) leaf ⌝ }
+    ensures siblings { λ _. ⌜ now (out .exit) ≡ tree.siblingSeeds SHAKE256 (now (prefix .entry)) d 1 (now (root .entry)) leaf ⌝ }
+    ensures own { λ r. ⌜ r ≡ getD (tree.leafSeeds SHAKE256 (now (prefix .entry)) d 1 (now (root .entry))) leaf [] ⌝ }
 {
     let nodes = begin(NODES, prefix);
     let mut way = root_way(d, leaf);
@@ -78,6 +80,7 @@ pub fn sibling_seeds(prefix: &[u8], d: usize, root: &[u8], leaf: usize, out: &mu
         way = next;
         left -= 1;
     }
+    seed_of(&pair[own..own + 16])
 }
 
 // The seeds of the leaves below the sibling of the way's next node, l levels down, go beside the way, whose leaves start

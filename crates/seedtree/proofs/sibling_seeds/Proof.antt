@@ -1,21 +1,21 @@
--- The loop's invariant: `out` holds the sibling seeds of k levels, and those that are still to come make up the whole. A turn
--- adds one (`siblings-more`).
+-- The loop's invariant: `out` holds the sibling seeds of k levels, and those that are still to come make up the whole; the leaf's
+-- seed is below the node that was come to. A turn goes one level down (`siblings-more`, `leafSeed-more`).
 use mathlib.Core.Path.{_≡_, refl, sym, ap, _∙_, subst}
-use mathlib.Core.List.{List, _++_}
+use mathlib.Core.List.{List, [], _++_}
 use Prim.Native.Nat.{ℕ, _+_, _-_, _*_, _≤_, _<_}
 use native.Mathlib.Omega.{arith}
 use borrow.Author.Needs.{needs}
-use lib.ListN.{length, take, replicate}
+use lib.ListN.{length, getD, take, replicate}
 use Rattle.shake256.specs.Fips.{SHAKE256}
 use Rattle.shake256.proofs.Laws.{length-SHAKE256}
 use Rattle.lists.specs.Part.{part, putAt}
 use Rattle.lists.specs.Part.Laws.{putAt-whole, part-putAt-same, lent-part}
-use Rattle.exchange.specs.Tree.{children, siblingSeeds}
+use Rattle.exchange.specs.Tree.{children, leafSeeds, siblingSeeds}
 use Rattle.seedtree.specs.declared.nodes.Way.{Way}
 use Rattle.seedtree.specs.Levels.Laws.{length-children}
 use Rattle.seedtree.specs.Way.{side, next, OnWay}
 use Rattle.seedtree.specs.Way.Laws.{side-le, onWay-root, onWay-next, onWay-node}
-use Rattle.seedtree.specs.Siblings.{siblings-none, siblings-more, siblings-all}
+use Rattle.seedtree.specs.Siblings.{siblings-none, siblings-more, siblings-all, leafSeed-none, leafSeed-more, leafSeed-all}
 use Rattle.seedtree.proofs.sibling_seeds.Statement.{statement}
 use Rattle.seedtree.proofs.sibling_seeds.Tie as tie
 
@@ -25,6 +25,7 @@ record Inv (prefix : List ℕ) (d : ℕ) (root : List ℕ) (leaf : ℕ) (out₀ 
   long : length out ≡ length out₀
   whole : length pair ≡ 32
   rest : siblingSeeds SHAKE256 prefix d 1 root leaf ≡ take (16 * k) out ++ siblingSeeds SHAKE256 prefix (d - k) (w .node) (part pair own 16) (w .leaf)
+  seed : getD (leafSeeds SHAKE256 prefix d 1 root) leaf [] ≡ getD (leafSeeds SHAKE256 prefix (d - k) (w .node) (part pair own 16)) (w .leaf) []
 
 abbrev Inv-loop : tie.InvT-loop
 Inv-loop prefix d root leaf out₀ nodes way₀ pair₀ own₀ left₀ out way pair own left = (left ≤ d) × Inv prefix d root leaf out₀ out way pair own (d - left)
@@ -46,6 +47,7 @@ loop-holds c = let start : tie.Start Inv-loop μ-loop = search in let args = sta
       long = refl;
       whole = c .before .put-at .kept .0;
       rest = siblings-none SHAKE256 (args .prefix .now) length-SHAKE256 (args .d) (args .root .now) (args .leaf) (args .out .now) pair w way-is seed;
+      seed = leafSeed-none SHAKE256 (args .prefix .now) length-SHAKE256 (args .d) (args .root .now) (args .leaf) pair w way-is seed;
     } in
     let none : 0 ≡ args .d - args .d = omega arith in
     (omega arith, subst (Inv (args .prefix .now) (args .d) (args .root .now) (args .leaf) (args .out .now) (args .out .now) w pair 0) none at-root)
@@ -87,6 +89,8 @@ loop-again c = let sided : tie.After-side Inv-loop μ-loop = search in let made 
           ∙ siblings-more SHAKE256 prefix length-SHAKE256 d k w seed out both less (inv .on) (omega (arith, inv .long, start .pre .size, less)) both-is
           ∙ sym (λ t. take (16 * (k + 1)) (out-is t)
           ++ siblingSeeds SHAKE256 prefix (d - (k + 1)) (next-is t .node) (part both (16 * side-is t) 16) (next-is t .leaf));
+      seed = inv .seed ∙ leafSeed-more SHAKE256 prefix length-SHAKE256 d k w seed both less (inv .on) both-is
+          ∙ sym (λ t. getD (leafSeeds SHAKE256 prefix (d - (k + 1)) (next-is t .node) (part both (16 * side-is t) 16)) (next-is t .leaf) []);
     } in
     let one-less : k + 1 ≡ d - (head .loop .left - 1) = omega (arith, in-loop .loop-test .taken, head .loop .inv .0) in (
       omega (arith, head .loop .inv .0),
@@ -95,12 +99,14 @@ loop-again c = let sided : tie.After-side Inv-loop μ-loop = search in let made 
     )
 
 returns : tie.Need-returns Inv-loop μ-loop
-returns c = let start : tie.Start Inv-loop μ-loop = search in let head = c .before .loop in let args = start .args in let inv = head .inv .1 in
-    let last : args .d - head .left ≡ args .d = omega arith in
-    sym (inv .rest
-    ∙ siblings-all SHAKE256 (args .prefix .now) length-SHAKE256 (args .d) (args .d - head .left) (head .way .node) (part (head .pair) (head .own) 16)
-    (head .way .leaf) (head .out) last
-    (inv .long ∙ start .pre .size))
+returns c = let at-loop : tie.At-loop Inv-loop μ-loop = search in let start : tie.Start Inv-loop μ-loop = search in let head = at-loop .loop in
+    let args = start .args in let inv = head .inv .1 in let k : ℕ = args .d - head .left in let last : k ≡ args .d = omega arith in (
+      sym (inv .rest
+          ∙ siblings-all SHAKE256 (args .prefix .now) length-SHAKE256 (args .d) k (head .way .node) (part (head .pair) (head .own) 16)
+          (head .way .leaf) (head .out) last (inv .long ∙ start .pre .size)),
+      c .seed-of .ensures ∙ lent-part (head .pair) (head .own) 16 ∙ sym (inv .seed
+          ∙ leafSeed-all SHAKE256 (args .prefix .now) length-SHAKE256 (args .d) k (head .way) (part (head .pair) (head .own) 16) last (inv .on)),
+    )
 
 pub sibling-seeds-spec : {M : Type 1} → statement M
 sibling-seeds-spec = tie.close (tie.spec Inv-loop μ-loop (λ c κs. search needs) (λ c κs. search needs) (λ c. search needs) (λ c κs. search needs)
@@ -108,4 +114,5 @@ sibling-seeds-spec = tie.close (tie.spec Inv-loop μ-loop (λ c κs. search need
     (λ c. let at-loop : tie.At-loop Inv-loop μ-loop = search in omega (arith, c .side .ensures, side-le (at-loop .loop .way)))
     (λ c. let at-loop : tie.At-loop Inv-loop μ-loop = search in omega (arith, c .side .ensures, side-le (at-loop .loop .way))) (λ c. search needs)
     (λ c. search needs) (λ c. search needs) (λ c. search needs) (λ c. search needs) (λ c. search needs) (λ c κs. search needs) next-requires
-    (λ c. search needs) (λ c. search needs) loop-again (λ c. search needs) returns)
+    (λ c. search needs) (λ c. search needs) loop-again (λ c. search needs) (λ c. search needs) (λ c. search needs) (λ c. search needs) (λ c κs. search needs)
+    (λ c. search needs) returns)

@@ -1,5 +1,6 @@
 -- The laws of the levels. Of the hash only the length of what it gives is used.
 --
+-- in-first, in-second a leaf of the first, and of the second of two lists of seeds
 -- descended-append    joined lists of seeds
 -- leafSeeds-level     the leaves one level further down are the children of the leaves, in order
 -- length-children     32 bytes
@@ -11,11 +12,11 @@
 -- leafSeeds-part      the place of leaf k in the buffer
 use mathlib.Core.Path.{_≡_, refl, sym, ap, ap₂, _∙_}
 use mathlib.Core.List.{List, [], _∷_, _++_, append-assoc}
-use Prim.Native.Nat.{ℕ, zero, suc, _+_, _*_, _^_, _<_}
+use Prim.Native.Nat.{ℕ, zero, suc, _+_, _-_, _*_, _^_, _≤_, _<_}
 use native.Mathlib.Nat.{add-zero, one-mul, pow-suc, mul-assoc, mul-add, mul-one}
 use native.Mathlib.Omega.{arith}
-use lib.ListN.{length, getD, take, drop, length-append, take-append-drop}
-use lib.Seq.{take-at, drop-at}
+use lib.ListN.{length, getD, take, drop, length-append, take-append-drop, List·getD-append}
+use lib.Seq.{take-at, drop-at, getD-append-add}
 use Rattle.algebra.specs.Each.Laws.{each-from, each-at}
 use Rattle.lists.specs.Part.{part}
 use Rattle.exchange.specs.Tree.{children, leftSeed, rightSeed, leafSeeds}
@@ -23,6 +24,15 @@ use Rattle.exchange.specs.Tree.Laws.{length-leafSeeds, length-leftSeed, length-
 use Rattle.seedtree.specs.Laid.{slot, laid, Full}
 use Rattle.seedtree.specs.Laid.Laws.{slot-seed, full-slotted, length-laid, part-laid}
 use Rattle.seedtree.specs.Levels.{descended, grown}
+
+module _ (a b : List (List ℕ)) (n k : ℕ) (size : length a ≡ n) where
+  pub in-first : k < n → getD (a ++ b) k [] ≡ getD a k []
+  in-first h = List·getD-append a b [] k (omega arith)
+
+  pub in-second : n ≤ k → getD (a ++ b) k [] ≡ getD b (k - n) []
+  in-second h =
+      let q : k ≡ length a + (k - n) = omega arith in
+      ap (λ (z : ℕ). getD (a ++ b) z []) q ∙ getD-append-add a b (k - n) []
 
 module _ (hash : List ℕ → ℕ → List ℕ) (prefix : List ℕ) where
   pub descended-append : (v : ℕ) (a b : List (List ℕ))

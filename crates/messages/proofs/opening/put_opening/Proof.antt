@@ -64,7 +64,7 @@ returns c = let second : tie.After-put-leaf = search in let first : tie.After-si
     pieces-made (v .before .siblings-length .result) (32 + v .values-length .result) (a .out .now) (first .sibling-seeds .last .1 .1 .1 .1 .0)
     (second .put-leaf .last .1 .1 .1 .1 .1 .1 .1 .0) (fits v) (first .sibling-seeds .kept .1 .1 .1 .1 .0)
     (second .put-leaf .kept .1 .1 .1 .1 .1 .1 .1 .0) rest _
-    (c .before .before .put-aux .ensures) ∙ ap₂ (λ (y z : List ℕ). y ++ (z ++ rest)) (first .sibling-seeds .ensures
+    (c .before .before .put-aux .ensures) ∙ ap₂ (λ (y z : List ℕ). y ++ (z ++ rest)) (first .sibling-seeds .ensures .0
     ∙ ap₂ (λ (q : List ℕ) (n : ℕ). siblingSeeds SHAKE256 q n 1 (take 16 (a .run .now)) (a .leaf)) (tail-part (a .run .now) 16) (d .levels .ensures))
     (second .put-leaf .ensures
     ∙ ap (λ (q : List ℕ). leafBytes (a .p) q (a .message2 .now) (a .leaf) (a .matrix .now) (a .state .now) (a .aux .now)) (tail-part (a .run .now) 16))
