@@ -6,7 +6,7 @@ use layout::work_length;
 use leaves::states::leaf_states;
 use lists::zero_front;
 use parameters::Parameters;
-use parties::share_sum;
+use parties::total::share_sum;
 use seedtree::leaf_seeds;
 ghost use mathlib.Core.Path.{_≡_};
 ghost use lib.ListN.{length, take};
@@ -45,10 +45,11 @@ pub fn own_leaves(
         × (now (work .exit) ≡ zeroed (workLength p) (now (work .entry))) ⌝ }
 {
     let m = p.m;
+    let n = leaf_count(p);
     let size = share_length(p);
     let all = work_length(p);
     own_states(p, run, states);
-    share_sum(p, &run[16..], states, &mut work[..size]);
+    share_sum(p, &run[16..], states, n, &mut work[..size]);
     crate::auxiliary::aux(p, &x[..m], &work[..size], aux);
     zero_front(work, all);
 }

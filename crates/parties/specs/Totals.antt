@@ -6,14 +6,17 @@
 -- less-ext                equal lists leave the same
 -- last-party              what the sums of all parties of an axis but the last one leave of the sum of all is that of the last one
 -- hides-none, party-hides-none   a number that is no leaf's hides none
+-- total-other             one leaf more, unless it is the hidden one
+-- total-hidden            the sum of all leaves but one, with that leaf's share added, is the sum of all
 -- party-without-aux       leaf n−1 is in the last party of every axis, so aux enters no other
 -- total-with-aux          the sum of all disclosed leaves has aux in it, in its place, where leaf n−1 is disclosed
 -- total-without-aux       where it is hidden, aux has no influence
 use mathlib.Core.Path.{_≡_, refl, sym, ap, ap₂, _∙_}
 use mathlib.Core.Bool.{Bool, true, false, _&&_, not, cond, and-true}
 use mathlib.Core.List.{List, [], _++_, append-nil}
-use Prim.Native.Nat.{ℕ, zero, suc, _-_, _≤_, _<_}
+use Prim.Native.Nat.{ℕ, zero, suc, _+_, _-_, _≤_, _<_}
 use native.Mathlib.Nat.{le-refl, le-of-eq}
+use native.Mathlib.Numerals.{add-one}
 use native.Mathlib.Decide.{decLt, ℕ-discrete}
 use native.Mathlib.Omega.{arith}
 use borrow.Author.Tests.{eq-eqb, ne-eqb, lt-ltb, le-ltb, eqb-true, eqb-false, not-true}
@@ -29,7 +32,7 @@ use Rattle.exchange.specs.Strings.{string3}
 use Rattle.exchange.specs.Leaf.{share}
 use Rattle.exchange.specs.Leaf.Laws.{share-last, share-other, length-share-le}
 use Rattle.exchange.specs.Parties.{total, partyOf}
-use Rattle.exchange.specs.Parties.Laws.{total-yes, total-ext, length-total}
+use Rattle.exchange.specs.Parties.Laws.{total-yes, total-no, total-ext, length-total}
 use Rattle.parties.specs.Blocks.{xorAt-zeros}
 use Rattle.parties.specs.Sums.{less}
 
@@ -128,6 +131,38 @@ module _ (p : Parameters) where
   pub hides-none : (s : ℕ → List ℕ) (hidden n : ℕ) → n ≤ hidden → total p (λ i. not (eqb i hidden)) s n ≡ total p (λ i. true) s n
   hides-none s hidden n h =
       total-picks p s (λ i. not (eqb i hidden)) (λ i. true) n (λ i l. ap not (ne-eqb i hidden (λ e. omega arith)))
+
+  -- ---- a leaf that is hidden, and then added
+
+  pub total-other : (s : ℕ → List ℕ) (hidden n : ℕ)
+      → cond (eqb n hidden) (total p (λ i. not (eqb i hidden)) s n) (xorList (total p (λ i. not (eqb i hidden)) s n) (s n))
+      ≡ total p (λ i. not (eqb i hidden)) s (n + 1)
+  unfolding total
+  total-other s hidden n = go (eqb n hidden) ∙ ap (total p (λ i. not (eqb i hidden)) s) (sym (add-one n))
+    where
+      sum : List ℕ
+      sum = total p (λ i. not (eqb i hidden)) s n
+
+      go : (t : Bool) → cond t sum (xorList sum (s n)) ≡ cond (not t) (xorList sum (s n)) sum
+      go true = refl
+      go false = refl
+
+  pub total-hidden : (s : ℕ → List ℕ) (leaf n : ℕ) → leaf < n → xorList (total p (λ i. not (eqb i leaf)) s n) (s leaf) ≡ total p (λ i. true) s n
+  total-hidden s leaf zero h = absurd (omega arith)
+  total-hidden s leaf (suc n) h = go (ℕ-discrete n leaf) (total-hidden s leaf n)
+    where
+      sum : List ℕ
+      sum = total p (λ i. not (eqb i leaf)) s n
+
+      go : Dec (n ≡ leaf) → (leaf < n → xorList sum (s leaf) ≡ total p (λ i. true) s n)
+          → xorList (total p (λ i. not (eqb i leaf)) s (suc n)) (s leaf) ≡ total p (λ i. true) s (suc n)
+      go (yes e) ih =
+          ap₂ xorList (total-no p (λ i. not (eqb i leaf)) s n (ap not (eq-eqb n leaf e)) ∙ hides-none s leaf n (omega arith)) (ap s (sym e))
+          ∙ sym (total-yes p (λ i. true) s n refl)
+      go (no e) ih =
+          ap (λ (l : List ℕ). xorList l (s leaf)) (total-yes p (λ i. not (eqb i leaf)) s n (ap not (ne-eqb n leaf e)))
+          ∙ xorList-assoc sum (s n) (s leaf) ∙ ap (xorList sum) (xorList-comm (s n) (s leaf)) ∙ sym (xorList-assoc sum (s leaf) (s n))
+          ∙ ap (λ (l : List ℕ). xorList l (s n)) (ih (omega arith)) ∙ sym (total-yes p (λ i. true) s n refl)
 
   pub party-hides-none : (s : ℕ → List ℕ) (hidden j c n : ℕ) → n ≤ hidden → total p (disclosedOf p hidden j c) s n ≡ total p (partyOf p j c) s n
   party-hides-none s hidden j c n h =

@@ -8,7 +8,7 @@ use shake256::Sponge;
 ghost use mathlib.Core.Path.{_≡_};
 ghost use mathlib.Core.List.{List};
 ghost use Prim.Native.Nat.{ℕ};
-ghost use lib.ListN.{take};
+ghost use Rattle.lists.specs.Part.{putAt};
 ghost use Rattle.parameters.specs.Limits.{Within};
 ghost use Rattle.strings.specs.Digest.{begun};
 ghost use Rattle.parties.specs.Drawn.{drawnLength, drawnShare};
@@ -35,7 +35,8 @@ pub fn draw_share(
 ) -> usize
     requires { ⌜ DrawShare p leaf (now states) (now out) ⌝ }
     ensures length { λ r. ⌜ r ≡ drawnLength p leaf ⌝ }
-    ensures share { λ r. ⌜ ((prefix : List ℕ) → shares ≡ begun 3 prefix → take r (now (out .exit)) ≡ drawnShare p prefix (now (states .entry)) leaf) ⌝ }
+    ensures share { λ _. ⌜ ((prefix : List ℕ) → shares ≡ begun 3 prefix
+        → now (out .exit) ≡ putAt (now (out .entry)) 0 (drawnShare p prefix (now (states .entry)) leaf)) ⌝ }
 {
     let size = drawn_length(p, leaf);
     let at = 32 * leaf;

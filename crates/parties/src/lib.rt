@@ -1,6 +1,7 @@
 // Sums over the leaves (document 01, 'Parties'): of all leaves, and on every axis of all parties but the last one, one sum after
 // another in the front of the work area (`layout::sum_index`). Axes and parties count from 0.
 mod drawn;
+pub mod total;
 
 use crate::drawn::draw_share;
 use layout::LONGEST_SHARE;
@@ -11,24 +12,21 @@ use layout::share_length;
 use layout::sum_index;
 use leaves::SHARES;
 use lists::xor_at;
-use lists::xor_into;
 use lists::zero_front;
 use parameters::Parameters;
 use shake256::Sponge;
 use strings::begin;
 ghost use mathlib.Core.Path.{_≡_};
-ghost use mathlib.Core.Bool.{true, cond};
+ghost use mathlib.Core.Bool.{cond};
 ghost use mathlib.Core.List.{List};
 ghost use Prim.Native.Nat.{ℕ, _<_};
 ghost use lib.Dec.{eqb};
-ghost use Rattle.lists.specs.Sum.{xorList};
 ghost use Rattle.parameters.specs.Limits.{Within};
-ghost use Rattle.layout.specs.Layout.{leaves, digit};
-ghost use Rattle.exchange.specs.Parties.{total};
+ghost use Rattle.layout.specs.Layout.{digit};
 ghost use Rattle.strings.specs.Digest.{begun};
 ghost use Rattle.parties.specs.Sums as spec;
 ghost use Rattle.parties.specs.Drawn.{drawnShare};
-ghost use Rattle.parties.specs.Shapes.{AddLeaf, AddDrawn, AddDisclosed, ShareSum, PartySums};
+ghost use Rattle.parties.specs.Shapes.{AddLeaf, AddDisclosed, PartySums};
 
 // The party of a leaf on an axis.
 pub fn coordinate(p: Parameters, axis: usize, leaf: usize) -> usize
@@ -60,40 +58,6 @@ fn add_leaf(p: Parameters, leaf: usize, share: &[u8], sums: &mut [u8])
         axis += 1;
     }
     xor_at(sums, p.axes * share_length(p), share);
-}
-
-// A leaf's share as hashed, drawn into the front of `share`, is added to `sum`.
-fn add_drawn(
-    shares: Sponge,
-    p: Parameters,
-    leaf: usize,
-    states: &[u8],
-    share: &mut [u8],
-    sum: &mut [u8],
-)
-    requires { ⌜ AddDrawn p leaf (now states) (now share) (now sum) ⌝ }
-    ensures { λ _. ⌜ ((prefix : List ℕ) → shares ≡ begun 3 prefix
-        → now (sum .exit) ≡ xorList (now (sum .entry)) (drawnShare p prefix (now (states .entry)) leaf)) ⌝ }
-{
-    let size = draw_share(shares, p, leaf, states, share);
-    xor_into(sum, &share[..size]);
-}
-
-// Fills out with the sum of all leaves' shares as hashed.
-pub fn share_sum(p: Parameters, prefix: &[u8], states: &[u8], out: &mut [u8])
-    requires { ⌜ ShareSum p (now states) (now out) ⌝ }
-    ensures { λ _. ⌜ now (out .exit) ≡ total p (λ i. true) (drawnShare p (now (prefix .entry)) (now (states .entry))) (leaves p) ⌝ }
-{
-    let shares = begin(SHARES, prefix);
-    let mut share = [0u8; LONGEST_SHARE];
-    let n = leaf_count(p);
-    let size = out.len();
-    zero_front(out, size);
-    let mut i = 0;
-    while i < n {
-        add_drawn(shares, p, i, states, &mut share, out);
-        i += 1;
-    }
 }
 
 // A leaf's share as hashed, drawn into the front of `share`, is added into all sums that the leaf is in, unless it is the

@@ -6,9 +6,10 @@ use Prim.Native.Nat.{ℕ}
 use native.Mathlib.Omega.{arith}
 use borrow.Author.Needs.{needs}
 use borrow.Author.Tests.{eq-eqb, ne-eqb}
+use lib.ListN.{take}
 use Rattle.parties.specs.Sums.{addedLeaf}
 use Rattle.parties.specs.Drawn.{drawnShare}
-use Rattle.parties.specs.Drawn.Laws.{Front, drawn-front}
+use Rattle.parties.specs.Drawn.Laws.{Front, drawn-front, take-drawn}
 use Rattle.parties.proofs.add_disclosed.Statement.{statement}
 use Rattle.parties.proofs.add_disclosed.Tie as tie
 
@@ -30,7 +31,8 @@ returns-2 : tie.Need-returns-2
 returns-2 c prefix b =
     let drawn : tie.After-draw-share = search in let else1 : tie.Else1 = search in let start : tie.Start = search in let args = start .args in
     let d = args .sums .now in let s = drawnShare (args .p) prefix (args .states .now) (args .leaf) in c .before .before .add-leaf .ensures
-    ∙ ap (λ (l : List ℕ). addedLeaf (args .p) (args .leaf) l d) (drawn .draw-share .ensures .1 prefix b)
+    ∙ ap (λ (l : List ℕ). addedLeaf (args .p) (args .leaf) l d) (ap (take (drawn .draw-share .result)) (drawn .draw-share .ensures .1 prefix b)
+    ∙ take-drawn (args .p) prefix (args .states .now) (args .leaf) (drawn .draw-share .result) (args .share .now) (drawn .draw-share .ensures .0))
     ∙ sym (ap (λ (t : Bool). cond t d (addedLeaf (args .p) (args .leaf) s d)) (ne-eqb (args .leaf) (args .hidden-leaf) (else1 .if1 .left)))
 
 pub add-disclosed-spec : {M : Type 1} → statement M

@@ -2,15 +2,17 @@
 --
 -- drawnLength-le       no leaf takes more than a whole share
 -- Front, drawn-front   the front of a buffer that a share was drawn into
+-- take-drawn           what stands there
 -- drawnShare-is        a drawn share is what layer 3 gives, in the leaf's length
 -- length-drawnShare, drawnShare-short   its length, which is at most that of a share
-use mathlib.Core.Path.{_≡_, refl}
+use mathlib.Core.Path.{_≡_, refl, sym, _∙_}
 use mathlib.Core.Bool.{Bool, true, false, cond}
 use mathlib.Core.List.{List, [], _++_, append-nil}
 use Prim.Native.Nat.{ℕ, _≤_}
 use native.Mathlib.Omega.{arith}
 use lib.ListN.{length, take}
-use lib.Seq.{length-take-le}
+use lib.Seq.{length-take-le, take-at}
+use Rattle.lists.specs.Part.{putAt}
 use Rattle.shake256.specs.Fips.{SHAKE256}
 use Rattle.shake256.proofs.Laws.{length-SHAKE256}
 use Rattle.parameters.specs.declared.Parameters.{Parameters}
@@ -56,3 +58,8 @@ module _ (p : Parameters) (prefix states : List ℕ) (i : ℕ) where
 
 pub drawnShare-short : (p : Parameters) (prefix states : List ℕ) (i : ℕ) → length (drawnShare p prefix states i) ≤ shareLength p
 drawnShare-short p prefix states i = omega (arith, length-drawnShare p prefix states i, drawnLength-le p i)
+
+pub take-drawn : (p : Parameters) (prefix states : List ℕ) (i n : ℕ) (d : List ℕ) → n ≡ drawnLength p i
+    → take n (putAt d 0 (drawnShare p prefix states i)) ≡ drawnShare p prefix states i
+unfolding putAt
+take-drawn p prefix states i n d e = take-at (drawnShare p prefix states i) _ n (length-drawnShare p prefix states i ∙ sym e)
