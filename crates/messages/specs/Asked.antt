@@ -5,8 +5,12 @@
 -- Keyed p message2 matrix y     message 2, matrix and y of the lengths that the parameters say
 -- Disclosing p message2 leaf matrix out              message 2, a leaf, the matrix, and room for message 5
 -- FirstAsked p prefix states out                     the states of all leaves, and room for message 1
--- LeafAsked p message2 leaf matrix state aux         message 2, the matrix, a leaf's number of one byte, its state, and aux
--- OpeningAsked p run message2 leaf matrix state aux out    the same for a leaf of the tree, a run, and room for message 5
+-- WayAsked p run leaf siblings states               a run, a leaf, and room for its sibling seeds and for the states of all leaves
+-- DrawAsked p run leaf siblings own sum              a run, a leaf, and room for its sibling seeds, for its state and share, and for a share
+-- HiddenAsked p leaf siblings own aux                a leaf, and room for its sibling seeds, for its state and share, and for aux
+-- CompleteAsked p aux own                            aux, and a leaf's state and share
+-- LeafAsked p message2 leaf matrix own               message 2, the matrix, a leaf's number of one byte, its state and share
+-- OpeningAsked p message2 leaf matrix own aux out    the same, aux, and room for message 5
 -- ProductsAsked p drawn out     a sum of shares, and room for a point at each position
 -- AuxAsked p x drawn out        a vector of at most w nonzero entries, a sum of shares, and room for aux
 -- StatesAsked p run states      a run, and room for the states of all leaves
@@ -18,7 +22,7 @@ use Prim.Native.Nat.{ℕ, _<_, _≤_, _+_}
 use lib.ListN.{length, take}
 use Rattle.parameters.specs.declared.Parameters.{Parameters}
 use Rattle.parameters.specs.Limits.{Within}
-use Rattle.layout.specs.Layout.{leaves, auxLength, message2Length, message5Length, pointsLength, shareLength, statesLength, workLength, sumsLength, yLength, matrixLength}
+use Rattle.layout.specs.Layout.{leaves, auxLength, message2Length, message5Length, pointsLength, shareLength, siblingsLength, statesLength, workLength, sumsLength, yLength, matrixLength}
 use Rattle.relation.specs.Key.{weightOf}
 use Rattle.relation.specs.Light.{Light}
 
@@ -52,18 +56,42 @@ pub record FirstAsked (p : Parameters) (prefix states out : List ℕ) : Type 0 w
   pub states-are : length states ≡ statesLength p
   pub out-is : length out ≡ length prefix + 32
 
-pub record LeafAsked (p : Parameters) (message2 : List ℕ) (leaf : ℕ) (matrix state aux : List ℕ) : Type 0 where
+pub record WayAsked (p : Parameters) (run : List ℕ) (leaf : ℕ) (siblings states : List ℕ) : Type 0 where
+  pub within : Within p
+  pub run-fits : 16 ≤ length run
+  pub is-leaf : leaf < leaves p
+  pub siblings-are : length siblings ≡ siblingsLength p
+  pub states-are : length states ≡ statesLength p
+
+pub record DrawAsked (p : Parameters) (run : List ℕ) (leaf : ℕ) (siblings own sum : List ℕ) : Type 0 where
+  pub within : Within p
+  pub run-fits : 16 ≤ length run
+  pub is-leaf : leaf < leaves p
+  pub siblings-are : length siblings ≡ siblingsLength p
+  pub own-is : length own ≡ 32 + shareLength p
+  pub sum-is : length sum ≡ shareLength p
+
+pub record HiddenAsked (p : Parameters) (leaf : ℕ) (siblings own aux : List ℕ) : Type 0 where
+  pub is-leaf : leaf < leaves p
+  pub siblings-are : length siblings ≡ siblingsLength p
+  pub own-is : length own ≡ 32 + shareLength p
+  pub aux-is : length aux ≡ auxLength p
+
+pub record CompleteAsked (p : Parameters) (aux own : List ℕ) : Type 0 where
+  pub within : Within p
+  pub aux-is : length aux ≡ auxLength p
+  pub own-is : length own ≡ 32 + shareLength p
+
+pub record LeafAsked (p : Parameters) (message2 : List ℕ) (leaf : ℕ) (matrix own : List ℕ) : Type 0 where
   pub within : Within p
   pub message2-is : length message2 ≡ message2Length p
   pub number : leaf < 256
   pub matrix-is : length matrix ≡ matrixLength p
-  pub state-is : length state ≡ 32
-  pub aux-is : length aux ≡ auxLength p
+  pub own-is : length own ≡ 32 + shareLength p
 
-pub record OpeningAsked (p : Parameters) (run message2 : List ℕ) (leaf : ℕ) (matrix state aux out : List ℕ) : Type 0 where
-  pub of : LeafAsked p message2 leaf matrix state aux
-  pub is-leaf : leaf < leaves p
-  pub run-fits : 16 ≤ length run
+pub record OpeningAsked (p : Parameters) (message2 : List ℕ) (leaf : ℕ) (matrix own aux out : List ℕ) : Type 0 where
+  pub of : LeafAsked p message2 leaf matrix own
+  pub aux-is : length aux ≡ auxLength p
   pub out-is : length out ≡ message5Length p leaf
 
 pub record ProductsAsked (p : Parameters) (drawn out : List ℕ) : Type 0 where

@@ -2,6 +2,7 @@ pub mod Asked
 pub mod Auxiliary
 pub mod Commitment
 pub mod Fronts
+pub mod HiddenLeaf
 pub mod Opening
 pub mod Own
 pub mod Response

@@ -1,23 +1,21 @@
--- Message 5 from the leaf's state and aux.
+-- Message 5 from the siblings, the hidden leaf (its state of 32 bytes, then its share) and aux.
 --
--- leafBytes p prefix message2 leaf matrix state aux   what the leaf itself gives: 'commitment of i*, its α and β'
--- openingOf p run message2 leaf matrix state aux      'D sibling seeds from the root side down', what the leaf gives, 'then aux unless i* = n−1'
+-- leafBytes p prefix message2 leaf matrix own aux   what the leaf itself gives: 'commitment of i*, its α and β'
+-- openingOf p prefix message2 leaf matrix siblings own aux   'D sibling seeds from the root side down', what the leaf gives, 'then aux unless i* = n−1'
 use mathlib.Core.Bool.{cond}
 use mathlib.Core.List.{List, [], _++_}
 use Prim.Native.Nat.{ℕ}
+use lib.ListN.{take, drop}
 use Rattle.shake256.specs.Fips.{SHAKE256}
 use Rattle.parameters.specs.declared.Parameters.{Parameters}
-use Rattle.layout.specs.Layout.{levels, isLast}
-use Rattle.exchange.specs.Run.{Run}
-use Rattle.exchange.specs.Tree.{siblingSeeds}
-use Rattle.exchange.specs.Leaf.{share, commitment}
+use Rattle.layout.specs.Layout.{isLast}
+use Rattle.exchange.specs.Leaf.{commitment}
 use Rattle.values.specs.Leaf.{leafValues}
 pub mod Laws
 
 unfoldable pub leafBytes : Parameters → List ℕ → List ℕ → ℕ → List ℕ → List ℕ → List ℕ → List ℕ
-leafBytes p prefix message2 leaf matrix state aux =
-    commitment SHAKE256 p prefix leaf state aux ++ leafValues p matrix message2 (share SHAKE256 p prefix leaf state aux)
+leafBytes p prefix message2 leaf matrix own aux = commitment SHAKE256 p prefix leaf (take 32 own) aux ++ leafValues p matrix message2 (drop 32 own)
 
-unfoldable pub openingOf : Parameters → Run → List ℕ → ℕ → List ℕ → List ℕ → List ℕ → List ℕ
-openingOf p run message2 leaf matrix state aux =
-    siblingSeeds SHAKE256 (run .prefix) (levels p) 1 (run .root) leaf ++ (leafBytes p (run .prefix) message2 leaf matrix state aux ++ cond (isLast p leaf) [] aux)
+unfoldable pub openingOf : Parameters → List ℕ → List ℕ → ℕ → List ℕ → List ℕ → List ℕ → List ℕ → List ℕ
+openingOf p prefix message2 leaf matrix siblings own aux =
+    siblings ++ (leafBytes p prefix message2 leaf matrix own aux ++ cond (isLast p leaf) [] aux)

@@ -3,18 +3,23 @@
 pub mod auxiliary;
 mod commitment;
 mod filled;
+mod hidden_leaf;
 mod opening;
 pub mod own_leaves;
 mod response;
 
 use crate::commitment::put_commitment;
 use crate::filled::fill;
+use crate::hidden_leaf::hidden_leaf;
 use crate::opening::put_opening;
 use crate::own_leaves::own_leaves;
 use crate::response::respond;
 use layout::LONGEST_AUX;
+use layout::LONGEST_SHARE;
 use layout::MOST_STATES;
 use layout::aux_length;
+use layout::share_length;
+use layout::siblings_length;
 use layout::states_length;
 use layout::sums_length;
 use layout::work_length;
@@ -99,19 +104,28 @@ pub fn message5(
         (keyOf (now (matrix .entry)) y) (now (message2 .entry)) leaf)
         × (now (work .exit) ≡ zeroed (workLength p) (now (work .entry))) ⌝ }
 {
-    let mut states = [0u8; MOST_STATES];
+    let mut own = [0u8; 32 + LONGEST_SHARE];
     let mut aux = [0u8; LONGEST_AUX];
-    let size = states_length(p);
+    let a = siblings_length(p);
+    let size = 32 + share_length(p);
     let length = aux_length(p);
-    let at = 32 * leaf;
-    own_leaves(p, x, run, work, &mut states[..size], &mut aux[..length]);
+    hidden_leaf(
+        p,
+        x,
+        run,
+        leaf,
+        work,
+        &mut out[..a],
+        &mut own[..size],
+        &mut aux[..length],
+    );
     put_opening(
         p,
-        run,
+        &run[16..],
         message2,
         leaf,
         matrix,
-        &states[at..at + 32],
+        &own[..size],
         &aux[..length],
         out,
     );

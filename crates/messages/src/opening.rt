@@ -1,18 +1,13 @@
-// Message 5 from the leaf's state and aux: the siblings of the leaf, what the leaf itself gives, and aux unless it is leaf n−1.
+// Message 5 from the hidden leaf and aux: behind the siblings what the leaf itself gives, and aux unless it is leaf n−1.
+// The leaf is one slice: its state of 32 bytes, then its share.
 use bytefield::field_tables;
-use layout::LONGEST_SHARE;
 use layout::is_last;
-use layout::levels;
-use layout::share_length;
 use layout::siblings_length;
 use layout::values_length;
 use leaves::COMMITMENTS;
-use leaves::SHARES;
 use leaves::leaf_commitment;
-use leaves::leaf_share;
 use lists::put_at;
 use parameters::Parameters;
-use seedtree::sibling_seeds;
 use strings::begin;
 use values::announce_leaf;
 ghost use mathlib.Core.Path.{_≡_};
@@ -22,11 +17,10 @@ ghost use Prim.Native.Nat.{_+_, _<_};
 ghost use lib.ListN.{length, take};
 ghost use Rattle.shake256.specs.Fips.{SHAKE256};
 ghost use Rattle.parameters.specs.Limits.{Within};
-ghost use Rattle.layout.specs.Layout.{isLast, valuesLength};
+ghost use Rattle.layout.specs.Layout.{isLast, siblingsLength, valuesLength};
 ghost use Rattle.exchange.specs.Leaf.{commitment};
 ghost use Rattle.messages.specs.Asked.{LeafAsked, OpeningAsked};
 ghost use Rattle.messages.specs.Opening.{leafBytes, openingOf};
-ghost use Rattle.messages.specs.Run.{runIn};
 
 // out becomes the leaf's commitment, from its state.
 fn put_leaf_commitment(
@@ -43,27 +37,24 @@ fn put_leaf_commitment(
     leaf_commitment(begin(COMMITMENTS, prefix), p, leaf, state, aux, out);
 }
 
-// out becomes what the leaf itself gives: its commitment, and by way of its share its α and its β.
+// out becomes what the leaf itself gives: its commitment, its α and its β.
 fn put_leaf(
     p: Parameters,
     prefix: &[u8],
     message2: &[u8],
     leaf: usize,
     matrix: &[u8],
-    state: &[u8],
+    own: &[u8],
     aux: &[u8],
     out: &mut [u8],
 )
-    requires { ⌜ LeafAsked p (now message2) leaf (now matrix) (now state) (now aux) × (length (now out) ≡ 32 + valuesLength p) ⌝ }
+    requires { ⌜ LeafAsked p (now message2) leaf (now matrix) (now own) × (length (now out) ≡ 32 + valuesLength p) ⌝ }
     ensures { λ _. ⌜ now (out .exit) ≡ leafBytes p (now (prefix .entry)) (now (message2 .entry)) leaf (now (matrix .entry))
-        (now (state .entry)) (now (aux .entry)) ⌝ }
+        (now (own .entry)) (now (aux .entry)) ⌝ }
 {
     let tables = field_tables();
-    let mut own = [0u8; LONGEST_SHARE];
-    let size = share_length(p);
-    put_leaf_commitment(p, prefix, leaf, state, aux, &mut out[..32]);
-    leaf_share(begin(SHARES, prefix), p, leaf, state, aux, &mut own[..size]);
-    announce_leaf(p, &own[..size], message2, matrix, &mut out[32..], &tables);
+    put_leaf_commitment(p, prefix, leaf, &own[..32], aux, &mut out[..32]);
+    announce_leaf(p, &own[32..], message2, matrix, &mut out[32..], &tables);
 }
 
 // aux goes to index `at` of out, unless the leaf is leaf n−1.
@@ -77,34 +68,23 @@ fn put_aux(p: Parameters, leaf: usize, aux: &[u8], at: usize, out: &mut [u8])
     put_at(out, at, aux);
 }
 
-// out becomes the siblings of the leaf, what the leaf itself gives, and aux unless it is leaf n−1, from the leaf's state.
+// Behind the siblings, with which out starts, goes what the leaf itself gives, and aux unless it is leaf n−1.
 pub fn put_opening(
     p: Parameters,
-    run: &[u8],
+    prefix: &[u8],
     message2: &[u8],
     leaf: usize,
     matrix: &[u8],
-    state: &[u8],
+    own: &[u8],
     aux: &[u8],
     out: &mut [u8],
 )
-    requires { ⌜ OpeningAsked p (now run) (now message2) leaf (now matrix) (now state) (now aux) (now out) ⌝ }
-    ensures { λ _. ⌜ now (out .exit) ≡ openingOf p (runIn (now (run .entry))) (now (message2 .entry)) leaf (now (matrix .entry))
-        (now (state .entry)) (now (aux .entry)) ⌝ }
+    requires { ⌜ OpeningAsked p (now message2) leaf (now matrix) (now own) (now aux) (now out) ⌝ }
+    ensures { λ _. ⌜ now (out .exit) ≡ openingOf p (now (prefix .entry)) (now (message2 .entry)) leaf (now (matrix .entry))
+        (take (siblingsLength p) (now (out .entry))) (now (own .entry)) (now (aux .entry)) ⌝ }
 {
-    let d = levels(p);
     let a = siblings_length(p);
     let e = a + (32 + values_length(p));
-    sibling_seeds(&run[16..], d, &run[..16], leaf, &mut out[..a]);
-    put_leaf(
-        p,
-        &run[16..],
-        message2,
-        leaf,
-        matrix,
-        state,
-        aux,
-        &mut out[a..e],
-    );
+    put_leaf(p, prefix, message2, leaf, matrix, own, aux, &mut out[a..e]);
     put_aux(p, leaf, aux, e, out);
 }
