@@ -2,15 +2,13 @@
 --
 -- bytesAfter s i m n             n bytes: the hash of what s has absorbed, and i ‖ m behind it
 -- stateAfter s i seed            a leaf's state, where s is the start of layer 2
--- shareAfter s p i st aux        its share, where s is the start of layer 3
 -- commitmentAfter s p i st aux   its commitment, where s is the start of layer 4
 use mathlib.Core.Bool.{cond}
 use mathlib.Core.List.{List, [], _∷_, _++_}
 use Prim.Native.Nat.{ℕ}
-use lib.ListN.{take}
 use Rattle.shake256.specs.declared.Sponge.{Sponge}
 use Rattle.parameters.specs.declared.Parameters.{Parameters}
-use Rattle.layout.specs.Layout.{isLast, valuesLength, shareLength}
+use Rattle.layout.specs.Layout.{isLast}
 use Rattle.strings.specs.Digest.{hashed}
 pub mod Laws
 
@@ -19,9 +17,6 @@ bytesAfter s i m n = hashed s (i ∷ m) n
 
 abbrev pub stateAfter : Sponge → ℕ → List ℕ → List ℕ
 stateAfter s i seed = bytesAfter s i seed 32
-
-unfoldable pub shareAfter : Sponge → Parameters → ℕ → List ℕ → List ℕ → List ℕ
-shareAfter s p i st aux = cond (isLast p i) (bytesAfter s i (take 16 st) (valuesLength p) ++ aux) (bytesAfter s i (take 16 st) (shareLength p))
 
 unfoldable pub commitmentAfter : Sponge → Parameters → ℕ → List ℕ → List ℕ → List ℕ
 commitmentAfter s p i st aux = bytesAfter s i (st ++ cond (isLast p i) aux []) 32

@@ -3,20 +3,18 @@
 -- LeafOf p i           parameters within their limits, a leaf's number of one byte
 -- State i s            a leaf's number of one byte, and room for its state
 -- ShareBytes i st      a leaf's number of one byte, and a state that begins with its seed
--- Share p i st aux s   a leaf's state and aux where it is leaf n−1, and room for its share
 -- Commitment p i s     a leaf, and room for its commitment
 -- States n st          at most 256 leaves, and room for their states
 -- OpenedStates p i s st   a leaf, its sibling seeds, and room for the states of all leaves
 -- Absorb p i st        a leaf, and its state among the states st
 -- Commitments p st     parameters within their limits, and the states of all leaves
 use mathlib.Core.Path.{_≡_}
-use mathlib.Core.Bool.{true}
 use mathlib.Core.List.{List}
 use Prim.Native.Nat.{ℕ, _≤_, _<_, _*_, _+_}
 use lib.ListN.{length}
 use Rattle.parameters.specs.declared.Parameters.{Parameters}
 use Rattle.parameters.specs.Limits.{Within}
-use Rattle.layout.specs.Layout.{leaves, isLast, auxLength, shareLength, siblingsLength, statesLength}
+use Rattle.layout.specs.Layout.{leaves, siblingsLength, statesLength}
 
 pub record LeafOf (p : Parameters) (i : ℕ) : Type 0 where
   pub within : Within p
@@ -33,12 +31,6 @@ pub record ShareBytes (i : ℕ) (st : List ℕ) : Type 0 where
 pub record Commitment (p : Parameters) (i : ℕ) (s : List ℕ) : Type 0 where
   pub of : LeafOf p i
   pub room : length s ≡ 32
-
-pub record Share (p : Parameters) (i : ℕ) (st aux s : List ℕ) : Type 0 where
-  pub of : LeafOf p i
-  pub state : length st ≡ 32
-  pub last : isLast p i ≡ true → length aux ≡ auxLength p
-  pub room : length s ≡ shareLength p
 
 pub record States (n : ℕ) (st : List ℕ) : Type 0 where
   pub most : n ≤ 256

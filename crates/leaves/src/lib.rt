@@ -4,8 +4,6 @@ pub mod commitments;
 pub mod states;
 
 use layout::is_last;
-use layout::values_length;
-use lists::put_at;
 use parameters::Parameters;
 use shake256::Sponge;
 use strings::hash;
@@ -13,8 +11,8 @@ ghost use mathlib.Core.Path.{_≡_};
 ghost use mathlib.Core.List.{_++_};
 ghost use Prim.Native.Nat.{_<_};
 ghost use lib.ListN.{length, take};
-ghost use Rattle.leaves.specs.After.{bytesAfter, stateAfter, shareAfter, commitmentAfter};
-ghost use Rattle.leaves.specs.Shapes.{State, ShareBytes, Share, Commitment};
+ghost use Rattle.leaves.specs.After.{bytesAfter, stateAfter, commitmentAfter};
+ghost use Rattle.leaves.specs.Shapes.{State, ShareBytes, Commitment};
 
 // The layer byte of the strings that give a leaf's state.
 pub const STATES: u8 = 2;
@@ -48,28 +46,6 @@ pub fn share_bytes(shares: Sponge, leaf: usize, state: &[u8], out: &mut [u8])
     ensures { λ _. ⌜ now (out .exit) ≡ bytesAfter shares leaf (take 16 (now (state .entry))) (length (now (out .entry))) ⌝ }
 {
     leaf_hash(shares, leaf, &state[..16], &[], out);
-}
-
-// Fills out with the leaf's share (layer 3; for leaf n−1 its 8t bytes and then aux).
-pub fn leaf_share(
-    shares: Sponge,
-    p: Parameters,
-    leaf: usize,
-    state: &[u8],
-    aux: &[u8],
-    out: &mut [u8],
-)
-    requires { ⌜ Share p leaf (now state) (now aux) (now out) ⌝ }
-    ensures { λ _. ⌜ now (out .exit) ≡ shareAfter shares p leaf (now (state .entry)) (now (aux .entry)) ⌝ }
-{
-    let last = is_last(p, leaf);
-    if last {
-        let own = values_length(p);
-        share_bytes(shares, leaf, state, &mut out[..own]);
-        put_at(out, own, aux);
-        return;
-    }
-    share_bytes(shares, leaf, state, out);
 }
 
 // Fills out with the leaf's commitment (layer 4; for leaf n−1 with aux).

@@ -2,21 +2,21 @@
 --
 -- length-bytesAfter   n bytes
 -- bytes-begun         from the start of a layer, the hash of its string
--- state-begun, draw-begun, share-begun, commitment-begun   from the start of layers 2, 3, 3 and 4, what document 01 says
-use mathlib.Core.Path.{_≡_, ap₂}
+-- state-begun, draw-begun, commitment-begun   from the start of layers 2, 3 and 4, what document 01 says
+use mathlib.Core.Path.{_≡_}
 use mathlib.Core.Bool.{cond}
 use mathlib.Core.List.{List, [], _∷_, _++_}
 use Prim.Native.Nat.{ℕ}
-use lib.ListN.{length, take}
+use lib.ListN.{length}
 use Rattle.shake256.specs.declared.Sponge.{Sponge}
 use Rattle.shake256.specs.Fips.{SHAKE256}
 use Rattle.parameters.specs.declared.Parameters.{Parameters}
-use Rattle.layout.specs.Layout.{isLast, valuesLength, shareLength}
+use Rattle.layout.specs.Layout.{isLast}
 use Rattle.exchange.specs.Strings.{string, string2, string3, string4}
-use Rattle.exchange.specs.Leaf.{state, share, commitment}
+use Rattle.exchange.specs.Leaf.{state, commitment}
 use Rattle.strings.specs.Digest.{begun}
 use Rattle.strings.specs.Digest.Laws.{hashed-from, length-hashed}
-use Rattle.leaves.specs.After.{bytesAfter, stateAfter, shareAfter, commitmentAfter}
+use Rattle.leaves.specs.After.{bytesAfter, stateAfter, commitmentAfter}
 
 pub length-bytesAfter : (s : Sponge) (i : ℕ) (m : List ℕ) (n : ℕ) → length (bytesAfter s i m n) ≡ n
 unfolding bytesAfter
@@ -37,12 +37,6 @@ module _ (s : Sponge) (prefix : List ℕ) where
   draw-begun i seed n b = bytes-begun 3 s prefix i seed n b
 
   module _ (p : Parameters) (i : ℕ) (st aux : List ℕ) where
-    pub share-begun : s ≡ begun 3 prefix → shareAfter s p i st aux ≡ share SHAKE256 p prefix i st aux
-    unfolding shareAfter share
-    share-begun b =
-        ap₂ (λ (x y : List ℕ). cond (isLast p i) (x ++ aux) y) (draw-begun i (take 16 st) (valuesLength p) b)
-        (draw-begun i (take 16 st) (shareLength p) b)
-
     pub commitment-begun : s ≡ begun 4 prefix → commitmentAfter s p i st aux ≡ commitment SHAKE256 p prefix i st aux
     unfolding commitmentAfter commitment string4
     commitment-begun b = bytes-begun 4 s prefix i (st ++ cond (isLast p i) aux []) 32 b
