@@ -72,6 +72,8 @@ for chosen in sets:
     figures = {(line[0], line[2]): line[3:] for line in of_set}
     print("\nm {}, k {}, w {}, D {}, t {}".format(*chosen.split()))
     print_rows([HEAD] + [call_row(call, figures) for call in CALLS])
+    _, inside, times = figures["instructions", "begin"]
+    print(f"a permutation: {number(int(inside) // int(times))} instructions")
     print("bytes: " + ", ".join(f"{line[2]} {number(line[3])}" for line in of_set if line[0] == "size"))
 for line in lines:
     if line[0] == "code":
