@@ -1,7 +1,6 @@
 -- What the functions ask of their slices and numbers.
 --
 -- Rows p rows others       parameters within their limits, and the rows of all axes of two openings
--- Digested                 axis j is one of the axes; the rows of all axes of an opening, and room for a digest
 -- Both p opened others     parameters within their limits, and what two openings give
 -- Committed                leaf i is one of the leaves; what an opening gives, and room for a commitment
 -- Placed                   what two openings give, the leaf u is one of the leaves, and room for the states
@@ -22,12 +21,6 @@ pub record Rows (p : Parameters) (rows others : List ℕ) : Type 0 where
   pub within : Within p
   pub first : rowsLength p ≤ length rows
   pub second : rowsLength p ≤ length others
-
-pub record Digested (p : Parameters) (j : ℕ) (rows out : List ℕ) : Type 0 where
-  pub within : Within p
-  pub below : j < p .axes
-  pub size : rowsLength p ≤ length rows
-  pub room : length out ≡ 32
 
 pub record Both (p : Parameters) (opened others : List ℕ) : Type 0 where
   pub within : Within p

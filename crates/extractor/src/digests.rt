@@ -8,18 +8,7 @@ ghost use mathlib.Core.Path.{_≡_};
 ghost use Prim.Native.Nat.{_<_};
 ghost use Rattle.lists.specs.Equal.{eqList};
 ghost use Rattle.extractor.specs.Comparison.{digestAt, firstApart};
-ghost use Rattle.extractor.specs.Shapes.{Digested, Rows};
-
-// Fills out with the digest of an axis.
-fn digest_at(p: Parameters, prefix: &[u8], rows: &[u8], axis: usize, out: &mut [u8])
-    requires { ⌜ Digested p axis (now rows) (now out) ⌝ }
-    ensures { λ _. ⌜ now (out .exit) ≡ digestAt p (now (prefix .entry)) (now (rows .entry)) axis ⌝ }
-{
-    let size = axis_length(p);
-    let at = axis * size;
-    let end = at + size;
-    axis_digest(prefix, axis, &rows[at..end], out);
-}
+ghost use Rattle.extractor.specs.Shapes.{Rows};
 
 // Have both openings the same digest of an axis? Both are made.
 fn digests_agree(p: Parameters, prefix: &[u8], rows: &[u8], others: &[u8], axis: usize) -> bool
@@ -27,10 +16,13 @@ fn digests_agree(p: Parameters, prefix: &[u8], rows: &[u8], others: &[u8], axis:
     ensures { λ r. ⌜ r ≡ eqList (digestAt p (now (prefix .entry)) (now (rows .entry)) axis)
         (digestAt p (now (prefix .entry)) (now (others .entry)) axis) ⌝ }
 {
+    let size = axis_length(p);
+    let at = axis * size;
+    let end = at + size;
     let mut a = [0u8; 32];
-    digest_at(p, prefix, rows, axis, &mut a);
+    axis_digest(prefix, axis, &rows[at..end], &mut a);
     let mut b = [0u8; 32];
-    digest_at(p, prefix, others, axis, &mut b);
+    axis_digest(prefix, axis, &others[at..end], &mut b);
     equal(&a, &b)
 }
 
