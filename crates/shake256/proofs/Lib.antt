@@ -1,7 +1,6 @@
 pub mod Xor
 pub mod Lanes
 pub mod Sponges
-pub mod Lengths
 pub mod Turns
 pub mod Blocks
 pub mod Laws

@@ -63,10 +63,10 @@ fn give_some(lanes: &[u64; 25], at: usize, out: &mut [u8], i: usize) -> usize
 
 // The lanes go through the permutation, in place: the one place where it is called.
 fn permute_lanes(lanes: &mut [u64; 25])
-    requires { ⌜ length (now lanes) ≡ 25 ⌝ }
     ensures { λ _. ⌜ now (lanes .exit) ≡ keccakF (now (lanes .entry)) ⌝ }
 {
-    permute(lanes);
+    let next = permute(*lanes);
+    *lanes = next;
 }
 
 impl Sponge {

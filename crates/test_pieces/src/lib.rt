@@ -7,20 +7,12 @@ ghost use Rattle.fips.specs.Permutation.{keccakF};
 ghost use Rattle.shake256.specs.Fips.{SHAKE256};
 ghost use Rattle.shake256.specs.Stream as stream;
 
-fn permuted(a: [u64; 25]) -> [u64; 25]
-    ensures { λ r. ⌜ r ≡ keccakF a ⌝ }
-{
-    let mut lanes = a;
-    keccak::permute(&mut lanes);
-    lanes
-}
-
 // One permutation of the lanes.
 #[no_mangle]
 pub extern "C" fn unlock_test_permute(lanes: &mut [u64; 25])
     ensures { λ r. ⌜ now (lanes .exit) ≡ keccakF (now (lanes .entry)) ⌝ }
 {
-    *lanes = permuted(*lanes);
+    *lanes = keccak::permute(*lanes);
 }
 
 // SHAKE256 in one call.

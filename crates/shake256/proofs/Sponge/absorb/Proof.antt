@@ -1,15 +1,12 @@
 -- The loop's invariant: the sponge has absorbed the first i bytes. A turn makes it ready and takes some more (`absorbed-more`).
 use mathlib.Core.Path.{_≡_, refl, ap, _∙_}
-use borrow.Author.Needs.{needs}
 use Prim.Native.Nat.{_≤_, _<_, _-_}
 use native.Mathlib.Omega.{arith}
 use lib.ListN.{length, take}
 use lib.Seq.{take-all}
 use Rattle.fips.specs.Parameters.{rate}
-use Rattle.shake256.specs.declared.Sponge.{Sponge}
 use Rattle.shake256.specs.Stream.{ready, absorbed}
 use Rattle.shake256.proofs.Sponges.{emptied, made-ready}
-use Rattle.shake256.proofs.Lengths.{length-absorbed}
 use Rattle.shake256.proofs.Turns.{absorbed-more}
 use Rattle.shake256.proofs.Sponge.absorb.Statement.{statement}
 use Rattle.shake256.proofs.Sponge.absorb.Tie as tie
@@ -24,10 +21,6 @@ at-join : (c : tie.Joined1 Inv-loop μ-loop) → (c .if1 .t ≡ ready (c .before
 at-join c = made-ready (c .before .before .loop .t) (c .if1 .t) (λ w. (omega (arith, w .0 .taken), w .3 ∙ emptied (w .2 .ensures)))
     (λ w. (omega (arith, w .0 .left), w .1)) (c .if1 .came)
 
-permute-lanes-requires : tie.Need-permute-lanes-requires Inv-loop μ-loop
-permute-lanes-requires c κs = let head : tie.At-loop Inv-loop μ-loop = search in let s : tie.Start Inv-loop μ-loop = search in
-    ap (λ (z : Sponge). length (z .lanes)) (head .loop .inv .1) ∙ length-absorbed (s .args .self) _ (search needs)
-
 loop-again : tie.Need-loop-again Inv-loop μ-loop
 loop-again c =
     let join = c .before .before in let head = join .before .before in let start = head .before .before in let turn = c .take-some .ensures in
@@ -41,6 +34,6 @@ returns c = let head = c .before in let start = head .before .before in
 
 pub absorb-spec : {M : Type 1} → statement M
 unfolding absorbed
-absorb-spec = tie.close (tie.spec Inv-loop μ-loop (λ c. (omega arith, refl)) permute-lanes-requires (λ c κs. (at-join (c .before) .1, omega arith))
+absorb-spec = tie.close (tie.spec Inv-loop μ-loop (λ c. (omega arith, refl)) (λ c κs. tt) (λ c κs. (at-join (c .before) .1, omega arith))
     (λ c. omega (arith, c .take-some .ensures .room)) (λ c. omega (arith, c .take-some .ensures .within))
     (λ c. omega (arith, c .take-some .ensures .within, c .take-some .ensures .some)) loop-again returns)

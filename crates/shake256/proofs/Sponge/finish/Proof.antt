@@ -25,4 +25,4 @@ returns c =
     (c .before .before .xor-byte .ensures ∙ ap (λ (z : Sponge). xorAt (z .lanes) (z .at) domain) (at-join join .0))
 
 pub finish-spec : {M : Type 1} → statement M
-finish-spec = tie.close (tie.spec (λ c κs. search needs) (λ c κs. omega (arith, at-join (c .before) .1)) (λ c. search needs) (λ c κs. search needs) returns)
+finish-spec = tie.close (tie.spec (λ c κs. tt) (λ c κs. omega (arith, at-join (c .before) .1)) (λ c. search needs) (λ c κs. search needs) returns)

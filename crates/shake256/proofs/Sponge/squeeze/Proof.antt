@@ -8,10 +8,8 @@ use native.Mathlib.Omega.{arith}
 use lib.ListN.{length, drop}
 use lib.Seq.{drop-length}
 use Rattle.fips.specs.Parameters.{rate}
-use Rattle.shake256.specs.declared.Sponge.{Sponge}
 use Rattle.shake256.specs.Stream.{ready, squeezed, after}
 use Rattle.shake256.proofs.Sponges.{emptied, made-ready}
-use Rattle.shake256.proofs.Lengths.{length-after}
 use Rattle.shake256.proofs.Turns.{after-more, written-more}
 use Rattle.shake256.proofs.Sponge.squeeze.Statement.{statement}
 use Rattle.shake256.proofs.Sponge.squeeze.Tie as tie
@@ -26,10 +24,6 @@ abbrev μ-loop : tie.MeasureT-loop
 at-join : (c : tie.Joined1 Inv-loop μ-loop) → (c .if1 .t ≡ ready (c .before .before .loop .t)) × (c .if1 .t .at < rate)
 at-join c = made-ready (c .before .before .loop .t) (c .if1 .t) (λ w. (omega (arith, w .0 .taken), w .3 ∙ emptied (w .2 .ensures)))
     (λ w. (omega (arith, w .0 .left), w .1)) (c .if1 .came)
-
-permute-lanes-requires : tie.Need-permute-lanes-requires Inv-loop μ-loop
-permute-lanes-requires c κs = let head : tie.At-loop Inv-loop μ-loop = search in let s : tie.Start Inv-loop μ-loop = search in
-    ap (λ (z : Sponge). length (z .lanes)) (head .loop .inv .1 .0) ∙ length-after (s .args .self) _ (search needs)
 
 loop-again : tie.Need-loop-again Inv-loop μ-loop
 loop-again c =
@@ -53,7 +47,7 @@ returns c = let head = c .before in let start = head .before .before in let self
 
 pub squeeze-spec : {M : Type 1} → statement M
 unfolding squeezed after
-squeeze-spec = tie.close (tie.spec Inv-loop μ-loop (λ c. (omega arith, (refl, (refl, refl)))) permute-lanes-requires
+squeeze-spec = tie.close (tie.spec Inv-loop μ-loop (λ c. (omega arith, (refl, (refl, refl)))) (λ c κs. tt)
     (λ c κs. let join = c .before .before .before in (at-join join .1, omega (arith, join .before .before .loop .inv .1 .1 .0)))
     (λ c. omega (arith, c .before .before .give-some .ensures .room)) (λ c. search needs) (λ c. search needs)
     loop-again (λ c. c .before .loop .inv .1 .1 .0) returns)
