@@ -1,5 +1,5 @@
-// The step mappings of FIPS 202, 3.2, as straight lines over the 25 lanes. The order of the statements is that of which the
-// compiler makes the fewest instructions on both cores.
+// The step mappings of FIPS 202, 3.2, as straight lines over the 25 lanes. The order of their statements is chosen for what
+// the compiler makes of it on both cores.
 use crate::tables::OFFSETS;
 ghost use mathlib.Core.Path.{_≡_};
 ghost use mathlib.Core.List.{[], _∷_};
