@@ -3,7 +3,6 @@ the permutation, and how often it was called, parted by tabs."""
 import re
 import sys
 
-INSIDE = re.compile(r"keccak::|shake256::permute_lanes")
 PERMUTATION = re.compile(r"keccak::permute|shake256::permute_lanes")
 
 
@@ -35,6 +34,6 @@ def read(path):
 
 
 total, own, calls = read(sys.argv[3])
-inside = sum(count for function, count in own.items() if INSIDE.search(function))
+inside = sum(count for function, count in own.items() if PERMUTATION.search(function))
 times = max(count for function, count in calls.items() if PERMUTATION.search(function))
 print("instructions", sys.argv[1], sys.argv[2], total, inside, times, sep="\t")

@@ -40,38 +40,8 @@ fn commitment_at(
     leaf_commitment(start, p, leaf, &opened[at..at + 32], aux, out);
 }
 
-// Have both openings the same commitment of a leaf? Both are made.
-fn commitments_agree(
-    p: Parameters,
-    prefix: &[u8],
-    hidden: Hidden,
-    aux: &[u8],
-    opened: &[u8],
-    other_aux: &[u8],
-    other_opened: &[u8],
-    leaf: usize,
-) -> bool
-    requires { ⌜ Both p (now opened) (now «other_opened») × (leaf < leaves p) ⌝ }
-    ensures { λ r. ⌜ r ≡ eqList
-        (commitments p (now (prefix .entry)) (viewOf p (hidden .first) (now (aux .entry)) (now (opened .entry))) leaf)
-        (commitments p (now (prefix .entry)) (viewOf p (hidden .second) (now («other_aux» .entry)) (now («other_opened» .entry))) leaf) ⌝ }
-{
-    let mut a = [0u8; 32];
-    commitment_at(p, prefix, leaf, hidden.first, aux, opened, &mut a);
-    let mut b = [0u8; 32];
-    commitment_at(
-        p,
-        prefix,
-        leaf,
-        hidden.second,
-        other_aux,
-        other_opened,
-        &mut b,
-    );
-    equal(&a, &b)
-}
-
-// Is the commitment of a leaf the same in both openings? What is the same in both has one commitment.
+// Is the commitment of a leaf the same in both openings? What is the same in both has one commitment; of any other leaf
+// both are made.
 fn same_commitment(
     p: Parameters,
     prefix: &[u8],
@@ -90,16 +60,19 @@ fn same_commitment(
     if leaf_agrees(p, hidden, aux, opened, other_aux, other_opened, leaf) {
         return true;
     }
-    commitments_agree(
+    let mut a = [0u8; 32];
+    commitment_at(p, prefix, leaf, hidden.first, aux, opened, &mut a);
+    let mut b = [0u8; 32];
+    commitment_at(
         p,
         prefix,
-        hidden,
-        aux,
-        opened,
+        leaf,
+        hidden.second,
         other_aux,
         other_opened,
-        leaf,
-    )
+        &mut b,
+    );
+    equal(&a, &b)
 }
 
 // The first leaf whose commitments differ, or n where none does.

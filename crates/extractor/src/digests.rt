@@ -10,23 +10,7 @@ ghost use Rattle.lists.specs.Equal.{eqList};
 ghost use Rattle.extractor.specs.Comparison.{digestAt, firstApart};
 ghost use Rattle.extractor.specs.Shapes.{Rows};
 
-// Have both openings the same digest of an axis? Both are made.
-fn digests_agree(p: Parameters, prefix: &[u8], rows: &[u8], others: &[u8], axis: usize) -> bool
-    requires { ⌜ Rows p (now rows) (now others) × (axis < p .axes) ⌝ }
-    ensures { λ r. ⌜ r ≡ eqList (digestAt p (now (prefix .entry)) (now (rows .entry)) axis)
-        (digestAt p (now (prefix .entry)) (now (others .entry)) axis) ⌝ }
-{
-    let size = axis_length(p);
-    let at = axis * size;
-    let end = at + size;
-    let mut a = [0u8; 32];
-    axis_digest(prefix, axis, &rows[at..end], &mut a);
-    let mut b = [0u8; 32];
-    axis_digest(prefix, axis, &others[at..end], &mut b);
-    equal(&a, &b)
-}
-
-// Is the digest of an axis the same in both openings? Equal rows have one digest.
+// Is the digest of an axis the same in both openings? Equal rows have one digest; of others both are made.
 fn same_digest(p: Parameters, prefix: &[u8], rows: &[u8], others: &[u8], axis: usize) -> bool
     requires { ⌜ Rows p (now rows) (now others) × (axis < p .axes) ⌝ }
     ensures { λ r. ⌜ r ≡ eqList (digestAt p (now (prefix .entry)) (now (rows .entry)) axis)
@@ -35,7 +19,14 @@ fn same_digest(p: Parameters, prefix: &[u8], rows: &[u8], others: &[u8], axis: u
     if same_row(p, rows, others, axis) {
         return true;
     }
-    digests_agree(p, prefix, rows, others, axis)
+    let size = axis_length(p);
+    let at = axis * size;
+    let end = at + size;
+    let mut a = [0u8; 32];
+    axis_digest(prefix, axis, &rows[at..end], &mut a);
+    let mut b = [0u8; 32];
+    axis_digest(prefix, axis, &others[at..end], &mut b);
+    equal(&a, &b)
 }
 
 // The first axis, from 0, whose digests differ, or D where none does.

@@ -10,6 +10,7 @@
 -- lent-part, length-lent              what is lent as `&w[a..a + n]`, and its length
 -- lent-back                           what a lent middle part `&mut w[a..e]` leaves in w when it comes back
 -- tail-part, tail-back                what is lent as `&mut w[a..]`, and what it leaves in w when it comes back
+-- tail-put                            a write at the front of `&mut w[a..]` is one at a
 -- part-putAt-same, -before, -behind   what is read after a write: what was written, or what stood there
 -- part-fits                           block p of n blocks of one size ends within them
 use mathlib.Core.Path.{_≡_, refl, sym, ap, _∙_}
@@ -110,6 +111,10 @@ pub tail-back : (w ys : List ℕ) (a : ℕ) → a ≤ length w → take a w ++ (
 tail-back w ys a h =
     ap (λ (l : List ℕ). take a w ++ (ys ++ l)) (drop-of-length-le (drop a w) (le-of-eq (length-drop a w)))
     ∙ ap (_++_ (take a w)) (append-nil ys)
+
+pub tail-put : (d : List ℕ) (a : ℕ) (s : List ℕ) → take a d ++ putAt (drop a d) 0 s ≡ putAt d a s
+unfolding putAt
+tail-put d a s = ap (λ (l : List ℕ). take a d ++ (s ++ l)) (ap (λ (n : ℕ). drop n (drop a d)) (zero-add (length s)) ∙ drop-drop (length s) a d)
 
 -- ---- a part after a write
 

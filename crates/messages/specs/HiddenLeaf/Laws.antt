@@ -3,7 +3,6 @@
 -- blocks-same        two lists of n blocks of 32 bytes with the same blocks are the same
 -- way-made           the states of all other leaves from the siblings, with the leaf's own in its place, are the prover's
 -- way-states         the same in the steps of the code
--- tail-put           a write at the front of what is behind the first a places
 -- drawn-made         the leaf's state is written, and its share as hashed behind it
 -- share-completed    where the leaf is leaf n−1, aux behind its share as hashed makes it whole; any other's is whole
 -- leaf-made          with aux behind the share of leaf n−1 these are the prover's state and share of the leaf
@@ -11,13 +10,12 @@ use mathlib.Core.Path.{_≡_, sym, ap, ap₂, _∙_}
 use mathlib.Core.Bool.{Bool, true, false, cond}
 use mathlib.Core.List.{List, [], _++_, append-assoc, append-nil}
 use Prim.Native.Nat.{ℕ, _+_, _-_, _*_, _≤_, _<_}
-use native.Mathlib.Nat.{zero-add, mul-comm}
+use native.Mathlib.Nat.{mul-comm}
 use native.Mathlib.Decide.{decLt, ℕ-discrete}
 use native.Mathlib.Omega.{arith}
 use lib.ListN.{length, getD, take, drop, length-append}
-use lib.Seq.{drop-drop}
 use Rattle.lists.specs.Part.{part, putAt}
-use Rattle.lists.specs.Part.Laws.{length-putAt, putAt-whole, putAt-putAt, part-putAt-same, part-putAt-before, part-putAt-behind, tail-part, tail-back}
+use Rattle.lists.specs.Part.Laws.{length-putAt, putAt-whole, putAt-putAt, part-putAt-same, part-putAt-before, part-putAt-behind, tail-part, tail-back, tail-put}
 use Rattle.shake256.specs.Fips.{SHAKE256}
 use Rattle.shake256.proofs.Laws.{length-SHAKE256}
 use Rattle.parameters.specs.declared.Parameters.{Parameters}
@@ -100,10 +98,6 @@ module _ (p : Parameters) (x : List ℕ) (run : Run) (leaf : ℕ) (is-leaf : lea
       (siblings-are, eo ∙ ap (λ (l : List ℕ). putAt l (32 * leaf) st) (et ∙ ap₂ (λ (q s : List ℕ). statesFrom p q leaf s) eq siblings-are) ∙ way-made st own)
 
 -- ---- the leaf's state and share
-
-pub tail-put : (d : List ℕ) (a : ℕ) (s : List ℕ) → take a d ++ putAt (drop a d) 0 s ≡ putAt d a s
-unfolding putAt
-tail-put d a s = ap (λ (l : List ℕ). take a d ++ (s ++ l)) (ap (λ (n : ℕ). drop n (drop a d)) (zero-add (length s)) ∙ drop-drop (length s) a d)
 
 -- in the steps of the code: the prefix q and all states, the leaf's state written, and the share behind it, where all but the first 32
 -- places are lent
