@@ -1,5 +1,7 @@
 """Prints the table of a run of bench/run, whose lines it reads: fields parted by tabs, of which the first says what follows.
 
+A set here is its five numbers and the run count.
+
 ratio         what, against what, ratio of the times
 time          set, call, ratio of the times to the opponent in C
 instructions  set, call, instructions, those of the permutation, permutations
@@ -55,7 +57,7 @@ def print_core(lines):
     bounds = {line[1]: line[2] for line in lines if line[0] == "bound"}
     for chosen in dict.fromkeys(line[1] for line in lines if line[0] == "core"):
         figures = {line[2]: line[3:] for line in lines if line[0] == "core" and line[1] == chosen}
-        print("\nCortex-M4: m {}, k {}, w {}, D {}, t {}".format(*chosen.split()))
+        print("\nCortex-M4: m {}, k {}, w {}, D {}, t {}, runs {}".format(*chosen.split()))
         print_rows([CORE_HEAD] + [core_row(call, figures, bounds) for call in CALLS])
         more, *cycles = (int(two) - int(one) for two, one in zip(figures["two permutations"][2:], figures["one permutation"][2:]))
         print(f"a permutation: {number(more)} instructions, estimated at {number(cycles[0])} to {number(cycles[1])} cycles")
@@ -70,7 +72,7 @@ sets = list(dict.fromkeys(line[1] for line in lines if line[0] == "time"))
 for chosen in sets:
     of_set = [line for line in lines if len(line) > 3 and line[1] == chosen]
     figures = {(line[0], line[2]): line[3:] for line in of_set}
-    print("\nm {}, k {}, w {}, D {}, t {}".format(*chosen.split()))
+    print("\nm {}, k {}, w {}, D {}, t {}, runs {}".format(*chosen.split()))
     print_rows([HEAD] + [call_row(call, figures) for call in CALLS])
     _, inside, times = figures["instructions", "begin"]
     print(f"a permutation: {number(int(inside) // int(times))} instructions")

@@ -3,8 +3,8 @@
  * and on a bare Cortex-M4 (firmware/main.c).
  *
  * The probe holds the key and is the prover, the target is the verifier. All storage is static and nothing is allocated.
- * Salt, root, points and leaf are expanded from labels, so that every run prints the same; a product draws them fresh from
- * its random source: salt and root on the probe, points and leaf on the target.
+ * Salt, root, points and leaves are expanded from labels, so that the program always prints the same; a product draws them fresh
+ * from its random source: salt and root on the probe, points and leaves on the target.
  */
 #include <stddef.h>
 #include <stdint.h>
@@ -16,6 +16,11 @@
 /* The shipped set. */
 enum { M = 230, K = 126, W = 79, AXES = 8, T = 3 };
 static const uint64_t set[UNLOCK_SET_LENGTH] = { M, K, W, AXES, T };
+
+/* The run count. A prover without the key is accepted with a chance of 2^-(RUNS * AXES), here 2^-136. */
+#ifndef RUNS
+#define RUNS 17
+#endif
 
 /* Public: the matrix H', row after row, expanded from a label, and y. */
 static uint8_t matrix[(M - K) * K];
@@ -40,7 +45,8 @@ static const uint8_t x_a[K] = {
 static uint8_t prover[UNLOCK_PROVER_SIZE], verifier[UNLOCK_VERIFIER_SIZE]; /* the sessions */
 static uint8_t work[UNLOCK_WORK_SIZE(K, W, AXES, T)];                      /* one is enough for both: no call keeps anything in it */
 static uint8_t salt[32], root[16];
-static uint8_t message1[64], message2[8 * T], message3[32], leaf, message5[UNLOCK_OPENING_MAX(K, W, AXES, T)];
+static uint8_t message1[UNLOCK_MESSAGE1_SIZE(RUNS)], message2[UNLOCK_MESSAGE2_SIZE(T, RUNS)], message3[UNLOCK_MESSAGE3_SIZE(RUNS)];
+static uint8_t leaves[RUNS], message5[UNLOCK_OPENING_MAX(K, W, AXES, T, RUNS)];
 
 /* Leaves the function with the answer of a call that was refused. */
 #define TRY(call)                                    \
@@ -70,20 +76,22 @@ static void report(const char *name, const uint8_t *message, uint64_t length)
 static int storage_fits(void)
 {
     return unlock_prover_size() == sizeof prover && unlock_verifier_size() == sizeof verifier
-        && unlock_work_size(set, UNLOCK_SET_LENGTH) == sizeof work && unlock_opening_size(set, UNLOCK_SET_LENGTH, 0) == sizeof message5;
+        && unlock_work_size(set, UNLOCK_SET_LENGTH) == sizeof work
+        && unlock_opening_size(set, UNLOCK_SET_LENGTH, leaves, sizeof leaves) == sizeof message5; /* with leaf 0 in every run */
 }
 
-/* Message 1: the probe commits to the shares of every leaf. */
+/* Message 1: the probe commits to the shares of every leaf of every run. */
 static uint8_t commitment(void)
 {
     EXPAND("salt", salt, sizeof salt);
     EXPAND("root", root, sizeof root);
     TRY(unlock_prover_new(prover, sizeof prover));
-    TRY(unlock_prover_begin(prover, sizeof prover, set, UNLOCK_SET_LENGTH, x_a, sizeof x_a, salt, sizeof salt, root, sizeof root,
+    TRY(unlock_prover_begin(prover, sizeof prover, set, UNLOCK_SET_LENGTH, RUNS,
+                            x_a, sizeof x_a, salt, sizeof salt, root, sizeof root,
                             matrix, sizeof matrix, y, sizeof y, work, sizeof work, message1, sizeof message1));
     report("1 commitment", message1, sizeof message1);
     TRY(unlock_verifier_new(verifier, sizeof verifier));
-    return unlock_verifier_begin(verifier, sizeof verifier, set, UNLOCK_SET_LENGTH, message1, sizeof message1);
+    return unlock_verifier_begin(verifier, sizeof verifier, set, UNLOCK_SET_LENGTH, RUNS, message1, sizeof message1);
 }
 
 /* Messages 2 and 3: the target asks for the values at its points, the probe answers with a digest. */
@@ -98,14 +106,14 @@ static uint8_t response(void)
     return unlock_verifier_response(verifier, sizeof verifier, message3, sizeof message3);
 }
 
-/* Messages 4 and 5: the target names the leaf that stays hidden, the probe opens all others, the target judges. */
+/* Messages 4 and 5: the target names the leaf of each run that stays hidden, the probe opens all others, the target judges. */
 static uint8_t opening(void)
 {
-    EXPAND("leaf", &leaf, 1); /* with D = 8 every byte is below n */
-    TRY(unlock_verifier_leaf(verifier, sizeof verifier, leaf));
-    report("4 leaf", &leaf, 1);
-    uint64_t length = unlock_opening_size(set, UNLOCK_SET_LENGTH, leaf); /* shorter for the last leaf */
-    TRY(unlock_prover_leaf(prover, sizeof prover, leaf,
+    EXPAND("leaf", leaves, sizeof leaves); /* with D = 8 every byte is below n */
+    TRY(unlock_verifier_leaf(verifier, sizeof verifier, leaves, sizeof leaves));
+    report("4 leaf", leaves, sizeof leaves);
+    uint64_t length = unlock_opening_size(set, UNLOCK_SET_LENGTH, leaves, sizeof leaves); /* shorter where the last leaf is hidden */
+    TRY(unlock_prover_leaf(prover, sizeof prover, leaves, sizeof leaves,
                            matrix, sizeof matrix, y, sizeof y, work, sizeof work, message5, length));
     report("5 opening", message5, length);
     return unlock_verifier_opening(verifier, sizeof verifier, message5, length,
@@ -131,6 +139,8 @@ static void report_set(void)
         print("\t");
         print_number((uint32_t)set[i]);
     }
+    print("\nruns\t");
+    print_number(RUNS);
     print("\n");
 }
 
@@ -138,7 +148,9 @@ static void report_verdict(uint8_t answer)
 {
     print("verdict\t");
     if (answer == UNLOCK_DONE) {
-        print("accepted\n");
+        print("accepted\nchance\t2^-");
+        print_number(RUNS * AXES);
+        print("\tabout, that a prover without the key is accepted\n");
     } else {
         print("refused\t");
         print_number(answer);

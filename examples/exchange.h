@@ -2,7 +2,7 @@
 #ifndef EXCHANGE_H
 #define EXCHANGE_H
 
-/* Runs it and prints each message and the verdict. 0: accepted; 1: refused; 2: the library linked has other lengths. */
+/* Makes it and prints each message and the verdict. 0: accepted; 1: refused; 2: the library linked has other lengths. */
 int run_exchange(void);
 
 #endif

@@ -1,6 +1,6 @@
-/* The exchange of measured.c at a parameter set. With a call's name as the last argument only that call is made between two marks,
-   so that callgrind counts it alone; with 'stack' each call runs on a painted stack of its own and its use is printed; with
-   'sizes' what a caller lends. */
+/* The exchange of measured.c at a parameter set and a run count. With a call's name as the last argument only that call is made
+   between two marks, so that callgrind counts it alone; with 'stack' each call runs on a painted stack of its own and its use is
+   printed; with 'sizes' what a caller lends. */
 #include <inttypes.h>
 #include <stdio.h>
 #include <stdlib.h>
@@ -12,7 +12,7 @@
 
 enum { ROOM = 256 * 1024 };
 
-static char set_words[64]; /* the set, as it is printed */
+static char set_words[64]; /* set and run count, as they are printed */
 
 /* callgrind counts from here on, to its end */
 __attribute__((noinline)) void counted(void (*call)(void)) {
@@ -62,17 +62,17 @@ static void make_calls(const char *measured) {
 }
 
 int main(int words, char **word) {
-    uint64_t set[UNLOCK_SET_LENGTH];
+    uint64_t numbers[UNLOCK_SET_LENGTH + 1]; /* of the set, then the run count */
     const char *measured = word[words - 1];
-    if (words != UNLOCK_SET_LENGTH + 2) {
-        fprintf(stderr, "usage: calls M K W D T begin|points|leaf|opening|extract|stack|sizes\n");
+    if (words != UNLOCK_SET_LENGTH + 3) {
+        fprintf(stderr, "usage: calls M K W D T RUNS begin|points|leaf|opening|extract|stack|sizes\n");
         return 2;
     }
-    for (int i = 0; i < UNLOCK_SET_LENGTH; i++) {
-        set[i] = strtoul(word[i + 1], 0, 10);
+    for (int i = 0; i <= UNLOCK_SET_LENGTH; i++) {
+        numbers[i] = strtoul(word[i + 1], 0, 10);
         snprintf(set_words + strlen(set_words), sizeof set_words - strlen(set_words), i > 0 ? " %s" : "%s", word[i + 1]);
     }
-    prepare_exchange(set, "");
+    prepare_exchange(numbers, numbers[UNLOCK_SET_LENGTH], "");
     if (!strcmp(measured, "sizes")) print_sizes();
     else make_calls(measured);
     return 0;

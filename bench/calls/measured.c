@@ -11,6 +11,10 @@ static uint8_t prover[UNLOCK_PROVER_SIZE], answered[sizeof prover], verifier[UNL
 uint32_t answer;
 
 #define SET exchange.set, UNLOCK_SET_LENGTH
+#define MESSAGE1 exchange.message1, UNLOCK_MESSAGE1_SIZE(exchange.runs)
+#define MESSAGE2 exchange.message2, UNLOCK_MESSAGE2_SIZE(t, exchange.runs)
+#define MESSAGE3 exchange.message3, UNLOCK_MESSAGE3_SIZE(exchange.runs)
+#define LEAVES(which) exchange.leaves[which], exchange.runs
 #define KEY exchange.matrix, (m - k) * k, exchange.y, m - k
 #define WORK work, unlock_work_size(SET)
 
@@ -39,36 +43,44 @@ static void make_key(void)
     syndrome(exchange.matrix, x, (uint32_t)m, (uint32_t)k, exchange.y);
 }
 
-void prepare_exchange(const uint64_t *numbers, const char *variant)
+/* Leaf 77 in run 0, as far as there are as many, and others in the next ones; the second opening hides another leaf in every run. */
+static void choose_leaves(uint64_t axes)
+{
+    for (uint64_t run = 0; run < exchange.runs; run++) {
+        exchange.leaves[0][run] = (uint8_t)((77 + 36 * run) & ((1u << axes) - 1));
+        exchange.leaves[1][run] = exchange.leaves[0][run] ^ 1;
+    }
+}
+
+void prepare_exchange(const uint64_t *numbers, uint64_t runs, const char *variant)
 {
     exchange.variant = variant;
+    exchange.runs = runs;
     memcpy(exchange.set, numbers, sizeof exchange.set);
     m = numbers[0], k = numbers[1], w = numbers[2], t = numbers[4];
-    exchange.leaf[0] = (uint8_t)(77 & ((1u << numbers[3]) - 1));
-    exchange.leaf[1] = exchange.leaf[0] ^ 1;
+    choose_leaves(numbers[3]);
     make_key();
     draw("salt", exchange.salt, sizeof exchange.salt);
     draw("root", exchange.root, sizeof exchange.root);
-    draw("points", exchange.message2, 8 * t);
+    draw("points", MESSAGE2);
     answer = unlock_prover_new(prover, sizeof prover);
 }
 
-static uint64_t opening_size(int which) { return unlock_opening_size(SET, exchange.leaf[which]); }
+static uint64_t opening_size(int which) { return unlock_opening_size(SET, LEAVES(which)); }
 
 static void open_leaf(int which)
 {
-    answer = unlock_prover_leaf(prover, sizeof prover, exchange.leaf[which], KEY, WORK, exchange.opening[which],
-                                opening_size(which));
+    answer = unlock_prover_leaf(prover, sizeof prover, LEAVES(which), KEY, WORK, exchange.opening[which], opening_size(which));
 }
 
 static void begin(void)
 {
-    answer = unlock_prover_begin(prover, sizeof prover, SET, exchange.x, k, exchange.salt, 32, exchange.root, 16, KEY, WORK,
-                                 exchange.message1, 64);
+    answer = unlock_prover_begin(prover, sizeof prover, SET, exchange.runs, exchange.x, k, exchange.salt, 32, exchange.root, 16,
+                                 KEY, WORK, MESSAGE1);
 }
 static void points(void)
 {
-    answer = unlock_prover_points(prover, sizeof prover, exchange.message2, 8 * t, KEY, WORK, exchange.message3, 32);
+    answer = unlock_prover_points(prover, sizeof prover, MESSAGE2, KEY, WORK, MESSAGE3);
 }
 static void open_first(void) { open_leaf(0); }
 static void judge(void)
@@ -77,10 +89,9 @@ static void judge(void)
 }
 static void extract(void)
 {
-    struct exchange *e = &exchange;
-    answer = unlock_extract(SET, e->message1, 64, e->message2, 8 * t, e->message3, 32, e->leaf[0], e->opening[0], opening_size(0),
-                            e->message1, 64, e->message2, 8 * t, e->message3, 32, e->leaf[1], e->opening[1], opening_size(1),
-                            KEY, WORK, e->states, unlock_extract_size(SET));
+    answer = unlock_extract(SET, exchange.runs, MESSAGE1, MESSAGE2, MESSAGE3, LEAVES(0), exchange.opening[0], opening_size(0),
+                            MESSAGE1, MESSAGE2, MESSAGE3, LEAVES(1), exchange.opening[1], opening_size(1),
+                            KEY, WORK, exchange.states, unlock_extract_size(SET, exchange.runs));
 }
 
 const struct call calls[CALLS] = {
@@ -90,10 +101,10 @@ const struct call calls[CALLS] = {
 static uint32_t open_verifier(void)
 {
     uint32_t answers = unlock_verifier_new(verifier, sizeof verifier);
-    answers |= unlock_verifier_begin(verifier, sizeof verifier, SET, exchange.message1, 64);
-    answers |= unlock_verifier_points(verifier, sizeof verifier, exchange.message2, 8 * t);
-    answers |= unlock_verifier_response(verifier, sizeof verifier, exchange.message3, 32);
-    return answers | unlock_verifier_leaf(verifier, sizeof verifier, exchange.leaf[0]);
+    answers |= unlock_verifier_begin(verifier, sizeof verifier, SET, exchange.runs, MESSAGE1);
+    answers |= unlock_verifier_points(verifier, sizeof verifier, MESSAGE2);
+    answers |= unlock_verifier_response(verifier, sizeof verifier, MESSAGE3);
+    return answers | unlock_verifier_leaf(verifier, sizeof verifier, LEAVES(0));
 }
 
 uint32_t prepare_call(int call)
@@ -130,7 +141,7 @@ struct size lent_size(int index)
         { "work area", unlock_work_size(SET) },
         { "matrix", (m - k) * k },
         { "message 5", opening_size(0) },
-        { "extractor's output", unlock_extract_size(SET) },
+        { "extractor's output", unlock_extract_size(SET, exchange.runs) },
         { 0, 0 },
     };
     return sizes[index];

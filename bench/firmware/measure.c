@@ -1,9 +1,11 @@
 /*
- * The exchange of bench/calls on the core, at the set that the compiler's command gives as NUMBERS: of each call the instructions and
- * the stack that it touched, as lines of bench/table.py; and of SHAKE256 of a string with one permutation and with two.
+ * The exchange of bench/calls on the core, at the set and the run count that the compiler's command gives as NUMBERS and RUNS: of each
+ * call the instructions and the stack that it touched, as lines of bench/table.py; and of SHAKE256 of a string with one permutation
+ * and with two.
  *
  * Instructions: in the emulator with -icount shift=0 one takes a nanosecond, and SysTick counts the 25 MHz of the board, so a tick is
- * 40 instructions, and its 24 bits are enough for 671 million. Stack: the part that is not in use is painted before the call.
+ * 40 instructions, and its 24 bits are enough for 671 million; a longer call counts modulo that. Stack: the part that is not in use is
+ * painted before the call.
  */
 #include <stdint.h>
 
@@ -53,6 +55,8 @@ static void report(const char *name, struct use use)
         if (i > 0) print(" ");
         print_number((uint32_t)set[i]);
     }
+    print(" ");
+    print_number(RUNS);
     print("\t");
     print(name);
     print("\t");
@@ -72,7 +76,7 @@ int main(void)
     report("nothing", measure(nothing));
     report("one permutation", measure(hash_once));
     report("two permutations", measure(hash_twice));
-    prepare_exchange(set, "");
+    prepare_exchange(set, RUNS, "");
     for (int i = 0; i < CALLS; i++) {
         if (prepare_call(i) != 0) return 1;
         struct use use = measure(calls[i].make);

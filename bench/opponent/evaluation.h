@@ -21,8 +21,14 @@ struct values {
     point s[MAX_POSITIONS], q[MAX_POSITIONS], p[MAX_POSITIONS]; /* S(r), epsilon Q(r), epsilon F(r) P(r) */
 };
 
-/* Points, then multipliers, as message 2 has them. */
-void make_positions(struct positions *positions, const struct set *set, const uint8_t *message2);
+/* 1 / F'(f), at f - 1: what the positions of all runs have in common. */
+struct factors {
+    uint8_t of[255];
+};
+void make_factors(struct factors *factors, const struct set *set);
+
+/* Points, then multipliers, as a run's part of message 2 has them. */
+void make_positions(struct positions *positions, const struct set *set, const struct factors *factors, const uint8_t *message2);
 
 /* S of a vector x, and Q of some coefficients; p is left as it is. */
 void evaluate_one(const struct positions *positions, const uint8_t *x, const uint8_t *q, unsigned q_length, struct values *values);

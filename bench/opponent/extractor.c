@@ -2,6 +2,8 @@
 
 #include "opening.h"
 
+static struct opening ones[OPPONENT_RUNS], others[OPPONENT_RUNS];
+
 static uint32_t unequal(unsigned layer, unsigned number) { return 65536 * layer + number; }
 
 /* The first axis whose strings differ, or 0. */
@@ -46,17 +48,38 @@ static unsigned lowest_bit(unsigned bits)
     return number;
 }
 
+/* The first unequal pair of the runs whose hidden leaves differ, or 0. */
+static uint32_t compare_runs(const struct opponent_verifier *first, const struct opponent_verifier *second)
+{
+    for (unsigned run = 0; run < first->runs; run++) {
+        if (first->leaves[run] == second->leaves[run]) continue;
+        uint32_t answer = compare(&first->set, &ones[run], &others[run]);
+        if (answer) return answer + 256 * run;
+    }
+    return 0;
+}
+
+/* The states of all leaves, of which each opening lacks one, and aux. */
+static void put_states(const struct set *set, const struct opening *one, const struct opening *other, uint8_t *out)
+{
+    unsigned hidden = one->pass.apart;
+    memcpy(out, one->pass.states, 32 * leaves(set));
+    memcpy(out + 32 * hidden, other->pass.states[hidden], 32);
+    memcpy(out + 32 * leaves(set), one->pass.aux ? one->pass.aux : other->pass.aux, aux_length(set));
+}
+
 uint32_t opponent_extract(const struct opponent_verifier *first, const uint8_t *first5, const struct opponent_verifier *second,
                           const uint8_t *second5, const struct key *key, uint8_t *out)
 {
-    const struct set *set = &first->set;
-    struct opening one, other;
-    uint32_t answer = check_opening(first, first5, key, &one);
-    if (answer == 0) answer = check_opening(second, second5, key, &other);
-    if (answer == 0) answer = compare(set, &one, &other);
+    uint32_t answer = check_opening(first, first5, key, ones, 1);
+    if (answer == 0) answer = check_opening(second, second5, key, others, 1);
+    if (answer == 0) answer = compare_runs(first, second);
     if (answer) return answer;
-    memcpy(out, one.pass.states, 32 * leaves(set));
-    memcpy(out + 32 * first->leaf, other.pass.states[first->leaf], 32);
-    memcpy(out + 32 * leaves(set), one.pass.aux ? one.pass.aux : other.pass.aux, aux_length(set));
-    return 256 + lowest_bit(first->leaf ^ second->leaf);
+    for (unsigned run = first->runs; run-- > 0;) {
+        unsigned difference = first->leaves[run] ^ second->leaves[run];
+        if (difference == 0) continue;
+        put_states(&first->set, &ones[run], &others[run], out + states_length(&first->set) * run);
+        answer = 256 * (run + 1) + lowest_bit(difference);
+    }
+    return answer;
 }

@@ -1,4 +1,4 @@
-/* Lengths, and the parts of a share: a, b, x_A, Q, P, c. */
+/* Lengths, of a run where there are several, and the parts of a share: a, b, x_A, Q, P, c. */
 #ifndef OPPONENT_LAYOUT_H
 #define OPPONENT_LAYOUT_H
 
@@ -11,6 +11,11 @@ enum { MAX_LEAVES = 256, MAX_AXES = 8, MAX_POSITIONS = 8, SHARE_WORDS = 108, MAX
 static inline unsigned leaves(const struct set *set) { return 1u << set->D; }
 static inline unsigned last_leaf(const struct set *set) { return leaves(set) - 1; }
 static inline size_t aux_length(const struct set *set) { return set->k + 2 * set->w + 4 * set->t; }
+static inline size_t opening_length(const struct set *set, unsigned leaf)
+{
+    return 16 * set->D + 32 + 8 * set->t + (leaf == last_leaf(set) ? 0 : aux_length(set));
+}
+static inline size_t states_length(const struct set *set) { return 32 * leaves(set) + aux_length(set); }
 static inline size_t share_words(const struct set *set) { return (8 * set->t + aux_length(set) + 7) / 8; }
 
 static inline const uint8_t *a_of(const uint64_t *share) { return (const uint8_t *)share; }

@@ -61,12 +61,7 @@ static void pass_node(struct pass *pass, unsigned depth, unsigned node, const ui
     join(pass, depth + 1, left, right, sum);
 }
 
-void pass_tree(struct pass *pass, const uint8_t root[16], uint64_t *sum)
-{
-    uint64_t seed[2];
-    memcpy(seed, root, sizeof seed);
-    pass_node(pass, 0, 1, seed, sum);
-}
+void pass_tree(struct pass *pass, const uint64_t seed[2], uint64_t *sum) { pass_node(pass, 0, 1, seed, sum); }
 
 void pass_siblings(struct pass *pass, const uint8_t *siblings, uint64_t *sum)
 {

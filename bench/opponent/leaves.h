@@ -20,8 +20,8 @@ struct pass {
     uint64_t states[MAX_LEAVES][4];
 };
 
-/* All leaves below a root seed; gives the sum of their shares. */
-void pass_tree(struct pass *pass, const uint8_t root[16], uint64_t *sum);
+/* All leaves below the run's root seed; gives the sum of their shares. */
+void pass_tree(struct pass *pass, const uint64_t seed[2], uint64_t *sum);
 
 /* All leaves but leaf apart, from its sibling seeds, from the root side down. */
 void pass_siblings(struct pass *pass, const uint8_t *siblings, uint64_t *sum);

@@ -60,11 +60,14 @@ static void make_position(struct positions *positions, unsigned l, point r, poin
     }
 }
 
-void make_positions(struct positions *positions, const struct set *set, const uint8_t *message2)
+void make_factors(struct factors *factors, const struct set *set)
 {
-    uint8_t factors[255];
+    for (unsigned f = 1; f <= set->m; f++) factors->of[f - 1] = inverse_derivative(set->m, f);
+}
+
+void make_positions(struct positions *positions, const struct set *set, const struct factors *factors, const uint8_t *message2)
+{
     positions->set = set;
-    for (unsigned f = 1; f <= set->m; f++) factors[f - 1] = inverse_derivative(set->m, f);
     for (unsigned l = 0; l < set->t; l++)
-        make_position(positions, l, read_point(message2, l), read_point(message2, set->t + l), factors);
+        make_position(positions, l, read_point(message2, l), read_point(message2, set->t + l), factors->of);
 }

@@ -10,16 +10,16 @@ enum { RATE_WORDS = 17, RATE = 8 * RATE_WORDS };
 #define FIRST ((uint64_t)0x1f)
 #define LAST ((uint64_t)0x80 << 56)
 
-void salt_strings(struct salted *salted, const uint8_t salt[32])
+void salt_strings(struct salted *salted, const uint8_t salt[32], unsigned run)
 {
     uint8_t bytes[32] = { 0 };
     memcpy(bytes + 1, salt, 31);
     memcpy(salted->words, bytes, 32);
-    salted->last = salt[31];
+    salted->last = salt[31] | (uint64_t)run << 8;
 }
 
-/* The lanes of a string but for lanes 4 to 6, which the caller fills with the salt's last byte and what follows. The zeros are
-   written out, since gcc makes a slower memset of a loop. */
+/* The lanes of a string but for lanes 4 to 6, which the caller fills with the salt's last byte, the run byte and what follows. The
+   zeros are written out, since gcc makes a slower memset of a loop. */
 static inline void start(uint64_t lanes[25], const struct salted *salted, uint8_t layer)
 {
     lanes[0] = salted->words[0] | layer, lanes[1] = salted->words[1], lanes[2] = salted->words[2], lanes[3] = salted->words[3];
@@ -28,13 +28,25 @@ static inline void start(uint64_t lanes[25], const struct salted *salted, uint8_
     lanes[17] = lanes[18] = lanes[19] = lanes[20] = lanes[21] = lanes[22] = lanes[23] = lanes[24] = 0;
 }
 
+void hash_root(const struct salted *salted, const uint8_t root[16], uint64_t seed[2])
+{
+    uint64_t lanes[25], words[2];
+    memcpy(words, root, 16);
+    start(lanes, salted, 8);
+    lanes[4] = salted->last | words[0] << 16;
+    lanes[5] = words[0] >> 48 | words[1] << 16;
+    lanes[6] = words[1] >> 48 | FIRST << 16;
+    opponent_permute(lanes);
+    memcpy(seed, lanes, 16);
+}
+
 void hash_node(const struct salted *salted, unsigned node, const uint64_t seed[2], uint64_t children[4])
 {
     uint64_t lanes[25];
     start(lanes, salted, 1);
-    lanes[4] = salted->last | (uint64_t)node << 8 | seed[0] << 24;
-    lanes[5] = seed[0] >> 40 | seed[1] << 24;
-    lanes[6] = seed[1] >> 40 | FIRST << 24;
+    lanes[4] = salted->last | (uint64_t)node << 16 | seed[0] << 32;
+    lanes[5] = seed[0] >> 32 | seed[1] << 32;
+    lanes[6] = seed[1] >> 32 | FIRST << 32;
     opponent_permute(lanes);
     memcpy(children, lanes, 32);
 }
@@ -42,9 +54,9 @@ void hash_node(const struct salted *salted, unsigned node, const uint64_t seed[2
 /* A leaf's number and seed, and the start of what follows. */
 static inline void put_leaf(uint64_t lanes[25], const struct salted *salted, unsigned leaf, const uint64_t seed[2], uint64_t next)
 {
-    lanes[4] = salted->last | (uint64_t)leaf << 8 | seed[0] << 16;
-    lanes[5] = seed[0] >> 48 | seed[1] << 16;
-    lanes[6] = seed[1] >> 48 | next << 16;
+    lanes[4] = salted->last | (uint64_t)leaf << 16 | seed[0] << 24;
+    lanes[5] = seed[0] >> 40 | seed[1] << 24;
+    lanes[6] = seed[1] >> 40 | next << 24;
 }
 
 void hash_leaf(const struct salted *salted, unsigned leaf, const uint64_t seed[2], uint64_t state[4])
@@ -74,8 +86,8 @@ void hash_state(const struct salted *salted, unsigned leaf, const uint64_t state
     uint64_t lanes[25];
     start(lanes, salted, 4);
     put_leaf(lanes, salted, leaf, state, state[2]);
-    lanes[7] = state[2] >> 48 | state[3] << 16;
-    lanes[8] = state[3] >> 48 | FIRST << 16;
+    lanes[7] = state[2] >> 40 | state[3] << 24;
+    lanes[8] = state[3] >> 40 | FIRST << 24;
     opponent_permute(lanes);
     memcpy(digest, lanes, DIGEST);
 }
@@ -96,6 +108,7 @@ void put_prefix(uint8_t *string, uint8_t layer, const struct salted *salted)
     memcpy(string, salted->words, 32);
     string[0] = layer;
     string[32] = (uint8_t)salted->last;
+    string[33] = (uint8_t)(salted->last >> 8);
 }
 
 static inline void absorb(uint64_t lanes[25], const uint8_t block[RATE])

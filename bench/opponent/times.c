@@ -3,8 +3,8 @@
  * processor time of each (clock.h). Prints lines 'time', set, call, ratio, parted by tabs. Before that it compares what both give,
  * and what they answer where a bit of message 5 is changed.
  *
- * times M K W D T           that set
- * times --check COUNT SEED  only compares: sets at the limits, then COUNT random sets, each with a random key and exchange
+ * times M K W D T RUNS      that set and run count
+ * times --check COUNT SEED  only compares: sets at the limits, then COUNT random sets, each with any run count, key and exchange
  */
 #define _POSIX_C_SOURCE 199309L
 
@@ -18,7 +18,7 @@
 #include "syndrome.h"
 #include "unlock.h"
 
-/* How often both are timed in turn, times the leaves: 200 turns at D 8, more for shorter calls. */
+/* How often both are timed in turn, times the leaves of all runs: 200 turns at D 8 with one run, more for shorter calls. */
 enum { LEAF_TURNS = 200 << 8 };
 
 static struct set set;
@@ -30,7 +30,8 @@ static uint32_t our_answer;
 
 static void begin(void)
 {
-    our_answer = opponent_begin(&prover, &set, exchange.x, exchange.salt, exchange.root, &key, ours.message1);
+    our_answer = opponent_begin(&prover, &set, (unsigned)exchange.runs, exchange.x, exchange.salt, exchange.root, &key,
+                                ours.message1);
 }
 
 static void points(void)
@@ -41,7 +42,7 @@ static void points(void)
 
 static void leaf(void)
 {
-    opponent_leaf(&prover, exchange.leaf[0], &key, ours.opening[0]);
+    opponent_leaf(&prover, exchange.leaves[0], &key, ours.opening[0]);
     our_answer = 0;
 }
 
@@ -59,17 +60,19 @@ static void open_verifiers(void)
 {
     for (int i = 0; i < 2; i++) {
         verifiers[i].set = set;
+        verifiers[i].runs = (unsigned)exchange.runs;
         memcpy(verifiers[i].message1, exchange.message1, sizeof exchange.message1);
         memcpy(verifiers[i].message2, exchange.message2, sizeof exchange.message2);
         memcpy(verifiers[i].message3, exchange.message3, sizeof exchange.message3);
-        verifiers[i].leaf = exchange.leaf[i];
+        memcpy(verifiers[i].leaves, exchange.leaves[i], sizeof exchange.leaves[i]);
     }
 }
 
 static void expect(int holds, const char *call, const char *what)
 {
     if (holds) return;
-    printf("%s, m %u, k %u, w %u, D %u, t %u, variant '%s': %s\n", call, set.m, set.k, set.w, set.D, set.t, exchange.variant, what);
+    printf("%s, m %u, k %u, w %u, D %u, t %u, runs %u, variant '%s': %s\n", call, set.m, set.k, set.w, set.D, set.t,
+           (unsigned)exchange.runs, exchange.variant, what);
     exit(1);
 }
 
@@ -95,7 +98,7 @@ static void prepare_both(int call)
 {
     expect(prepare_call(call) == 0, calls[call].name, "what comes before is refused");
     if (call == 3) open_verifiers();
-    if (call == 4) opponent_leaf(&prover, exchange.leaf[1], &key, ours.opening[1]);
+    if (call == 4) opponent_leaf(&prover, exchange.leaves[1], &key, ours.opening[1]);
     keep_sessions();
 }
 
@@ -106,9 +109,17 @@ static unsigned lowest_axis(unsigned bits)
     return axis;
 }
 
+/* The lowest run whose leaves differ, and its axis. */
+static uint32_t extracted(void)
+{
+    unsigned run = 0;
+    while (exchange.leaves[0][run] == exchange.leaves[1][run]) run++;
+    return 256 * (run + 1) + lowest_axis(exchange.leaves[0][run] ^ exchange.leaves[1][run]);
+}
+
 static void compare_call(int call)
 {
-    uint32_t expected = call == 4 ? 256 + lowest_axis(exchange.leaf[0] ^ exchange.leaf[1]) : 0;
+    uint32_t expected = call == 4 ? extracted() : 0;
     make_both(call);
     expect(answer == expected, calls[call].name, "the library refuses");
     expect(our_answer == expected, calls[call].name, "the opponent refuses");
@@ -127,17 +138,24 @@ static void compare_refusal(int call, int which, size_t bit)
     expect(same(), calls[call].name, "a refused call gives something");
 }
 
-/* A bit of the siblings, one of alpha and beta, and one of all. */
+/* The length of the first so many runs of a message 5. */
+static size_t opening_length(int which, uint64_t runs)
+{
+    return unlock_opening_size(exchange.set, UNLOCK_SET_LENGTH, exchange.leaves[which], runs);
+}
+
+/* A bit of the siblings of some run, one of alpha and beta there, and one of all. */
 static void compare_refusals(int call, int which)
 {
-    uint8_t drawn[12];
-    uint32_t numbers[3];
-    size_t length = unlock_opening_size(exchange.set, UNLOCK_SET_LENGTH, exchange.leaf[which]);
+    uint8_t drawn[16];
+    uint32_t numbers[4];
     draw("bits", drawn, sizeof drawn);
     memcpy(numbers, drawn, sizeof numbers);
-    compare_refusal(call, which, numbers[0] % (128 * set.D));
-    compare_refusal(call, which, 8 * (16 * set.D + 32) + numbers[1] % (64 * set.t));
-    compare_refusal(call, which, numbers[2] % (8 * length));
+    uint64_t run = numbers[3] % exchange.runs;
+    size_t start = run == 0 ? 0 : 8 * opening_length(which, run);
+    compare_refusal(call, which, start + numbers[0] % (128 * set.D));
+    compare_refusal(call, which, start + 8 * (16 * set.D + 32) + numbers[1] % (64 * set.t));
+    compare_refusal(call, which, numbers[2] % (8 * opening_length(which, exchange.runs)));
 }
 
 static void prepare_opponent(void)
@@ -157,8 +175,8 @@ static double time_of(void (*call)(void))
 
 static void print_ratio(int call)
 {
-    static double times[2][LEAF_TURNS];
-    int turns = LEAF_TURNS >> set.D;
+    static double times[2][LEAF_TURNS + 1];
+    int turns = 1 + (LEAF_TURNS >> set.D) / (int)exchange.runs;
     for (int turn = 0; turn < turns; turn++) {
         restore_sessions();
         times[0][turn] = time_of(calls[call].make);
@@ -166,7 +184,8 @@ static void print_ratio(int call)
     }
     expect(same(), calls[call].name, "what both give differs");
     double ratio = low_time(times[0], turns) / low_time(times[1], turns);
-    printf("time\t%u %u %u %u %u\t%s\t%.2f\n", set.m, set.k, set.w, set.D, set.t, calls[call].name, ratio);
+    printf("time\t%u %u %u %u %u %u\t%s\t%.2f\n", set.m, set.k, set.w, set.D, set.t, (unsigned)exchange.runs, calls[call].name,
+           ratio);
 }
 
 static void compare_and_time(int timed)
@@ -187,6 +206,15 @@ static const uint64_t LIMITS[][UNLOCK_SET_LENGTH] = {
 };
 enum { LIMIT_SETS = sizeof LIMITS / sizeof *LIMITS };
 
+/* Mostly one run or two, more where the set is small. */
+static uint64_t draw_runs(const uint64_t *numbers)
+{
+    uint8_t drawn[1];
+    draw("runs", drawn, sizeof drawn);
+    if (numbers[3] < 4 && drawn[0] % 4 == 0) return 1 + drawn[0] / 4 % UNLOCK_RUNS_MAX;
+    return 1 + drawn[0] % 3u / 2;
+}
+
 static void draw_set(uint64_t *numbers)
 {
     uint8_t drawn[5];
@@ -198,23 +226,34 @@ static void draw_set(uint64_t *numbers)
     numbers[4] = 1 + drawn[4] % 8u;
 }
 
-/* A lighter x, points that are bytes or pairs, any two leaves. */
+/* Any leaves: the second opening hides others in a run and in some of the others too. */
+static void vary_leaves(void)
+{
+    uint8_t chosen[2 * UNLOCK_RUNS_MAX + 1];
+    unsigned n = 1u << exchange.set[3], runs = (unsigned)exchange.runs;
+    draw("leaves", chosen, sizeof chosen);
+    for (unsigned run = 0; run < runs; run++) {
+        uint8_t first = chosen[run], second = chosen[UNLOCK_RUNS_MAX + run];
+        int differs = second % 3 > 0 || run == chosen[2 * UNLOCK_RUNS_MAX] % runs;
+        exchange.leaves[0][run] = (uint8_t)(first % n);
+        exchange.leaves[1][run] = (uint8_t)(differs ? (first % n + 1 + second % (n - 1)) % n : first % n);
+    }
+}
+
+/* A lighter x, points that are bytes or pairs. */
 static void vary_exchange(void)
 {
-    uint8_t lighter[256], shorter[16], chosen[2];
+    uint8_t lighter[256], shorter[16 * UNLOCK_RUNS_MAX];
     draw("lighter", lighter, sizeof lighter);
     draw("shorter", shorter, sizeof shorter);
-    draw("leaves", chosen, sizeof chosen);
     for (unsigned i = 0; i < exchange.set[0]; i++)
         if (lighter[255] % 4 == 0 && lighter[i] % 4 == 0) exchange.x[i] = 0;
     syndrome(exchange.matrix, exchange.x, (uint32_t)exchange.set[0], (uint32_t)exchange.set[1], exchange.y);
-    for (unsigned i = 0; i < 2 * exchange.set[4]; i++) {
+    for (unsigned i = 0; i < 2 * exchange.set[4] * exchange.runs; i++) {
         if (shorter[i] % 8 < 2) memset(exchange.message2 + 4 * i + 2, 0, 2);
         if (shorter[i] % 8 == 0) exchange.message2[4 * i + 1] = 0;
     }
-    unsigned n = 1u << exchange.set[3];
-    exchange.leaf[0] = (uint8_t)(chosen[0] % n);
-    exchange.leaf[1] = (uint8_t)((exchange.leaf[0] + 1 + chosen[1] % (n - 1)) % n);
+    vary_leaves();
 }
 
 static void check(unsigned long count, const char *seed)
@@ -226,7 +265,7 @@ static void check(unsigned long count, const char *seed)
         exchange.variant = variant;
         if (i < LIMIT_SETS) memcpy(numbers, LIMITS[i], sizeof numbers);
         else draw_set(numbers);
-        prepare_exchange(numbers, variant);
+        prepare_exchange(numbers, draw_runs(numbers), variant);
         vary_exchange();
         compare_and_time(0);
     }
@@ -238,13 +277,13 @@ int main(int words, char **word)
     opponent_prepare();
     if (words == 4 && !strcmp(word[1], "--check")) {
         check(strtoul(word[2], 0, 10), word[3]);
-    } else if (words == 1 + UNLOCK_SET_LENGTH) {
-        uint64_t numbers[UNLOCK_SET_LENGTH];
-        for (int i = 0; i < UNLOCK_SET_LENGTH; i++) numbers[i] = strtoul(word[i + 1], 0, 10);
-        prepare_exchange(numbers, "");
+    } else if (words == 2 + UNLOCK_SET_LENGTH) {
+        uint64_t numbers[UNLOCK_SET_LENGTH + 1]; /* of the set, then the run count */
+        for (int i = 0; i <= UNLOCK_SET_LENGTH; i++) numbers[i] = strtoul(word[i + 1], 0, 10);
+        prepare_exchange(numbers, numbers[UNLOCK_SET_LENGTH], "");
         compare_and_time(1);
     } else {
-        fprintf(stderr, "usage: times M K W D T, or times --check COUNT SEED\n");
+        fprintf(stderr, "usage: times M K W D T RUNS, or times --check COUNT SEED\n");
         return 2;
     }
     return 0;

@@ -1,9 +1,9 @@
 /*
- * Random scripts of calls through unlock.h, the same on every core. A script is an exchange at a random set and an extraction from
- * two openings of its commitment. Most have faults: parameters of up to 64 bits, lengths that are off, damaged messages and sessions,
- * leaves out of range, calls that are not due. A line for each script has its set and a digest of every answer and of every byte
- * that a call could write; the last line says how often each number was answered. SCRIPTS and SEED, how many and which, come from
- * the compiler's command.
+ * Random scripts of calls through unlock.h, the same on every core. A script is an exchange at a random set and run count and an
+ * extraction from two openings of its commitment. Most have faults: parameters and run counts of up to 64 bits, lengths that are
+ * off, damaged messages and sessions, leaves out of range, calls that are not due. A line for each script has its set, its run count
+ * and a digest of every answer and of every byte that a call could write; the last line says how often each number was answered.
+ * SCRIPTS and SEED, how many and which, come from the compiler's command.
  */
 #include <string.h>
 
@@ -11,12 +11,18 @@
 #include "syndrome.h"
 #include "unlock.h"
 
+/* The run counts are small, but for small sets: the greatest set has two runs. */
+enum { RUNS = UNLOCK_RUNS_MAX, SMALL_M = 31, SMALL_AXES = 4, SMALL_T = 4, LARGE_RUNS = 2 };
+#define LARGER(a, b) ((a) > (b) ? (a) : (b))
+#define ROOM(macro) (LARGER(macro(254, 255, 8, 8, LARGE_RUNS), macro(SMALL_M - 1, SMALL_M, SMALL_AXES, SMALL_T, RUNS)) + 8)
+
 /* Longer than any set asks, so that a slice can be too long. */
 static uint8_t prover[UNLOCK_PROVER_SIZE + 8], answered[sizeof prover], verifier[UNLOCK_VERIFIER_SIZE + 8];
 static uint8_t matrix[128 * 127 + 8], x[255], y[254 + 8], x_a[254 + 8], salt[32 + 8], root[16 + 8];
-static uint8_t work[UNLOCK_WORK_SIZE(254, 255, 8, 8) + 8], states[UNLOCK_EXTRACT_SIZE(254, 255, 8, 8) + 8];
+static uint8_t work[UNLOCK_WORK_SIZE(254, 255, 8, 8) + 8], states[ROOM(UNLOCK_EXTRACT_SIZE)];
 static struct transcript {
-    uint8_t message1[64 + 8], message2[64 + 8], message3[32 + 8], leaf, message5[UNLOCK_OPENING_MAX(254, 255, 8, 8) + 8];
+    uint8_t message1[UNLOCK_MESSAGE1_SIZE(RUNS) + 8], message2[UNLOCK_MESSAGE2_SIZE(8, RUNS) + 8];
+    uint8_t message3[UNLOCK_MESSAGE3_SIZE(RUNS) + 8], leaves[RUNS + 8], message5[ROOM(UNLOCK_OPENING_MAX)];
 } first, second;
 
 /* ---- chance */
@@ -48,17 +54,23 @@ static void damage(uint8_t *at, uint64_t length)
 static uint64_t digest;
 static uint32_t answers[14], extractions; /* how often each number was answered, and any that the extractor found something with */
 
-static void note_bytes(const uint8_t *bytes, uint64_t length)
-{
-    for (uint64_t i = 0; i < length; i++) digest = (digest ^ bytes[i]) * 0x100000001b3u;
-}
-
 static void note_number(uint64_t number)
 {
-    for (int i = 0; i < 8; i++) {
-        uint8_t byte = (uint8_t)(number >> 8 * i);
-        note_bytes(&byte, 1);
+    digest = (digest ^ number) * 0x100000001b3u;
+    digest ^= digest >> 32;
+}
+
+/* Eight bytes at a time, low byte first: both cores have them so. */
+static void note_bytes(const uint8_t *bytes, uint64_t length)
+{
+    uint64_t word = 0;
+    for (; length > sizeof word; bytes += sizeof word, length -= sizeof word) {
+        memcpy(&word, bytes, sizeof word);
+        note_number(word);
     }
+    word = 0;
+    memcpy(&word, bytes, length);
+    note_number(word);
 }
 
 static void note_answer(uint32_t answer)
@@ -78,7 +90,7 @@ static void note_answer(uint32_t answer)
 
 /* ---- the key */
 
-static uint32_t m, k, w, axes, t;
+static uint32_t m, k, w, axes, t, runs;
 static uint64_t right[UNLOCK_SET_LENGTH]; /* the same, as a set */
 
 /* x of weight w, or now and then one more. */
@@ -98,20 +110,22 @@ static void draw_key(void)
 static void draw_set(uint32_t number)
 {
     uint32_t large = number % 25 == 1;
-    m = 2 + below(large ? 254 : 30);
+    m = 2 + below(large ? 254 : SMALL_M - 1);
     k = 1 + below(m - 1);
     w = 1 + below(m);
-    axes = 1 + below(large ? 8 : 4);
-    t = 1 + below(large ? 8 : 4);
-    if (number % 50 == 0) m = 230, k = 126, w = 79, axes = 8, t = 3;
+    axes = 1 + below(large ? 8 : SMALL_AXES);
+    t = 1 + below(large ? 8 : SMALL_T);
+    runs = 1 + below(large ? LARGE_RUNS : 3);
+    if (number % 50 == 0) m = 230, k = 126, w = 79, axes = 8, t = 3, runs = LARGE_RUNS;
+    if (number % 50 == 3) runs = RUNS;
     right[0] = m, right[1] = k, right[2] = w, right[3] = axes, right[4] = t;
 }
 
 /* ---- what the next call is lent */
 
-static uint64_t set[UNLOCK_SET_LENGTH + 1];
+static uint64_t set[UNLOCK_SET_LENGTH + 1], run_count;
 static struct {
-    uint64_t prover, verifier, set, x_a, salt, root, matrix, y, work, message1, message2, message3, message5, states;
+    uint64_t prover, verifier, set, x_a, salt, root, matrix, y, work, message1, message2, message3, leaves, message5, states;
 } length;
 
 static uint64_t bent(uint64_t number)
@@ -127,9 +141,10 @@ static uint64_t bent(uint64_t number)
 
 static uint64_t off(uint64_t right, uint64_t room) { return fault() ? below((uint32_t)room + 1) : right; }
 
-static void draw_lent(uint8_t leaf)
+static void draw_lent(const uint8_t *leaves)
 {
     for (int i = 0; i < UNLOCK_SET_LENGTH; i++) set[i] = bent(right[i]);
+    run_count = bent(runs);
     length.prover = off(UNLOCK_PROVER_SIZE, sizeof prover);
     length.verifier = off(UNLOCK_VERIFIER_SIZE, sizeof verifier);
     length.set = off(UNLOCK_SET_LENGTH, UNLOCK_SET_LENGTH + 1);
@@ -139,14 +154,15 @@ static void draw_lent(uint8_t leaf)
     length.matrix = off((m - k) * k, sizeof matrix);
     length.y = off(m - k, sizeof y);
     length.work = off(unlock_work_size(right, UNLOCK_SET_LENGTH), sizeof work);
-    length.message1 = off(64, sizeof first.message1);
-    length.message2 = off(8 * t, sizeof first.message2);
-    length.message3 = off(32, sizeof first.message3);
-    length.message5 = off(unlock_opening_size(right, UNLOCK_SET_LENGTH, leaf), sizeof first.message5);
-    length.states = off(unlock_extract_size(right, UNLOCK_SET_LENGTH), sizeof states);
+    length.message1 = off(UNLOCK_MESSAGE1_SIZE(runs), sizeof first.message1);
+    length.message2 = off(UNLOCK_MESSAGE2_SIZE(t, runs), sizeof first.message2);
+    length.message3 = off(UNLOCK_MESSAGE3_SIZE(runs), sizeof first.message3);
+    length.leaves = off(runs, sizeof first.leaves);
+    length.message5 = off(unlock_opening_size(right, UNLOCK_SET_LENGTH, leaves, runs), sizeof first.message5);
+    length.states = off(unlock_extract_size(right, UNLOCK_SET_LENGTH, runs), sizeof states);
     note_number(unlock_work_size(set, length.set));
-    note_number(unlock_opening_size(set, length.set, leaf));
-    note_number(unlock_extract_size(set, length.set));
+    note_number(unlock_opening_size(set, length.set, leaves, length.leaves));
+    note_number(unlock_extract_size(set, length.set, run_count));
 }
 
 /* ---- the calls */
@@ -156,13 +172,13 @@ static void draw_lent(uint8_t leaf)
 
 static uint8_t prover_begin(void)
 {
-    return unlock_prover_begin(prover, length.prover, set, length.set, x_a, length.x_a, salt, length.salt, root, length.root,
-                               KEY, WORK, first.message1, length.message1);
+    return unlock_prover_begin(prover, length.prover, set, length.set, run_count, x_a, length.x_a, salt, length.salt,
+                               root, length.root, KEY, WORK, first.message1, length.message1);
 }
 static uint8_t verifier_begin(void)
 {
-    damage(first.message1, 64);
-    return unlock_verifier_begin(verifier, length.verifier, set, length.set, first.message1, length.message1);
+    damage(first.message1, UNLOCK_MESSAGE1_SIZE(runs));
+    return unlock_verifier_begin(verifier, length.verifier, set, length.set, run_count, first.message1, length.message1);
 }
 static uint8_t verifier_points(void)
 {
@@ -170,24 +186,30 @@ static uint8_t verifier_points(void)
 }
 static uint8_t prover_points(void)
 {
-    damage(first.message2, 8 * t);
+    damage(first.message2, UNLOCK_MESSAGE2_SIZE(t, runs));
     return unlock_prover_points(prover, length.prover, first.message2, length.message2, KEY, WORK, first.message3, length.message3);
 }
 static uint8_t verifier_response(void)
 {
-    damage(first.message3, 32);
+    if (chance(16)) first.message3[below(UNLOCK_MESSAGE3_SIZE(runs))] ^= 1;
     return unlock_verifier_response(verifier, length.verifier, first.message3, length.message3);
+}
+/* Message 4, now and then with any leaf in a run. */
+static const uint8_t *leaves(void)
+{
+    static uint8_t bent_leaves[sizeof first.leaves];
+    memcpy(bent_leaves, first.leaves, sizeof bent_leaves);
+    if (chance(12)) bent_leaves[below(runs)] = (uint8_t)below(256);
+    return bent_leaves;
 }
 static uint8_t verifier_leaf(void)
 {
-    uint8_t leaf = fault() ? (uint8_t)below(256) : first.leaf;
-    return unlock_verifier_leaf(verifier, length.verifier, leaf);
+    return unlock_verifier_leaf(verifier, length.verifier, leaves(), length.leaves);
 }
 static uint8_t prover_leaf(void)
 {
-    uint8_t leaf = fault() ? (uint8_t)below(256) : first.leaf;
     memcpy(answered, prover, sizeof prover);
-    return unlock_prover_leaf(prover, length.prover, leaf, KEY, WORK, first.message5, length.message5);
+    return unlock_prover_leaf(prover, length.prover, leaves(), length.leaves, KEY, WORK, first.message5, length.message5);
 }
 static uint8_t verifier_opening(void)
 {
@@ -200,6 +222,15 @@ static uint8_t (*const calls[])(void) = {
 };
 enum { CALLS = sizeof calls / sizeof *calls };
 
+/* Other leaves in some of the runs, now and then in none. */
+static void draw_other_leaves(void)
+{
+    uint32_t none = chance(8), most = below(2);
+    memcpy(second.leaves, first.leaves, sizeof second.leaves);
+    for (uint32_t run = 0; run < runs && !none; run++)
+        if (below(2 + most) == 0 || run == runs - 1) second.leaves[run] ^= 1;
+}
+
 /* A second opening of the same commitment, which no prover gives: from a copy of its session. */
 static void open_again(void)
 {
@@ -207,21 +238,23 @@ static void open_again(void)
     memcpy(second.message1, first.message1, sizeof second.message1);
     memcpy(second.message2, first.message2, sizeof second.message2);
     memcpy(second.message3, first.message3, sizeof second.message3);
-    second.leaf = chance(8) ? first.leaf : first.leaf ^ 1;
-    draw_lent(second.leaf);
-    note_answer(unlock_prover_leaf(prover, length.prover, second.leaf, KEY, WORK, second.message5, length.message5));
+    draw_other_leaves();
+    draw_lent(second.leaves);
+    note_answer(unlock_prover_leaf(prover, length.prover, second.leaves, length.leaves, KEY, WORK,
+                                   second.message5, length.message5));
 }
 
 static void extract(void)
 {
-    uint64_t length5 = unlock_opening_size(right, UNLOCK_SET_LENGTH, second.leaf);
-    if (chance(8)) second.message2[below(8 * t)] ^= 1;
-    damage(second.message1, 64);
+    uint64_t length5 = unlock_opening_size(right, UNLOCK_SET_LENGTH, second.leaves, runs);
+    if (chance(8)) second.message2[below(UNLOCK_MESSAGE2_SIZE(t, runs))] ^= 1;
+    damage(second.message1, UNLOCK_MESSAGE1_SIZE(runs));
     damage(second.message5, length5);
-    draw_lent(first.leaf);
-    note_answer(unlock_extract(set, length.set, first.message1, length.message1, first.message2, length.message2,
-                               first.message3, length.message3, first.leaf, first.message5, length.message5,
-                               second.message1, 64, second.message2, 8 * t, second.message3, 32, second.leaf, second.message5, length5,
+    draw_lent(first.leaves);
+    note_answer(unlock_extract(set, length.set, run_count, first.message1, length.message1, first.message2, length.message2,
+                               first.message3, length.message3, first.leaves, length.leaves, first.message5, length.message5,
+                               second.message1, UNLOCK_MESSAGE1_SIZE(runs), second.message2, UNLOCK_MESSAGE2_SIZE(t, runs),
+                               second.message3, UNLOCK_MESSAGE3_SIZE(runs), second.leaves, runs, second.message5, length5,
                                KEY, WORK, states, length.states));
 }
 
@@ -233,8 +266,8 @@ static void draw_exchange(uint32_t number)
     draw_key();
     fill(salt, 32);
     fill(root, 16);
-    fill(first.message2, 8 * t);
-    first.leaf = (uint8_t)below(1u << axes);
+    fill(first.message2, UNLOCK_MESSAGE2_SIZE(t, runs));
+    for (uint32_t run = 0; run < runs; run++) first.leaves[run] = (uint8_t)below(1u << axes);
 }
 
 static void run_script(uint32_t number)
@@ -242,12 +275,12 @@ static void run_script(uint32_t number)
     odds = number % 3 == 0 ? 0 : 48;
     digest = 0xcbf29ce484222325u;
     draw_exchange(number);
-    draw_lent(first.leaf);
+    draw_lent(first.leaves);
     note_answer(unlock_prover_new(prover, length.prover));
     note_answer(unlock_verifier_new(verifier, length.verifier));
     for (uint32_t step = 0; step < CALLS; step++) {
         uint32_t call = fault() ? below(CALLS) : step == 1 && chance(8) ? 0 : step;
-        draw_lent(first.leaf);
+        draw_lent(first.leaves);
         note_answer(calls[call]());
         damage(prover, sizeof prover);
         damage(verifier, sizeof verifier);
@@ -258,11 +291,11 @@ static void run_script(uint32_t number)
 
 static void report(uint32_t number)
 {
-    const uint32_t numbers[] = { number, m, k, w, axes, t };
+    const uint32_t numbers[] = { number, m, k, w, axes, t, runs };
     uint8_t bytes[8];
-    for (int i = 0; i < 6; i++) {
+    for (int i = 0; i < 7; i++) {
         print_number(numbers[i]);
-        print(i == 0 || i == 5 ? "\t" : " ");
+        print(i == 0 || i > 4 ? "\t" : " ");
     }
     for (int i = 0; i < 8; i++) bytes[i] = (uint8_t)(digest >> 8 * i);
     print_bytes(bytes, sizeof bytes);

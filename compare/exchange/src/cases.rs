@@ -1,4 +1,5 @@
-//! The inputs compared: none, which stands for the default key, keys over several sets, and keys that are refused.
+//! The inputs compared: none, which stands for the default key, keys over several sets, and keys that are refused, each with
+//! arguments: none, a run count, and what is refused as one.
 
 use crate::default_key::default_key;
 use crate::expected;
@@ -7,48 +8,64 @@ use reference::parameters::Parameters;
 use reference::sampling::keys::{overweight_key, valid_key, Key};
 use reference::sampling::Random;
 
-/// An input, what is expected for it, and the name under which a difference is printed.
+/// The run count without an argument.
+pub const DEFAULT_RUNS: usize = 17;
+
+/// An input with its arguments, what is expected for it, and the name under which a difference is printed.
 pub struct Case {
     /// What the input is.
     pub name: String,
+    /// The arguments.
+    pub arguments: Vec<String>,
     /// The bytes for standard input.
     pub input: Vec<u8>,
     /// What must be printed.
     pub expected: String,
 }
 
-/// Sets with the least and the most axes, the smallest set, the largest matrix and the longest message 5.
-const SETS: [(usize, usize, usize, usize, usize); 7] = [
-    (2, 1, 1, 1, 1),
-    (2, 1, 2, 1, 8),
-    (40, 20, 12, 4, 2),
-    (17, 16, 3, 8, 1),
-    (90, 1, 30, 3, 5),
-    (255, 127, 9, 2, 8),
-    (255, 254, 255, 8, 8),
+/// Run counts and sets: the fewest and the most runs, the least and the most axes, the smallest set, the largest matrix and a
+/// message 5 of five digits.
+const SETS: [(usize, usize, usize, usize, usize, usize); 8] = [
+    (32, 2, 1, 1, 1, 1),
+    (1, 2, 1, 1, 1, 1),
+    (31, 2, 1, 2, 1, 8),
+    (17, 40, 20, 12, 4, 2),
+    (2, 17, 16, 3, 8, 1),
+    (9, 90, 1, 30, 3, 5),
+    (10, 255, 127, 9, 2, 8),
+    (11, 255, 254, 255, 8, 8),
 ];
+
+/// Arguments that are refused before the key is read.
+const UNREADABLE: [&[&str]; 8] =
+    [&[""], &["01"], &["1000"], &["+1"], &["x"], &["2", "2"], &["2", ""], &["18446744073709551617"]];
 
 /// All inputs for a seed.
 pub fn cases(seed: u64) -> Vec<Case> {
     let mut random = Random::new(seed);
-    let mut cases = vec![default_case(), accepted("the default key as a file", &default_key())];
-    for (m, k, w, axes, t) in SETS {
+    let mut cases = vec![default_case(), accepted("the default key as a file", 1, &default_key())];
+    for (runs, m, k, w, axes, t) in SETS {
         let set = Parameters::new(m, k, w, axes, t);
-        cases.push(accepted(&format!("set {m} {k} {w} {axes} {t}"), &valid_key(&mut random, &set)));
+        cases.push(accepted(&format!("set {m} {k} {w} {axes} {t}"), runs, &valid_key(&mut random, &set)));
     }
     cases.extend(refused_cases(&mut random));
+    cases.extend(UNREADABLE.map(|arguments| refused(10, arguments, String::new())));
+    cases.extend(["0", "33", "999"].map(|runs| refused(1, &[runs], String::new())));
     cases
 }
 
 fn default_case() -> Case {
-    Case { name: "empty input".to_string(), input: Vec::new(), expected: expected::text(&default_key()) }
+    let expected = expected::text(&default_key(), DEFAULT_RUNS);
+    Case { name: "empty input".to_string(), arguments: Vec::new(), input: Vec::new(), expected }
 }
 
-fn accepted(name: &str, key: &Key) -> Case {
-    Case { name: name.to_string(), input: key.to_text().into_bytes(), expected: expected::text(key) }
+fn accepted(name: &str, runs: usize, key: &Key) -> Case {
+    let (input, expected) = (key.to_text().into_bytes(), expected::text(key, runs));
+    Case { name: format!("{name}, {runs} runs"), arguments: vec![runs.to_string()], input, expected }
 }
 
-/// A key for each number, by the reference's listing, which refuses a text with the same numbers in the same order.
+/// A key for each number, by the reference's listing, which refuses a text with the same numbers in the same order; and each of
+/// them with a run count outside its limits, a 1, which stands behind 10 and before 2.
 fn refused_cases(random: &mut Random) -> Vec<Case> {
     let set = Parameters::new(12, 6, 4, 2, 2);
     let key = valid_key(random, &set);
@@ -65,11 +82,24 @@ fn refused_cases(random: &mut Random) -> Vec<Case> {
         (2, short.to_text()),
         (3, heavy.to_text()),
     ];
-    texts.into_iter().map(|(number, text)| refused(number, text)).collect()
+    let mut cases = vec![refused(1, &["0"], text.clone()), refused(10, &["1", "1"], text)];
+    for (number, text) in texts {
+        assert_eq!(listing(text.as_bytes()), refusal(number).into_bytes(), "the input was made to be refused");
+        cases.push(refused(if number == 10 { 10 } else { 1 }, &["33"], text.clone()));
+        cases.push(refused(number, &["2"], text));
+    }
+    cases
 }
 
-fn refused(number: u8, text: String) -> Case {
-    let expected = String::from_utf8(listing(text.as_bytes())).expect("a listing is text");
-    assert_eq!(expected, format!("refused\t{number}\n"), "the input was made to be refused");
-    Case { name: format!("a key refused with {number}"), input: text.into_bytes(), expected }
+fn refusal(number: u8) -> String {
+    format!("refused\t{number}\n")
+}
+
+fn refused(number: u8, arguments: &[&str], text: String) -> Case {
+    Case {
+        name: format!("refused with {number}, arguments {arguments:?}"),
+        arguments: arguments.iter().map(ToString::to_string).collect(),
+        input: text.into_bytes(),
+        expected: refusal(number),
+    }
 }

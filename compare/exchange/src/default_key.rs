@@ -17,10 +17,10 @@ pub fn expand(label: &str, length: usize) -> Vec<u8> {
     shake256(format!("Risvatey unlock: {label}").as_bytes(), length)
 }
 
-/// The leaf that stays hidden: the low D bits of one byte.
-pub fn leaf(parameters: &Parameters) -> u8 {
+/// The leaves that stay hidden: the low D bits of one byte a run.
+pub fn leaves(parameters: &Parameters, runs: usize) -> Vec<u8> {
     let last = u8::try_from(parameters.last_leaf()).expect("there are at most 256 leaves");
-    expand("leaf", 1)[0] & last
+    expand("leaf", runs).into_iter().map(|byte| byte & last).collect()
 }
 
 /// The key for an empty standard input.

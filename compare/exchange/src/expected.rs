@@ -1,6 +1,7 @@
-//! What `unlock` prints for a key: a line for the parameters, one for each message, the verdict, and what is proved.
+//! What `unlock` prints for a key: a line for the parameters, one for the run count, one for each message, the verdict, with
+//! an accepted one the chance of a prover without the key, and what is proved.
 
-use crate::default_key::{expand, leaf};
+use crate::default_key::{expand, leaves};
 use reference::keylist::to_hex;
 use reference::lent::Lent;
 use reference::numbers::{Number, CARRIED_OUT};
@@ -10,42 +11,48 @@ use reference::sampling::keys::Key;
 use reference::shake256::shake256;
 use reference::verifier::Verifier;
 
-const PROVED: &str = "proved\tthe messages are document 01's byte for byte; \
-                      accepted exactly when its three checks hold (docs/CLAIMS.md)\n";
+const PROVED: &str = "proved\tthe messages are document 01's and 02's byte for byte; \
+                      accepted exactly when the checks of every run hold (docs/CLAIMS.md)\n";
 
 /// The lines printed so far, and the work area that the calls are lent.
-struct Run<'a> {
+struct Program<'a> {
     key: &'a Key,
+    runs: usize,
     work: Vec<u8>,
     text: String,
 }
 
-/// All that is printed for a key that is not malformed.
-pub fn text(key: &Key) -> String {
-    let mut run = Run { key, work: vec![0; key.parameters.work_bytes()], text: String::new() };
+/// All that is printed for a key that is not malformed and a run count within its limits.
+pub fn text(key: &Key, runs: usize) -> String {
+    let mut program = Program { key, runs, work: vec![0; key.parameters.work_bytes()], text: String::new() };
     let mut prover = Prover::default();
-    let mut message_1 = vec![0; Parameters::MESSAGE_1_BYTES];
+    let mut message_1 = vec![0; Parameters::message_1_bytes(runs)];
     let (salt, root) = (expand("salt", 32), expand("root", 16));
-    if let Err(number) = done(prover.begin(key.parameters, &key.x_a, &salt, &root, run.lent(), &mut message_1)) {
+    let begun = prover.begin(key.parameters, runs, &key.x_a, &salt, &root, program.lent(), &mut message_1);
+    if let Err(number) = done(begun) {
         return format!("refused\t{number}\n");
     }
-    run.set();
-    run.message("1 commitment", &message_1);
-    let verdict = match run.exchange(&mut prover, &message_1) {
-        Ok(()) => "verdict\taccepted\n".to_string(),
+    program.set();
+    program.message("1 commitment", &message_1);
+    let verdict = match program.exchange(&mut prover, &message_1) {
+        Ok(()) => format!("verdict\taccepted\n{}", chance(runs * key.parameters.axes)),
         Err(number) => format!("verdict\trefused\t{number}\n"),
     };
-    run.text + &verdict + PROVED
+    program.text + &verdict + PROVED
 }
 
-impl Run<'_> {
+fn chance(exponent: usize) -> String {
+    format!("chance\t2^-{exponent}\tabout, that a prover without the key is accepted\n")
+}
+
+impl Program<'_> {
     fn lent(&mut self) -> Lent<'_> {
         Lent { matrix: &self.key.matrix, y: &self.key.y, work: &mut self.work }
     }
 
     fn set(&mut self) {
         let Parameters { m, k, w, axes, t } = self.key.parameters;
-        self.text += &format!("set\t{m}\t{k}\t{w}\t{axes}\t{t}\n");
+        self.text += &format!("set\t{m}\t{k}\t{w}\t{axes}\t{t}\nruns\t{}\n", self.runs);
     }
 
     fn message(&mut self, name: &str, message: &[u8]) {
@@ -54,21 +61,21 @@ impl Run<'_> {
 
     /// The calls from the verifier's begin to its verdict: the number of the first that refuses.
     fn exchange(&mut self, prover: &mut Prover, message_1: &[u8]) -> Result<(), Number> {
-        let parameters = self.key.parameters;
+        let (parameters, runs) = (self.key.parameters, self.runs);
         let mut verifier = Verifier::default();
-        done(verifier.begin(parameters, message_1))?;
-        let message_2 = expand("points", parameters.message_2_bytes());
+        done(verifier.begin(parameters, runs, message_1))?;
+        let message_2 = expand("points", parameters.message_2_bytes(runs));
         done(verifier.points(&message_2))?;
         self.message("2 points", &message_2);
-        let mut message_3 = vec![0; Parameters::MESSAGE_3_BYTES];
+        let mut message_3 = vec![0; Parameters::message_3_bytes(runs)];
         done(prover.points(&message_2, self.lent(), &mut message_3))?;
         self.message("3 response", &message_3);
         done(verifier.response(&message_3))?;
-        let hidden = leaf(&parameters);
-        done(verifier.leaf(hidden))?;
-        self.message("4 leaf", &[hidden]);
-        let mut message_5 = vec![0; parameters.message_5_bytes(usize::from(hidden))];
-        done(prover.leaf(hidden, self.lent(), &mut message_5))?;
+        let hidden = leaves(&parameters, runs);
+        done(verifier.leaf(&hidden))?;
+        self.message("4 leaf", &hidden);
+        let mut message_5 = vec![0; parameters.message_5_bytes(&hidden)];
+        done(prover.leaf(&hidden, self.lent(), &mut message_5))?;
         self.message("5 opening", &message_5);
         done(verifier.opening(&message_5, self.lent()))
     }

@@ -5,9 +5,9 @@
 //! exchange_comparison default
 //! ```
 //!
-//! The program is started once for each input, which it reads from standard input; what it prints must equal what is
-//! built here from the reference alone. Differences are printed, and the last line is 'N passed, M failed'. The second
-//! form prints what is expected for an empty input.
+//! The program is started once for each input, which it reads from standard input, with the arguments of that input; what it
+//! prints must equal what is built here from the reference alone. Differences are printed, and the last line is 'N passed, M
+//! failed'. The second form prints what is expected for an empty input without arguments.
 
 mod cases;
 mod default_key;
@@ -18,8 +18,8 @@ use std::io::{self, Write};
 use std::process::{Command, ExitCode, Stdio};
 
 /// What the program prints for an input.
-fn output(program: &str, input: &[u8]) -> io::Result<String> {
-    let mut child = Command::new(program).stdin(Stdio::piped()).stdout(Stdio::piped()).spawn()?;
+fn output(program: &str, arguments: &[String], input: &[u8]) -> io::Result<String> {
+    let mut child = Command::new(program).args(arguments).stdin(Stdio::piped()).stdout(Stdio::piped()).spawn()?;
     let mut standard_input = child.stdin.take().expect("standard input is piped");
     // A program may end before it has read all of its input, so a write that fails is no difference.
     drop(standard_input.write_all(input));
@@ -33,7 +33,7 @@ fn output(program: &str, input: &[u8]) -> io::Result<String> {
 
 /// Whether the program prints what is expected of a case; prints the difference if not.
 fn agrees(program: &str, case: &Case) -> bool {
-    match output(program, &case.input) {
+    match output(program, &case.arguments, &case.input) {
         Ok(found) if found == case.expected => true,
         Ok(found) => {
             println!("{}: expected\n{}found\n{found}", case.name, case.expected);
@@ -62,7 +62,7 @@ fn main() -> ExitCode {
     let arguments: Vec<String> = std::env::args().skip(1).collect();
     match &arguments[..] {
         [word] if word == "default" => {
-            print!("{}", expected::text(&default_key::default_key()));
+            print!("{}", expected::text(&default_key::default_key(), cases::DEFAULT_RUNS));
             ExitCode::SUCCESS
         }
         [seed, program] if seed.parse::<u64>().is_ok() => compare(seed.parse().unwrap_or_default(), program),

@@ -1,8 +1,8 @@
-//! Message 2: t points r, then t multipliers ε.
+//! Message 2, run after run: t points r, then t multipliers ε.
 
 use crate::points_field::{points_from_bytes, Point};
 
-/// The points and multipliers of an exchange.
+/// The points and multipliers of a run.
 #[derive(Clone, Debug, PartialEq, Eq)]
 pub struct Challenge {
     /// The points r, one a position.
@@ -12,9 +12,9 @@ pub struct Challenge {
 }
 
 impl Challenge {
-    /// The challenge that message 2 holds.
-    pub fn from_message(message_2: &[u8]) -> Challenge {
-        let mut points = points_from_bytes(message_2);
+    /// The challenge that a run's part of message 2 holds.
+    pub fn from_bytes(bytes: &[u8]) -> Challenge {
+        let mut points = points_from_bytes(bytes);
         let multipliers = points.split_off(points.len() / 2);
         Challenge { points, multipliers }
     }

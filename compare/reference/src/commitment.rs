@@ -7,8 +7,9 @@ use crate::messages::Opening;
 use crate::parameters::Parameters;
 use crate::parties::{Computation, Constants};
 use crate::points_field::Point;
+use crate::runs::Run;
 use crate::shares::{sum, Aux, Shares};
-use crate::strings::{axes_string, commitments_string, digest, Digest, Salt, Seed};
+use crate::strings::{axes_string, commitments_string, digest, Digest, Prefix};
 use crate::tree::Tree;
 
 /// What the shares of x_A, Q and P sum to.
@@ -31,20 +32,20 @@ impl Witness {
 }
 
 /// The aux with which the sums of x_A, Q and P are the witness and c = a·b at each position.
-pub fn fitting_aux(parameters: &Parameters, salt: &Salt, tree: &Tree, witness: &Witness) -> Aux {
-    let mut leaves = disclosed_leaves(parameters, salt, tree);
+pub fn fitting_aux(parameters: &Parameters, prefix: &Prefix, tree: &Tree, witness: &Witness) -> Aux {
+    let mut leaves = disclosed_leaves(parameters, prefix, tree);
     give_aux(parameters, &mut leaves, &Shares::zero(parameters).aux);
-    let shares: Vec<Shares> = leaves.iter().map(|leaf| leaf.shares(parameters, salt)).collect();
+    let shares: Vec<Shares> = leaves.iter().map(|leaf| leaf.shares(parameters, prefix)).collect();
     let total = sum(parameters, shares.iter());
     let product: Vec<Point> = total.a.iter().zip(&total.b).map(|(&a, &b)| a * b).collect();
     let wanted = Aux { x_a: witness.x_a.clone(), q: witness.q.clone(), p: witness.p.clone(), c: product };
     wanted.add(&total.aux)
 }
 
-/// All leaves of an exchange, as the prover has them.
+/// All leaves of a run, as the prover has them.
 pub struct Committed {
     parameters: Parameters,
-    salt: Salt,
+    prefix: Prefix,
     tree: Tree,
     aux: Aux,
     leaves: Vec<Leaf>,
@@ -53,18 +54,18 @@ pub struct Committed {
 
 impl Committed {
     /// The leaves of an honest prover.
-    pub fn new(parameters: &Parameters, salt: &Salt, root: &Seed, witness: &Witness) -> Committed {
-        let tree = Tree::from_root(parameters.axes, salt, root);
-        let aux = fitting_aux(parameters, salt, &tree, witness);
-        Committed::with_aux(parameters, salt, tree, aux)
+    pub fn new(parameters: &Parameters, run: &Run, witness: &Witness) -> Committed {
+        let tree = Tree::from_root(parameters.axes, &run.prefix, &run.root);
+        let aux = fitting_aux(parameters, &run.prefix, &tree, witness);
+        Committed::with_aux(parameters, &run.prefix, tree, aux)
     }
 
     /// The leaves of a whole tree with any aux.
-    pub fn with_aux(parameters: &Parameters, salt: &Salt, tree: Tree, aux: Aux) -> Committed {
-        let mut leaves = disclosed_leaves(parameters, salt, &tree);
+    pub fn with_aux(parameters: &Parameters, prefix: &Prefix, tree: Tree, aux: Aux) -> Committed {
+        let mut leaves = disclosed_leaves(parameters, prefix, &tree);
         give_aux(parameters, &mut leaves, &aux);
-        let commitments = leaves.iter().map(|leaf| digest(&leaf.string(salt))).collect();
-        Committed { parameters: *parameters, salt: *salt, tree, aux, leaves, commitments }
+        let commitments = leaves.iter().map(|leaf| digest(&leaf.string(prefix))).collect();
+        Committed { parameters: *parameters, prefix: *prefix, tree, aux, leaves, commitments }
     }
 
     /// Leaves 0 to n−1.
@@ -74,23 +75,22 @@ impl Committed {
 
     /// h, the digest of all leaf commitments.
     pub fn h(&self) -> Digest {
-        digest(&commitments_string(&self.salt, &self.commitments))
+        digest(&commitments_string(&self.prefix, &self.commitments))
     }
 
     /// h', the digest of the digests of all axes, under a key as lent.
-    pub fn response(&self, message_2: &[u8], key: PublicKey) -> Digest {
-        let leaves = numbered_shares(&self.parameters, &self.salt, &self.leaves);
-        let challenge = Challenge::from_message(message_2);
-        let axes = Computation::new(&self.parameters, key, &challenge).axes(&leaves, None);
-        let digests: Vec<Digest> = axes.iter().map(|axis| digest(&axis.string(&self.salt))).collect();
-        digest(&axes_string(&self.salt, &digests))
+    pub fn response(&self, challenge: &Challenge, key: PublicKey) -> Digest {
+        let leaves = numbered_shares(&self.parameters, &self.prefix, &self.leaves);
+        let axes = Computation::new(&self.parameters, key, challenge).axes(&leaves, None);
+        let digests: Vec<Digest> = axes.iter().map(|axis| digest(&axis.string(&self.prefix))).collect();
+        digest(&axes_string(&self.prefix, &digests))
     }
 
     /// The opening of all leaves but one, under a key as lent.
-    pub fn opening(&self, message_2: &[u8], leaf: usize, key: PublicKey) -> Opening {
-        let challenge = Challenge::from_message(message_2);
-        let shares = self.leaves[leaf].shares(&self.parameters, &self.salt);
-        let computation = Computation::new(&self.parameters, key, &challenge);
+    pub fn opening(&self, challenge: &Challenge, leaf: u8, key: PublicKey) -> Opening {
+        let leaf = usize::from(leaf);
+        let shares = self.leaves[leaf].shares(&self.parameters, &self.prefix);
+        let computation = Computation::new(&self.parameters, key, challenge);
         Opening {
             siblings: self.tree.siblings(leaf),
             commitment: self.commitments[leaf],

@@ -2,7 +2,7 @@
 
 use crate::parameters::Parameters;
 use crate::shares::{Aux, Shares};
-use crate::strings::{leaf_string, seed_and_rho, share_stream, Salt, Seed};
+use crate::strings::{leaf_string, seed_and_rho, share_stream, Prefix, Seed};
 use crate::tree::Tree;
 
 /// A disclosed leaf: its number, seed, rho, and aux if it is leaf n−1.
@@ -25,14 +25,14 @@ pub fn coordinate(leaf: usize, axis: usize) -> usize {
 
 impl Leaf {
     /// A leaf from its node's seed, without aux.
-    pub fn from_node_seed(salt: &Salt, number: usize, node_seed: &Seed) -> Leaf {
-        let (seed, rho) = seed_and_rho(salt, number, node_seed);
+    pub fn from_node_seed(prefix: &Prefix, number: usize, node_seed: &Seed) -> Leaf {
+        let (seed, rho) = seed_and_rho(prefix, number, node_seed);
         Leaf { number, seed, rho, aux: None }
     }
 
     /// The shares: all from layer 3, or with aux only a and b.
-    pub fn shares(&self, parameters: &Parameters, salt: &Salt) -> Shares {
-        let stream = |length| share_stream(salt, self.number, &self.seed, length);
+    pub fn shares(&self, parameters: &Parameters, prefix: &Prefix) -> Shares {
+        let stream = |length| share_stream(prefix, self.number, &self.seed, length);
         match &self.aux {
             None => Shares::from_bytes(parameters, &stream(parameters.share_bytes())),
             Some(aux) => {
@@ -43,15 +43,15 @@ impl Leaf {
     }
 
     /// The layer 4 string.
-    pub fn string(&self, salt: &Salt) -> Vec<u8> {
+    pub fn string(&self, prefix: &Prefix) -> Vec<u8> {
         let aux = self.aux.as_ref().map(Aux::to_bytes).unwrap_or_default();
-        leaf_string(salt, self.number, &self.seed, &self.rho, &aux)
+        leaf_string(prefix, self.number, &self.seed, &self.rho, &aux)
     }
 }
 
 /// The leaves that a tree discloses, ascending, without aux.
-pub fn disclosed_leaves(parameters: &Parameters, salt: &Salt, tree: &Tree) -> Vec<Leaf> {
-    let disclosed = |number| tree.leaf_seed(number).map(|seed| Leaf::from_node_seed(salt, number, &seed));
+pub fn disclosed_leaves(parameters: &Parameters, prefix: &Prefix, tree: &Tree) -> Vec<Leaf> {
+    let disclosed = |number| tree.leaf_seed(number).map(|seed| Leaf::from_node_seed(prefix, number, &seed));
     (0..parameters.leaves()).filter_map(disclosed).collect()
 }
 
@@ -63,6 +63,6 @@ pub fn give_aux(parameters: &Parameters, leaves: &mut [Leaf], aux: &Aux) {
 }
 
 /// The number and the shares of each of these leaves.
-pub fn numbered_shares(parameters: &Parameters, salt: &Salt, leaves: &[Leaf]) -> Vec<(usize, Shares)> {
-    leaves.iter().map(|leaf| (leaf.number, leaf.shares(parameters, salt))).collect()
+pub fn numbered_shares(parameters: &Parameters, prefix: &Prefix, leaves: &[Leaf]) -> Vec<(usize, Shares)> {
+    leaves.iter().map(|leaf| (leaf.number, leaf.shares(parameters, prefix))).collect()
 }

@@ -1,9 +1,10 @@
-//! A second implementation of document 01, written from the paper, FIPS 202 and the decisions on calls of
-//! docs/DECISIONS.md, with which the proved library is compared. It favours the plainest form of each definition over speed, and where document 01 allows
-//! several ways it takes another one than tables of logarithms, tables of round constants or Newton's slopes.
+//! A second implementation of documents 01 and 02, written from the papers, FIPS 202 and the decisions on calls of
+//! docs/DECISIONS.md, with which the proved library is compared. It favours the plainest form of each definition over
+//! speed, and where document 01 allows several ways it takes another one than tables of logarithms, tables of round
+//! constants or Newton's slopes.
 //!
-//! Bottom up: fields and polynomials, the key, the strings hashed, leaves and parties, messages, sessions, extractor,
-//! key listing. `sampling` draws keys, exchanges and damaged ones for the comparisons.
+//! Bottom up: fields and polynomials, the key, the strings hashed, leaves and parties of a run, messages of all runs,
+//! sessions, extractor, key listing. `sampling` draws keys, exchanges and damaged ones for the comparisons.
 
 #![forbid(unsafe_code)]
 #![warn(missing_docs)]
@@ -20,6 +21,7 @@ pub mod stand_in;
 pub mod key;
 pub mod numbers;
 pub mod parameters;
+pub mod runs;
 
 pub mod leaves;
 pub mod shares;

@@ -5,24 +5,24 @@ pub type Number = u8;
 
 /// The call was carried out; from an opening, it was accepted.
 pub const CARRIED_OUT: Number = 0;
-/// A parameter is outside its limits.
+/// A parameter or the run count is outside its limits.
 pub const PARAMETER_OUTSIDE_LIMITS: Number = 1;
 /// A lent slice has a wrong length.
 pub const WRONG_LENGTH: Number = 2;
 /// x has more than w nonzero entries.
 pub const OVERWEIGHT: Number = 3;
-/// The leaf number is not below n.
+/// The leaf number of some run is not below n.
 pub const LEAF_NOT_BELOW_N: Number = 4;
-/// The recomputed h differs from message 1's.
+/// The recomputed h of the lowest refused run differs from message 1's.
 pub const COMMITMENT_DIFFERS: Number = 5;
 /// The sums of α, β or v differ between axes. Unused since request 05: they never do, and no call answers it.
 pub const SUMS_DIFFER: Number = 6;
-/// The recomputed h' differs from message 3's.
+/// The recomputed h' of the lowest refused run differs from message 3's.
 pub const RESPONSE_DIFFERS: Number = 7;
 /// Extractor: salt, h, points, multipliers or h' differ.
 pub const EXCHANGES_DIFFER: Number = 8;
-/// Extractor: both openings hide the same leaf.
-pub const SAME_HIDDEN_LEAF: Number = 9;
+/// Extractor: both openings hide the same leaf in every run.
+pub const SAME_HIDDEN_LEAVES: Number = 9;
 /// Program: wrong word, field count, digits or hex, or a line missing or left over.
 pub const MALFORMED_TEXT: Number = 10;
 /// The call is not due.

@@ -1,6 +1,6 @@
 //! The five parameters, their limits, and every length that follows from them.
 
-use crate::numbers::{require, Number, PARAMETER_OUTSIDE_LIMITS};
+use crate::numbers::{require, Number, LEAF_NOT_BELOW_N, PARAMETER_OUTSIDE_LIMITS};
 use crate::points_field::POINT_BYTES;
 use crate::strings::{DIGEST_BYTES, SALT_BYTES, SEED_BYTES};
 
@@ -89,29 +89,56 @@ impl Parameters {
         2 * self.axes * self.share_bytes()
     }
 
-    /// Bytes of message 1: salt and h.
-    pub const MESSAGE_1_BYTES: usize = SALT_BYTES + DIGEST_BYTES;
-
-    /// Bytes of message 2: t points and t multipliers.
-    pub fn message_2_bytes(&self) -> usize {
+    /// Bytes of a run's part of message 2: t points and t multipliers.
+    pub fn challenge_bytes(&self) -> usize {
         2 * self.position_bytes()
     }
 
-    /// Bytes of message 3: h'.
-    pub const MESSAGE_3_BYTES: usize = DIGEST_BYTES;
-
-    /// Bytes of message 5 for a hidden leaf; for a leaf not below n the longer length counts.
-    pub fn message_5_bytes(&self, leaf: usize) -> usize {
+    /// Bytes of a run's part of message 5 for its hidden leaf; for a leaf not below n the longer length counts.
+    pub fn opening_bytes(&self, leaf: u8) -> usize {
         let shorter = SEED_BYTES * self.axes + DIGEST_BYTES + 2 * self.position_bytes();
-        if leaf == self.last_leaf() {
+        if usize::from(leaf) == self.last_leaf() {
             shorter
         } else {
             shorter + self.aux_bytes()
         }
     }
 
-    /// Bytes of the extractor's output: 32n + k + 2w + 4t.
-    pub fn extractor_bytes(&self) -> usize {
+    /// Bytes of a run's part of the extractor's output: 32n + k + 2w + 4t.
+    pub fn states_bytes(&self) -> usize {
         2 * SEED_BYTES * self.leaves() + self.aux_bytes()
+    }
+}
+
+/// Lengths of what an exchange of several runs sends and gives.
+impl Parameters {
+    /// Bytes of message 1: the salt, and h of each run.
+    pub fn message_1_bytes(runs: usize) -> usize {
+        SALT_BYTES + DIGEST_BYTES * runs
+    }
+
+    /// Bytes of message 2: points and multipliers of each run.
+    pub fn message_2_bytes(&self, runs: usize) -> usize {
+        self.challenge_bytes() * runs
+    }
+
+    /// Bytes of message 3: h' of each run.
+    pub fn message_3_bytes(runs: usize) -> usize {
+        DIGEST_BYTES * runs
+    }
+
+    /// Bytes of message 5: the opening of each run, as its leaf gives it.
+    pub fn message_5_bytes(&self, leaves: &[u8]) -> usize {
+        leaves.iter().map(|&leaf| self.opening_bytes(leaf)).sum()
+    }
+
+    /// Bytes of the extractor's output: a part for each run.
+    pub fn extractor_bytes(&self, runs: usize) -> usize {
+        self.states_bytes() * runs
+    }
+
+    /// Refuses with 4 unless every leaf is below n.
+    pub fn check_leaves(&self, leaves: &[u8]) -> Result<(), Number> {
+        require(leaves.iter().all(|&leaf| usize::from(leaf) < self.leaves()), LEAF_NOT_BELOW_N)
     }
 }

@@ -8,7 +8,7 @@ use crate::parameters::Parameters;
 use crate::points_field::{add_points, points_to_bytes, Point};
 use crate::polynomial::evaluate_at_point;
 use crate::shares::{sum, Shares};
-use crate::strings::{axis_string, Salt};
+use crate::strings::{axis_string, Prefix};
 
 /// The parties of an axis, by the coordinate of their leaves.
 const PARTIES: [usize; 2] = [1, 2];
@@ -88,8 +88,8 @@ impl Axis {
     }
 
     /// The layer 6 string.
-    pub fn string(&self, salt: &Salt) -> Vec<u8> {
-        axis_string(salt, self.number, &self.parties[0].to_bytes(), &self.parties[1].to_bytes())
+    pub fn string(&self, prefix: &Prefix) -> Vec<u8> {
+        axis_string(prefix, self.number, &self.parties[0].to_bytes(), &self.parties[1].to_bytes())
     }
 }
 

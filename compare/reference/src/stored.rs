@@ -32,6 +32,11 @@ pub fn padded<const LENGTH: usize>(bytes: &[u8]) -> [u8; LENGTH] {
     part
 }
 
+/// Writes bytes at the front of a longer part and leaves what is behind them.
+pub fn write_front(part: &mut [u8], bytes: &[u8]) {
+    part[..bytes.len()].copy_from_slice(bytes);
+}
+
 /// The byte of a phase in a list of them.
 pub fn byte_of<Phase: Copy + PartialEq>(phases: &[(Phase, u8)], phase: Phase) -> u8 {
     phases.iter().find(|(other, _)| *other == phase).expect("every phase is in the list").1

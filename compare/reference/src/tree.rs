@@ -1,6 +1,6 @@
 //! The seed tree: root is node 1, node v has the children 2v and 2v+1, leaf i is node n+i.
 
-use crate::strings::{children, Salt, Seed};
+use crate::strings::{children, Prefix, Seed};
 
 /// The seeds known of a tree, by node number.
 pub struct Tree {
@@ -16,17 +16,17 @@ pub fn sibling_nodes(axes: usize, leaf: usize) -> Vec<usize> {
 
 impl Tree {
     /// The whole tree below a root seed.
-    pub fn from_root(axes: usize, salt: &Salt, root: &Seed) -> Tree {
-        Tree::from_nodes(axes, salt, &[(1, *root)])
+    pub fn from_root(axes: usize, prefix: &Prefix, root: &Seed) -> Tree {
+        Tree::from_nodes(axes, prefix, &[(1, *root)])
     }
 
     /// All of a tree but the way to the hidden leaf, from the sibling seeds of an opening.
-    pub fn from_siblings(axes: usize, salt: &Salt, hidden: usize, siblings: &[Seed]) -> Tree {
+    pub fn from_siblings(axes: usize, prefix: &Prefix, hidden: usize, siblings: &[Seed]) -> Tree {
         let nodes: Vec<_> = sibling_nodes(axes, hidden).into_iter().zip(siblings.iter().copied()).collect();
-        Tree::from_nodes(axes, salt, &nodes)
+        Tree::from_nodes(axes, prefix, &nodes)
     }
 
-    fn from_nodes(axes: usize, salt: &Salt, nodes: &[(usize, Seed)]) -> Tree {
+    fn from_nodes(axes: usize, prefix: &Prefix, nodes: &[(usize, Seed)]) -> Tree {
         let leaves = 1 << axes;
         let mut seeds = vec![None; 2 * leaves];
         for &(node, seed) in nodes {
@@ -34,7 +34,7 @@ impl Tree {
         }
         for node in 1..leaves {
             if let Some(seed) = seeds[node] {
-                let (left, right) = children(salt, node, &seed);
+                let (left, right) = children(prefix, node, &seed);
                 seeds[2 * node] = Some(left);
                 seeds[2 * node + 1] = Some(right);
             }

@@ -1,17 +1,23 @@
 //! The verifier's session: begin, points, response, leaf, and the opening that closes it.
 //!
 //! A session may be damaged where it is stored. It fails closed: one that is not fresh counts as closed if its parameters
-//! are outside their limits or its leaf is not below n.
+//! or its run count are outside their limits or a leaf of its runs is not below n.
 
 use crate::check::check;
 use crate::lent::Lent;
 use crate::messages::Messages;
-use crate::numbers::{number_of, require, Number, CLOSED, LEAF_NOT_BELOW_N, NOT_DUE, WRONG_LENGTH};
+use crate::numbers::{number_of, require, Number, CLOSED, NOT_DUE, WRONG_LENGTH};
 use crate::parameters::Parameters;
-use crate::stored::{byte_of, padded, phase_of, Reader};
+use crate::runs::{check_run_count, GREATEST_RUNS};
+use crate::stored::{byte_of, padded, phase_of, write_front, Reader};
+use crate::strings::{number_byte, DIGEST_BYTES, SALT_BYTES};
 
-/// The bytes that a session has for message 2: past 8t they are zeros.
-const MESSAGE_2_BYTES: usize = 64;
+/// The bytes that a session has for message 1: past 32 and 32 a run they are zeros.
+const MESSAGE_1_BYTES: usize = SALT_BYTES + DIGEST_BYTES * GREATEST_RUNS;
+/// The bytes that a session has for message 2: past 8t a run they are zeros.
+const MESSAGE_2_BYTES: usize = 64 * GREATEST_RUNS;
+/// The bytes that a session has for message 3: past 32 a run they are zeros.
+const MESSAGE_3_BYTES: usize = DIGEST_BYTES * GREATEST_RUNS;
 
 /// Which call is due besides begin.
 #[derive(Clone, Copy, Debug, PartialEq, Eq)]
@@ -41,10 +47,11 @@ impl Phase {
 pub struct Verifier {
     phase: Phase,
     parameters: Parameters,
-    message_1: [u8; Parameters::MESSAGE_1_BYTES],
+    runs: usize,
+    message_1: [u8; MESSAGE_1_BYTES],
     message_2: [u8; MESSAGE_2_BYTES],
-    message_3: [u8; Parameters::MESSAGE_3_BYTES],
-    leaf: u8,
+    message_3: [u8; MESSAGE_3_BYTES],
+    leaves: [u8; GREATEST_RUNS],
 }
 
 impl Default for Verifier {
@@ -52,18 +59,19 @@ impl Default for Verifier {
         Verifier {
             phase: Phase::Fresh,
             parameters: Parameters::new(0, 0, 0, 0, 0),
-            message_1: [0; Parameters::MESSAGE_1_BYTES],
+            runs: 0,
+            message_1: [0; MESSAGE_1_BYTES],
             message_2: [0; MESSAGE_2_BYTES],
-            message_3: [0; Parameters::MESSAGE_3_BYTES],
-            leaf: 0,
+            message_3: [0; MESSAGE_3_BYTES],
+            leaves: [0; GREATEST_RUNS],
         }
     }
 }
 
 impl Verifier {
-    /// Starts an exchange with message 1.
-    pub fn begin(&mut self, parameters: Parameters, message_1: &[u8]) -> Number {
-        number_of(self.try_begin(parameters, message_1))
+    /// Starts an exchange of so many runs with message 1.
+    pub fn begin(&mut self, parameters: Parameters, runs: usize, message_1: &[u8]) -> Number {
+        number_of(self.try_begin(parameters, runs, message_1))
     }
 
     /// Takes message 2, which the verifier's side has drawn.
@@ -77,42 +85,45 @@ impl Verifier {
     }
 
     /// Takes message 4, which the verifier's side has drawn.
-    pub fn leaf(&mut self, leaf: u8) -> Number {
-        number_of(self.try_leaf(leaf))
+    pub fn leaf(&mut self, leaves: &[u8]) -> Number {
+        number_of(self.try_leaf(leaves))
     }
 
-    /// Takes message 5 and closes with accepted, 5 or 7.
+    /// Takes message 5 and closes with accepted, or with 5 or 7 of the lowest refused run.
     pub fn opening(&mut self, message_5: &[u8], lent: Lent) -> Number {
         number_of(self.try_opening(message_5, lent))
     }
 
-    fn try_begin(&mut self, parameters: Parameters, message_1: &[u8]) -> Result<(), Number> {
+    fn try_begin(&mut self, parameters: Parameters, runs: usize, message_1: &[u8]) -> Result<(), Number> {
         parameters.check()?;
-        require(message_1.len() == Parameters::MESSAGE_1_BYTES, WRONG_LENGTH)?;
-        *self = Verifier { phase: Phase::Points, parameters, message_1: padded(message_1), ..Verifier::default() };
+        check_run_count(runs)?;
+        require(message_1.len() == Parameters::message_1_bytes(runs), WRONG_LENGTH)?;
+        let message_1 = padded(message_1);
+        *self = Verifier { phase: Phase::Points, parameters, runs, message_1, ..Verifier::default() };
         Ok(())
     }
 
     fn try_points(&mut self, message_2: &[u8]) -> Result<(), Number> {
         self.require_due(Phase::Points)?;
-        require(message_2.len() == self.parameters.message_2_bytes(), WRONG_LENGTH)?;
-        self.message_2 = padded(message_2);
+        require(message_2.len() == self.parameters.message_2_bytes(self.runs), WRONG_LENGTH)?;
+        write_front(&mut self.message_2, message_2);
         self.phase = Phase::Response;
         Ok(())
     }
 
     fn try_response(&mut self, message_3: &[u8]) -> Result<(), Number> {
         self.require_due(Phase::Response)?;
-        require(message_3.len() == Parameters::MESSAGE_3_BYTES, WRONG_LENGTH)?;
-        self.message_3 = padded(message_3);
+        require(message_3.len() == Parameters::message_3_bytes(self.runs), WRONG_LENGTH)?;
+        write_front(&mut self.message_3, message_3);
         self.phase = Phase::Leaf;
         Ok(())
     }
 
-    fn try_leaf(&mut self, leaf: u8) -> Result<(), Number> {
+    fn try_leaf(&mut self, leaves: &[u8]) -> Result<(), Number> {
         self.require_due(Phase::Leaf)?;
-        require(usize::from(leaf) < self.parameters.leaves(), LEAF_NOT_BELOW_N)?;
-        self.leaf = leaf;
+        require(leaves.len() == self.runs, WRONG_LENGTH)?;
+        self.parameters.check_leaves(leaves)?;
+        write_front(&mut self.leaves, leaves);
         self.phase = Phase::Opening;
         Ok(())
     }
@@ -120,13 +131,13 @@ impl Verifier {
     fn try_opening(&mut self, message_5: &[u8], mut lent: Lent) -> Result<(), Number> {
         self.require_due(Phase::Opening)?;
         let messages = Messages {
-            message_1: &self.message_1,
-            message_2: &self.message_2[..self.parameters.message_2_bytes()],
-            message_3: &self.message_3,
-            leaf: self.leaf,
+            message_1: &self.message_1[..Parameters::message_1_bytes(self.runs)],
+            message_2: &self.message_2[..self.parameters.message_2_bytes(self.runs)],
+            message_3: &self.message_3[..Parameters::message_3_bytes(self.runs)],
+            leaves: &self.leaves[..self.runs],
             message_5,
         };
-        messages.check(&self.parameters)?;
+        messages.check(&self.parameters, self.runs)?;
         lent.check(&self.parameters)?;
         let outcome = check(&self.parameters, lent.key(), &messages);
         lent.clear_work(&self.parameters);
@@ -136,7 +147,9 @@ impl Verifier {
 
     /// Whether what is held can come from calls.
     fn intact(&self) -> bool {
-        self.parameters.check().is_ok() && usize::from(self.leaf) < self.parameters.leaves()
+        self.parameters.check().is_ok()
+            && check_run_count(self.runs).is_ok()
+            && self.parameters.check_leaves(&self.leaves[..self.runs]).is_ok()
     }
 
     /// Refuses with 12 if the session is closed or damaged, and with 11 if another call is due.
@@ -146,11 +159,11 @@ impl Verifier {
         require(self.phase == phase, NOT_DUE)
     }
 
-    /// The session as it is stored: phase, m, k, w, D, t, messages 1 to 3, leaf.
+    /// The session as it is stored: phase, m, k, w, D, t, run count, messages 1 to 4.
     pub fn to_bytes(&self) -> Vec<u8> {
         let phase = [byte_of(&Phase::BYTES, self.phase)];
-        let parameters = self.parameters.to_bytes();
-        [&phase[..], &parameters, &self.message_1, &self.message_2, &self.message_3, &[self.leaf]].concat()
+        let numbers = [&self.parameters.to_bytes()[..], &[number_byte(self.runs)]].concat();
+        [&phase[..], &numbers, &self.message_1, &self.message_2, &self.message_3, &self.leaves].concat()
     }
 
     /// The session that stored bytes stand for; a byte that is no phase reads as closed.
@@ -159,10 +172,11 @@ impl Verifier {
         Verifier {
             phase: phase_of(&Phase::BYTES, reader.byte(), Phase::Closed),
             parameters: Parameters::from_bytes(reader.array()),
+            runs: usize::from(reader.byte()),
             message_1: reader.array(),
             message_2: reader.array(),
             message_3: reader.array(),
-            leaf: reader.byte(),
+            leaves: reader.array(),
         }
     }
 }

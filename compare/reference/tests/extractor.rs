@@ -1,41 +1,35 @@
 //! The extractor: states from rewound exchanges, the relation that they satisfy, the unequal pairs and the refusals.
 
-use reference::challenge::Challenge;
 use reference::check::OpeningStrings;
 use reference::commitment::Witness;
-use reference::extractor::{first_differing_axis, first_unequal_pair, Answer};
+use reference::extractor::{differing_runs, first_differing_axis, first_unequal_pair, Answer};
 use reference::leaves::Leaf;
+use reference::messages::{part, RunMessages};
 use reference::numbers::*;
 use reference::parameters::Parameters;
 use reference::points_field::Point;
+use reference::runs::Run;
 use reference::sampling::calls::{ExtractorCall, LentBytes};
 use reference::sampling::damage::flip_bit;
 use reference::sampling::exchanges::{extraction, honest_exchange, random_message_2, Exchange, Start};
 use reference::sampling::keys::{valid_key, Key};
+use reference::sampling::made_up::two_leaf_lists;
 use reference::sampling::parameter_sets::{extreme_sets, random_set};
 use reference::sampling::simulated::{relation_gap, PointsFirst};
 use reference::sampling::Random;
 use reference::shares::{sum, Aux, Shares};
-use reference::strings::{front, Salt, Seed};
+use reference::strings::{front, Prefix, Seed};
 use reference::tree::Tree;
 
-/// Two different leaves.
-fn two_leaves(random: &mut Random, set: &Parameters) -> (u8, u8) {
-    let first = random.below(set.leaves());
-    let second = (first + random.between(1, set.last_leaf())) % set.leaves();
-    (first as u8, second as u8)
-}
-
 /// Two openings of one honest exchange, with its key and start.
-fn rewound(random: &mut Random, set: &Parameters) -> (Key, Start, Exchange, Exchange) {
+fn rewound(random: &mut Random, set: &Parameters, runs: usize) -> (Key, Start, Exchange, Exchange) {
     let key = valid_key(random, set);
-    let start = Start::random(random, set);
-    let (first, second) = two_leaves(random, set);
-    let exchanges = (honest_exchange(&key, &start, first), honest_exchange(&key, &start, second));
-    (key, start, exchanges.0, exchanges.1)
+    let start = Start::random(random, set, runs);
+    let [first, second] = two_leaf_lists(random, set, runs).map(|leaves| honest_exchange(&key, &start, &leaves));
+    (key, start, first, second)
 }
 
-/// The leaves whose states an output holds.
+/// The leaves whose states a run's part of an output holds.
 fn leaves_of_output(set: &Parameters, output: &[u8]) -> Vec<Leaf> {
     let (states, aux) = output.split_at(32 * set.leaves());
     let leaf = |(number, state): (usize, &[u8])| Leaf {
@@ -47,37 +41,51 @@ fn leaves_of_output(set: &Parameters, output: &[u8]) -> Vec<Leaf> {
     states.chunks_exact(32).enumerate().map(leaf).collect()
 }
 
-/// The sum of the shares of all leaves of an output.
-fn summed_shares(set: &Parameters, salt: &Salt, output: &[u8]) -> Shares {
-    let shares: Vec<Shares> = leaves_of_output(set, output).iter().map(|leaf| leaf.shares(set, salt)).collect();
+/// The sum of the shares of all leaves of a run.
+fn summed_shares(set: &Parameters, prefix: &Prefix, output: &[u8]) -> Shares {
+    let shares: Vec<Shares> = leaves_of_output(set, output).iter().map(|leaf| leaf.shares(set, prefix)).collect();
     sum(set, shares.iter())
 }
 
-/// Demand 3's relation: ε(SQ − PF)(r) = c − ab at each position.
-fn assert_relation(set: &Parameters, key: &Key, exchange: &Exchange, output: &[u8]) {
-    let total = summed_shares(set, &exchange.messages().salt(), output);
+/// Demand 3's relation in a run: ε(SQ − PF)(r) = c − ab at each position.
+fn assert_relation(set: &Parameters, key: &Key, run: &RunMessages, output: &[u8]) {
+    let total = summed_shares(set, &run.prefix, output);
     let witness = Witness { x_a: total.aux.x_a.clone(), q: total.aux.q.clone(), p: total.aux.p.clone() };
-    let gap = relation_gap(set, key.public(), &witness, &Challenge::from_message(&exchange.message_2));
+    let gap = relation_gap(set, key.public(), &witness, &run.challenge);
     let difference: Vec<Point> = (0..set.t).map(|l| total.aux.c[l] + total.a[l] * total.b[l]).collect();
     assert_eq!(gap, difference);
 }
 
-fn assert_honest_extraction(random: &mut Random, set: &Parameters) {
-    let (key, start, first, second) = rewound(random, set);
-    let (answer, output) = extraction(set, key.public(), &first, &second);
-    let axis = (first.leaf ^ second.leaf).trailing_zeros() as u8 + 1;
-    assert_eq!(answer, Answer::Extracted { axis }, "{set:?}");
-    assert_eq!(summed_shares(set, &start.salt, &output).aux.x_a, key.x_a);
-    assert_eq!(leaves_of_output(set, &output), leaves_of_start(set, &start, &output));
-    assert_relation(set, &key, &first, &output);
+/// The answer to two accepted openings.
+fn extracted(first: &Exchange, second: &Exchange) -> Answer {
+    let run = (0..first.runs()).find(|&run| first.leaves[run] != second.leaves[run]).expect("a run differs");
+    let axis = (first.leaves[run] ^ second.leaves[run]).trailing_zeros() as u8 + 1;
+    Answer::Extracted { run: run as u8, axis }
 }
 
-/// The leaves from the root seed; aux is taken from the output, since it is not the tree that gives it.
-fn leaves_of_start(set: &Parameters, start: &Start, output: &[u8]) -> Vec<Leaf> {
-    let tree = Tree::from_root(set.axes, &start.salt, &start.root);
+fn assert_honest_extraction(random: &mut Random, set: &Parameters, runs: usize) {
+    let (key, start, first, second) = rewound(random, set, runs);
+    let (answer, output) = extraction(set, key.public(), &first, &second);
+    assert_eq!(answer, extracted(&first, &second), "{set:?}");
+    for number in 0..runs {
+        let output = part(&output, number, set.states_bytes());
+        if first.leaves[number] == second.leaves[number] {
+            assert!(output.iter().all(|&byte| byte == 0xa5));
+            continue;
+        }
+        let run = Run::new(&start.salt, number, &start.root);
+        assert_eq!(summed_shares(set, &run.prefix, output).aux.x_a, key.x_a);
+        assert_eq!(leaves_of_output(set, output), leaves_of_run(set, &run, output));
+        assert_relation(set, &key, &first.messages().run(set, number), output);
+    }
+}
+
+/// The leaves from a run's root seed; aux is taken from the output, since it is not the tree that gives it.
+fn leaves_of_run(set: &Parameters, run: &Run, output: &[u8]) -> Vec<Leaf> {
+    let tree = Tree::from_root(set.axes, &run.prefix, &run.root);
     let node_seed = |leaf| -> Seed { tree.leaf_seed(leaf).expect("a tree made from its root has every leaf") };
     let mut leaves: Vec<Leaf> =
-        (0..set.leaves()).map(|leaf| Leaf::from_node_seed(&start.salt, leaf, &node_seed(leaf))).collect();
+        (0..set.leaves()).map(|leaf| Leaf::from_node_seed(&run.prefix, leaf, &node_seed(leaf))).collect();
     leaves[set.last_leaf()].aux = Some(Aux::from_bytes(set, &output[32 * set.leaves()..]));
     leaves
 }
@@ -87,7 +95,19 @@ fn rewound_exchanges_give_the_states() {
     let mut random = Random::new(40);
     for _ in 0..80 {
         let set = random_set(&mut random, 24, 4);
-        assert_honest_extraction(&mut random, &set);
+        let runs = random.between(1, 3);
+        assert_honest_extraction(&mut random, &set, runs);
+    }
+}
+
+#[test]
+fn rewound_exchanges_of_several_runs() {
+    let mut random = Random::new(46);
+    for runs in [1, 2, 5, 32] {
+        for _ in 0..4 {
+            let set = random_set(&mut random, 12, 3);
+            assert_honest_extraction(&mut random, &set, runs);
+        }
     }
 }
 
@@ -95,7 +115,7 @@ fn rewound_exchanges_give_the_states() {
 fn rewound_exchanges_at_extreme_parameters() {
     let mut random = Random::new(41);
     for set in extreme_sets() {
-        assert_honest_extraction(&mut random, &set);
+        assert_honest_extraction(&mut random, &set, 1);
     }
 }
 
@@ -104,14 +124,13 @@ fn every_pair_of_leaves_gives_the_same_states() {
     let mut random = Random::new(42);
     let set = Parameters::new(7, 3, 2, 3, 2);
     let key = valid_key(&mut random, &set);
-    let start = Start::random(&mut random, &set);
-    let exchanges: Vec<Exchange> = (0..8).map(|leaf| honest_exchange(&key, &start, leaf)).collect();
+    let start = Start::random(&mut random, &set, 1);
+    let exchanges: Vec<Exchange> = (0..8).map(|leaf| honest_exchange(&key, &start, &[leaf])).collect();
     let (_, states) = extraction(&set, key.public(), &exchanges[0], &exchanges[1]);
     for first in &exchanges {
-        for second in exchanges.iter().filter(|second| second.leaf != first.leaf) {
+        for second in exchanges.iter().filter(|second| second.leaves != first.leaves) {
             let (answer, output) = extraction(&set, key.public(), first, second);
-            let axis = first_differing_axis(first.leaf, second.leaf);
-            assert_eq!((answer, &output), (Answer::Extracted { axis }, &states));
+            assert_eq!((answer, &output), (extracted(first, second), &states));
         }
     }
 }
@@ -122,13 +141,16 @@ fn message_2_known_beforehand_gives_states_with_the_relation() {
     for _ in 0..60 {
         let set = random_set(&mut random, 24, 4);
         let key = valid_key(&mut random, &set);
-        let message_2 = random_message_2(&mut random, &set);
+        let runs = random.between(1, 3);
+        let message_2 = random_message_2(&mut random, &set, runs);
         let prover = PointsFirst::new(&mut random, &set, key.public(), &message_2);
-        let (first, second) = two_leaves(&mut random, &set);
-        let (first, second) = (prover.exchange(first), prover.exchange(second));
+        let [first, second] = two_leaf_lists(&mut random, &set, runs).map(|leaves| prover.exchange(&leaves));
         let (answer, output) = extraction(&set, key.public(), &first, &second);
-        assert!(matches!(answer, Answer::Extracted { .. }));
-        assert_relation(&set, &key, &first, &output);
+        assert_eq!(answer, extracted(&first, &second));
+        for run in differing_runs(&first.leaves, &second.leaves) {
+            let output = part(&output, run, set.states_bytes());
+            assert_relation(&set, &key, &first.messages().run(&set, run), output);
+        }
     }
 }
 
@@ -183,17 +205,18 @@ fn hidden_leaves_are_not_compared() {
 
 const SET: Parameters = Parameters::new(7, 3, 2, 3, 2);
 
-/// A call of the extractor that gives the states, hiding leaves 3 and 7.
+/// A call of the extractor that gives the states of the only run, hiding leaves 3 and 7.
 fn extracting_call() -> ExtractorCall {
     let mut random = Random::new(44);
     let key = valid_key(&mut random, &SET);
-    let start = Start::random(&mut random, &SET);
+    let start = Start::random(&mut random, &SET, 1);
     ExtractorCall {
         parameters: SET,
-        first: honest_exchange(&key, &start, 3),
-        second: honest_exchange(&key, &start, 7),
+        runs: 1,
+        first: honest_exchange(&key, &start, &[3]),
+        second: honest_exchange(&key, &start, &[7]),
         lent: LentBytes { matrix: key.matrix, y: key.y, work: vec![0xa5; SET.work_bytes() + 9] },
-        output: vec![0xa5; SET.extractor_bytes()],
+        output: vec![0xa5; SET.extractor_bytes(1)],
     }
 }
 
@@ -216,15 +239,20 @@ type Change = fn(&mut ExtractorCall);
 fn the_undamaged_call_extracts() {
     let call = extracting_call();
     let (answer, work, _) = call.make();
-    assert_eq!(answer, Answer::Extracted { axis: 3 });
+    assert_eq!(answer, Answer::Extracted { run: 0, axis: 3 });
     assert!(work[..SET.work_bytes()].iter().all(|&byte| byte == 0));
     assert!(work[SET.work_bytes()..].iter().all(|&byte| byte == 0xa5));
 }
 
 #[test]
 fn refusals_before_the_openings() {
-    let changes: [(Number, Change); 21] = [
+    let changes: [(Number, Change); 26] = [
         (PARAMETER_OUTSIDE_LIMITS, |call| call.parameters.t = 9),
+        (PARAMETER_OUTSIDE_LIMITS, |call| call.runs = 0),
+        (PARAMETER_OUTSIDE_LIMITS, |call| (call.runs, call.first.message_5) = (33, vec![])),
+        (WRONG_LENGTH, |call| call.runs = 2),
+        (WRONG_LENGTH, |call| call.first.leaves.push(3)),
+        (WRONG_LENGTH, |call| call.second.leaves.clear()),
         (WRONG_LENGTH, |call| call.first.message_1.truncate(63)),
         (WRONG_LENGTH, |call| call.second.message_1.push(0)),
         (WRONG_LENGTH, |call| call.first.message_2.truncate(15)),
@@ -237,14 +265,14 @@ fn refusals_before_the_openings() {
         (WRONG_LENGTH, |call| call.lent.y.push(0)),
         (WRONG_LENGTH, |call| call.lent.work.truncate(SET.work_bytes() - 1)),
         (WRONG_LENGTH, |call| call.output.push(0)),
-        (WRONG_LENGTH, |call| call.second.leaf = 8),
-        (LEAF_NOT_BELOW_N, |call| call.first.leaf = 8),
-        (LEAF_NOT_BELOW_N, |call| (call.first.leaf, call.second.message_1[0]) = (255, !call.second.message_1[0])),
+        (WRONG_LENGTH, |call| call.second.leaves[0] = 8),
+        (LEAF_NOT_BELOW_N, |call| call.first.leaves[0] = 8),
+        (LEAF_NOT_BELOW_N, |call| (call.first.leaves[0], call.second.message_1[0]) = (255, !call.second.message_1[0])),
         (EXCHANGES_DIFFER, |call| call.first.message_1[0] ^= 1),
         (EXCHANGES_DIFFER, |call| call.second.message_1[63] ^= 1),
         (EXCHANGES_DIFFER, |call| call.first.message_2[0] ^= 1),
-        (EXCHANGES_DIFFER, |call| (call.second.message_3[9], call.second.leaf) = (!call.second.message_3[9], 7)),
-        (SAME_HIDDEN_LEAF, |call| call.second = call.first.clone()),
+        (EXCHANGES_DIFFER, |call| (call.second.message_3[9], call.second.leaves[0]) = (!call.second.message_3[9], 7)),
+        (SAME_HIDDEN_LEAVES, |call| call.second = call.first.clone()),
     ];
     for (number, change) in changes {
         let mut call = extracting_call();

@@ -1,4 +1,4 @@
-//! Whole exchanges with known messages: h, h' and the digest of message 5, computed elsewhere.
+//! Whole exchanges with known messages: digests of all h, of all h' and of message 5, computed elsewhere.
 //!
 //! Every input is SHAKE256 of a word and the set, as "salt 9 4 3 3 2". x has the given weight: nonzero entries first,
 //! then zeros, turned right by k/2 places.
@@ -26,92 +26,105 @@ fn known_key(set: &Parameters, weight: usize) -> Key {
     Key { parameters: *set, matrix, y, x_a: x_a.to_vec() }
 }
 
-fn known_start(set: &Parameters) -> Start {
+fn known_start(set: &Parameters, runs: usize) -> Start {
     Start {
         salt: front(&stream("salt", set, 32)),
         root: front(&stream("root", set, 16)),
-        message_2: stream("challenge", set, set.message_2_bytes()),
+        message_2: stream("challenge", set, set.message_2_bytes(runs)),
     }
 }
 
-/// Asserts h, h' and the first 32 bytes of SHAKE256 of message 5.
-fn assert_exchange(set: (usize, usize, usize, usize, usize), leaf: u8, weight: usize, expected: [&str; 3]) {
+/// The first 32 bytes of SHAKE256, in hex.
+fn digest(bytes: &[u8]) -> String {
+    to_hex(&shake256(bytes, 32))
+}
+
+/// Asserts the digests of all h, of all h' and of message 5.
+fn assert_exchange(set: (usize, usize, usize, usize, usize), leaves: &[u8], weight: usize, expected: [&str; 3]) {
     let set = Parameters::new(set.0, set.1, set.2, set.3, set.4);
     let key = known_key(&set, weight);
-    let exchange = honest_exchange(&key, &known_start(&set), leaf);
-    let found = [exchange.message_1[32..].to_vec(), exchange.message_3.clone(), shake256(&exchange.message_5, 32)];
-    assert_eq!(found.map(|bytes| to_hex(&bytes)), expected);
+    let exchange = honest_exchange(&key, &known_start(&set, leaves.len()), leaves);
+    let found = [digest(&exchange.message_1[32..]), digest(&exchange.message_3), digest(&exchange.message_5)];
+    assert_eq!(found, expected);
     assert_eq!(verdict(&set, key.public(), &exchange), 0);
 }
 
 #[test]
 fn least_set_hiding_leaf_0() {
-    let h = "39bca6aeb3770d1c2234e9896b573522ac81e008b7ab35a3e93a6e4d1ab523ca";
-    let response = "13c1c3b4be9c271dac5e36e7ba2fec8475ee64bc7f2854f3dfaf67145b0fded1";
-    let opening = "2aaaee67f9e419f58f422cdc11c84bac2661dbef3889ecf778628132ab6d7f34";
-    assert_exchange((2, 1, 1, 1, 1), 0, 1, [h, response, opening]);
+    let h = "78901daa30f237d9d02a86ba3559f2ccfeab4f6937b73bffab1900f4e282368a";
+    let response = "64b32d6d4bad4549a124f1926a86884953de8341023cbac44191f8d786394fe5";
+    let opening = "49ba7059e7e658b71da3c13f5558b958564793f42cecace51c7e8cde9031ed92";
+    assert_exchange((2, 1, 1, 1, 1), &[0], 1, [h, response, opening]);
 }
 
 #[test]
-fn least_set_hiding_leaf_1() {
-    let h = "39bca6aeb3770d1c2234e9896b573522ac81e008b7ab35a3e93a6e4d1ab523ca";
-    let response = "13c1c3b4be9c271dac5e36e7ba2fec8475ee64bc7f2854f3dfaf67145b0fded1";
-    let opening = "94bab170079af59a59550fa79b28f84e2c51d97b39e13b7ed8debb6e8d2c3529";
-    assert_exchange((2, 1, 1, 1, 1), 1, 1, [h, response, opening]);
+fn least_set_of_two_runs() {
+    let h = "8c79753ae700d91eb145825f16e1f815a52a021c210568fc89aae35a61e9b72c";
+    let response = "ca45e619772a260730261fe1f666f24bf0bc3a5eea885f6c8b24e04bf6ec6bd2";
+    let opening = "294c6e69e1b27444c8b9bad66efc1268778cefcf2792d81a33a73099efce049c";
+    assert_exchange((2, 1, 1, 1, 1), &[1, 0], 1, [h, response, opening]);
 }
 
 #[test]
 fn three_axes_hiding_leaf_5() {
-    let h = "2eda02abd02677eaf3d18497ecc23b91adf89dea1acb6806c7705af77eb7e7f8";
-    let response = "efadbd020f0b1f16efc52c128282d20297fac703bb1f9c4ecbf30a3f4ffec5d6";
-    let opening = "29a807eddd12e15b96bc652a03d3bb6af1564fd82a6eaea9bb92ea4011b1f5e8";
-    assert_exchange((9, 4, 3, 3, 2), 5, 3, [h, response, opening]);
+    let h = "5b2ddf46a46aa76c0c26f164ab80dbb1538c096aa7b0ee0a904fab70f235be97";
+    let response = "3d71de67a0b08250a90a99dfbfd6ff7b14d62020ebed64fc5036ea4b245c7420";
+    let opening = "0dae0de4d6b14ea83caa5e8889368369c2099dfc86fbe1535c6da3540145a1b4";
+    assert_exchange((9, 4, 3, 3, 2), &[5], 3, [h, response, opening]);
 }
 
 #[test]
-fn three_axes_hiding_leaf_7() {
-    let h = "cf38f048cf69aae67ebc7c43e3e38ab2a5b2fccfc43e30f625ad0ec0e758782d";
-    let response = "4d7d8a50b5caf3780cdc7b7a96583f2169c8b10eaf41fc9d8b86ae87b762f6cb";
-    let opening = "18058cd19ff26c39407eab4778dbf250efaf7647d97300eda04bac579d8e231c";
-    assert_exchange((9, 4, 3, 3, 2), 7, 2, [h, response, opening]);
+fn three_axes_of_five_runs() {
+    let h = "425bb668430d5000971a0c8319e32db2fdf5ce243cc32ccc5c60cf31be975953";
+    let response = "203578515766775abbe268d359b2b900310ea699e388f9fd6097f8ca25347ee5";
+    let opening = "dffca5c0124afbc20046fdd34665fddfa327d68ee6f298bedbc4b8227c6e6277";
+    assert_exchange((9, 4, 3, 3, 2), &[7, 5, 7, 0, 3], 2, [h, response, opening]);
 }
 
 #[test]
-fn greatest_k_w_and_t() {
-    let h = "00e5265dbc4e638200787b68235036055e181efc875cc13366d458999f1341f2";
-    let response = "e7a6d0d3c51c6a93130d0d33b7d32e8cfd49fbd6e2088ebb8e8b64f5801e1c93";
-    let opening = "087bebd6d0eeb4d7f9353adca8187581b701cd65ce432c1c8d20a2e2e2e25751";
-    assert_exchange((12, 11, 12, 2, 8), 1, 12, [h, response, opening]);
+fn greatest_k_w_and_t_of_two_runs() {
+    let h = "56ff1280266d5b730aee4580e6708f88ffa31653a13981531c1c14b34487cec6";
+    let response = "bf328784892673f4facc19100a81da51602547abad808b51c2286b9356efc5e1";
+    let opening = "6ac7db9d234c5c9122accae92cf28ae0bc594cb367d9223f1a239160b44df0f1";
+    assert_exchange((12, 11, 12, 2, 8), &[1, 3], 12, [h, response, opening]);
 }
 
 #[test]
 fn greatest_m_and_k() {
-    let h = "aa013bafc8b42325284d73bf2f475bd2eed895d955bfbb9a0e93fd64a5edac84";
-    let response = "04a4e5bcb32a02efb9479a762014f37513fe02db3792b4d9aebb657706b68357";
-    let opening = "ad9e8868191b9810292fe50b2c0f8a0cb0fd5542f22f0626a5bb8a829050cb7c";
-    assert_exchange((255, 254, 1, 1, 1), 0, 1, [h, response, opening]);
+    let h = "36a433e256b68b3fba3331eb98f73b058c2e5b28a1d0d0ba913f17d34b6ba9ce";
+    let response = "15a25b2235010eb4f145b5e7104aff4c02e089223c2b23c694942fc9d70455c8";
+    let opening = "bdab226d2bafa9985a9685e08e4667f49a4f459225e9bc0662d6beec4c165a88";
+    assert_exchange((255, 254, 1, 1, 1), &[0], 1, [h, response, opening]);
 }
 
 #[test]
-fn eight_axes() {
-    let h = "134c7ceab57d60632106ed7641d63d2fe25de7ff7ee527236fa00e68cfa8f96a";
-    let response = "f2e35eedef816874d0116178d3605b26002f7e0d3f23ff7a1bee102362bd20bc";
-    let opening = "44ed69a9fc41cd707bfdafc416d80936472443df7da2f0460c360bec4050d40a";
-    assert_exchange((40, 15, 9, 8, 1), 200, 7, [h, response, opening]);
+fn eight_axes_of_two_runs() {
+    let h = "3a9a710138d3867e001f9d0b041b0565ca32ba964983357fd31d1ebea1a9f9f3";
+    let response = "d9c1f8b90eb2fb18becd68011f160ae93cf47ebf2430a8e92129bab4c8758007";
+    let opening = "e31d9bc73da661c3667cf6a5f7acc5c592b4efdaa3dad9bde5b1428ba6352902";
+    assert_exchange((40, 15, 9, 8, 1), &[200, 255], 7, [h, response, opening]);
 }
 
 #[test]
 fn shipped_set_hiding_leaf_17() {
-    let h = "773f487d32cf6bbc3618fb23907e01fe2c7e66c2c0d10bf15f212e308c3dda47";
-    let response = "f98851932f7f4c896a06bacf39de14512d57543303b96829c46ce01b6e1be4de";
-    let opening = "bb9e9d91a3a768f9befebb644abb12be8e3f551eb840d937d84b7548a2930986";
-    assert_exchange((230, 126, 79, 8, 3), 17, 79, [h, response, opening]);
+    let h = "2d303eeeb404c1e5feb02abe2e2a66671c94fd94dd25eca157f001dcec1adb43";
+    let response = "d5ab482c22c3ca3b2845c9e741401f787be339100095b2ecbae7e20ed2aa15f8";
+    let opening = "4aaccdded84d7e3aca206052e08b987ffa12bcfab040e9c2c1a34eab558b94e7";
+    assert_exchange((230, 126, 79, 8, 3), &[17], 79, [h, response, opening]);
 }
 
 #[test]
-fn shipped_set_hiding_leaf_255() {
-    let h = "773f487d32cf6bbc3618fb23907e01fe2c7e66c2c0d10bf15f212e308c3dda47";
-    let response = "f98851932f7f4c896a06bacf39de14512d57543303b96829c46ce01b6e1be4de";
-    let opening = "483b952a05161d588d292993696361a94176b676cea8467f36e9c744607f6ed2";
-    assert_exchange((230, 126, 79, 8, 3), 255, 79, [h, response, opening]);
+fn shipped_set_of_two_runs() {
+    let h = "4c037a5337e03e2dc61a23d60bc3e5900a7e214c24b5a214556d5e2c01eaddf9";
+    let response = "3660c01425fa17df514f03f18b1cfff223bfb86b31ef088d73e8260fcceb4ab1";
+    let opening = "b22d0972800907fac058878fa934b37e41cdf56c07acee325b83629c16f894cb";
+    assert_exchange((230, 126, 79, 8, 3), &[255, 17], 79, [h, response, opening]);
+}
+
+#[test]
+fn greatest_run_count() {
+    let h = "a386889c4a8149084d14af6af140e3d331aeab7b12508d2bb937e5bb9dcc16e7";
+    let response = "c061aa5f09f4eb182a393fd5879876034e07623a6f541eccba509f8df7214219";
+    let opening = "849c3b4597cd7b30365672a6c5ac7c7e52519c48394018557ff32b5473d991bf";
+    assert_exchange((7, 3, 2, 2, 1), &std::array::from_fn::<u8, 32, _>(|run| run as u8 % 4), 2, [h, response, opening]);
 }

@@ -4,7 +4,7 @@ use reference::extractor::Answer;
 use reference::numbers::*;
 use reference::parameters::Parameters;
 use reference::prover::Prover;
-use reference::sampling::calls::{ProverInput, VerifierCall};
+use reference::sampling::calls::{ExtractorCall, ProverInput, VerifierCall};
 use reference::sampling::scripts::{extractor_call, prover_script, verifier_script, Size};
 use reference::sampling::Random;
 use reference::verifier::Verifier;
@@ -83,6 +83,15 @@ fn verifier_scripts() {
     assert_numbers(&counts, &[0, 1, 2, 4, 5, 7, 11, 12]);
 }
 
+/// Asserts that just the parts of the runs whose leaves differ are written.
+fn assert_parts(call: &ExtractorCall, differences: &[u8], output: &[u8]) {
+    let length = call.parameters.states_bytes();
+    for (run, difference) in differences.iter().enumerate() {
+        let place = run * length..(run + 1) * length;
+        assert_eq!(output[place.clone()] == call.output[place], *difference == 0);
+    }
+}
+
 #[test]
 fn extractor_calls() {
     let mut random = Random::new(62);
@@ -92,8 +101,12 @@ fn extractor_calls() {
         let (answer, work, output) = call.make();
         let number = match answer {
             Answer::Refused(number) => number,
-            Answer::Extracted { axis } => {
-                assert_eq!(u32::from(axis), (call.first.leaf ^ call.second.leaf).trailing_zeros() + 1);
+            Answer::Extracted { run, axis } => {
+                let differences: Vec<u8> =
+                    call.first.leaves.iter().zip(&call.second.leaves).map(|(a, b)| a ^ b).collect();
+                let (lowest, difference) = differences.iter().enumerate().find(|(_, bits)| **bits != 0).expect("9");
+                assert_eq!((usize::from(run), u32::from(axis)), (lowest, difference.trailing_zeros() + 1));
+                assert_parts(&call, &differences, &output);
                 CARRIED_OUT
             }
             Answer::Unequal { .. } => panic!("two strings with one digest: {call:?}"),

@@ -1,5 +1,6 @@
 //! Sessions: which call is due, the order of the numbers, and what a refused call leaves as it was.
 
+use reference::messages::part;
 use reference::numbers::*;
 use reference::parameters::Parameters;
 use reference::prover::Prover;
@@ -10,13 +11,19 @@ use reference::sampling::Random;
 use reference::verifier::Verifier;
 
 const SET: Parameters = Parameters::new(9, 4, 3, 3, 2);
+const RUNS: usize = 2;
+
+/// Message 4: a leaf in the first run, leaf 5 in the second.
+fn leaves(first: u8) -> Vec<u8> {
+    vec![first, 5]
+}
 
 fn sample_key() -> Key {
     valid_key(&mut Random::new(50), &SET)
 }
 
 fn sample_start() -> Start {
-    Start::random(&mut Random::new(51), &SET)
+    Start::random(&mut Random::new(51), &SET, RUNS)
 }
 
 fn lent() -> LentBytes {
@@ -26,18 +33,22 @@ fn lent() -> LentBytes {
 
 fn begin_with(salt: u8, root: u8) -> ProverCall {
     let x_a = sample_key().x_a;
-    let input = ProverInput::Begin { parameters: SET, x_a, salt: vec![salt; 32], root: vec![root; 16] };
-    ProverCall { input, lent: lent(), output: vec![0xa5; 64] }
+    let input = ProverInput::Begin { parameters: SET, runs: RUNS, x_a, salt: vec![salt; 32], root: vec![root; 16] };
+    ProverCall { input, lent: lent(), output: vec![0xa5; 96] }
 }
 
 fn points() -> ProverCall {
     let message_2 = sample_start().message_2;
-    ProverCall { input: ProverInput::Points { message_2 }, lent: lent(), output: vec![0xa5; 32] }
+    ProverCall { input: ProverInput::Points { message_2 }, lent: lent(), output: vec![0xa5; 64] }
 }
 
-fn leaf(leaf: u8) -> ProverCall {
-    let output = vec![0xa5; SET.message_5_bytes(usize::from(leaf))];
-    ProverCall { input: ProverInput::Leaf { leaf }, lent: lent(), output }
+fn leaf_call(leaves: Vec<u8>) -> ProverCall {
+    let output = vec![0xa5; SET.message_5_bytes(&leaves)];
+    ProverCall { input: ProverInput::Leaf { leaves }, lent: lent(), output }
+}
+
+fn leaf(first: u8) -> ProverCall {
+    leaf_call(leaves(first))
 }
 
 /// Makes a call that must be carried out: it fills its output and clears the named part of the work area.
@@ -103,6 +114,18 @@ fn salt_and_root_of_the_exchange_held_give_13() {
     carry_out(&mut prover, &begin_with(1, 1));
 }
 
+/// The run count is not compared.
+#[test]
+fn another_run_count_gives_13_too() {
+    let mut prover = Prover::default();
+    carry_out(&mut prover, &begin_with(1, 1));
+    for runs in [1, 3, 32] {
+        let mut begin = begin_with(1, 1);
+        set_runs(&mut begin, runs);
+        refuse(&mut prover, &begin, SALT_AND_ROOT_HELD);
+    }
+}
+
 #[test]
 fn salt_and_root_of_zeros_may_start_a_session() {
     carry_out(&mut Prover::default(), &begin_with(0, 0));
@@ -115,6 +138,11 @@ fn a_refused_begin_keeps_the_exchange() {
     let mut outside = begin_with(2, 2);
     set_parameters(&mut outside, Parameters { t: 9, ..SET });
     refuse(&mut prover, &outside, PARAMETER_OUTSIDE_LIMITS);
+    for runs in [0, 33, 256] {
+        let mut outside = begin_with(2, 2);
+        set_runs(&mut outside, runs);
+        refuse(&mut prover, &outside, PARAMETER_OUTSIDE_LIMITS);
+    }
     refuse(&mut prover, &begin_with(1, 1), SALT_AND_ROOT_HELD);
     carry_out(&mut prover, &points());
 }
@@ -122,6 +150,14 @@ fn a_refused_begin_keeps_the_exchange() {
 fn set_parameters(call: &mut ProverCall, parameters: Parameters) {
     if let ProverInput::Begin { parameters: given, .. } = &mut call.input {
         *given = parameters;
+    }
+}
+
+/// Another run count, with an output of the length for it.
+fn set_runs(call: &mut ProverCall, runs: usize) {
+    if let ProverInput::Begin { runs: given, .. } = &mut call.input {
+        *given = runs;
+        call.output = vec![0xa5; 32 + 32 * runs];
     }
 }
 
@@ -168,23 +204,38 @@ fn wrong_lengths_of_begin_give_2() {
 fn wrong_lengths_of_message_2_give_2() {
     let mut prover = Prover::default();
     carry_out(&mut prover, &begin_with(1, 1));
-    for length in [0, 8, 15, 17] {
+    for length in [0, 16, 31, 33, 48] {
         let input = ProverInput::Points { message_2: vec![0; length] };
         refuse(&mut prover, &ProverCall { input, ..points() }, WRONG_LENGTH);
     }
 }
 
 #[test]
+fn wrong_lengths_of_message_4_give_2() {
+    let mut prover = Prover::default();
+    carry_out(&mut prover, &begin_with(1, 1));
+    carry_out(&mut prover, &points());
+    for leaves in [vec![], vec![0], vec![0, 5, 0], vec![8], vec![0; 32], vec![8; 33]] {
+        refuse(&mut prover, &leaf_call(leaves), WRONG_LENGTH);
+    }
+    carry_out(&mut prover, &leaf(7));
+}
+
+/// In whatever run the leaf is not below n.
+#[test]
 fn longer_length_counts_for_leaves_not_below_n() {
     let mut prover = Prover::default();
     carry_out(&mut prover, &begin_with(1, 1));
     carry_out(&mut prover, &points());
     for number in [8, 9, 255] {
-        let call = leaf(number);
-        assert_eq!(call.output.len(), SET.message_5_bytes(0));
-        refuse(&mut prover, &call, LEAF_NOT_BELOW_N);
-        let output = vec![0xa5; SET.message_5_bytes(7)];
-        refuse(&mut prover, &ProverCall { output, ..call }, WRONG_LENGTH);
+        for leaves in [[number, 0], [7, number], [number, number]] {
+            let call = leaf_call(leaves.to_vec());
+            let lower = leaves.map(|leaf| if leaf == 7 { 7 } else { 0 });
+            assert_eq!(call.output.len(), SET.message_5_bytes(&lower));
+            refuse(&mut prover, &call, LEAF_NOT_BELOW_N);
+            let output = vec![0xa5; SET.message_5_bytes(&[7, 7])];
+            refuse(&mut prover, &ProverCall { output, ..call }, WRONG_LENGTH);
+        }
     }
     carry_out(&mut prover, &leaf(7));
 }
@@ -205,8 +256,14 @@ fn begin_answers_in_order() {
     refuse(&mut prover, &call, OVERWEIGHT);
     call.output.pop();
     refuse(&mut prover, &call, WRONG_LENGTH);
+    let fitting = call.clone();
     set_parameters(&mut call, Parameters { m: 256, ..SET });
     refuse(&mut prover, &call, PARAMETER_OUTSIDE_LIMITS);
+    for runs in [0, 33] {
+        let mut call = fitting.clone();
+        set_runs(&mut call, runs);
+        refuse(&mut prover, &call, PARAMETER_OUTSIDE_LIMITS);
+    }
 }
 
 /// State comes before the arguments: a call that is not due is 11 or 12 whatever it is lent.
@@ -247,22 +304,25 @@ fn matrix_and_y_are_those_of_the_call() {
     assert_eq!(plain[2], other_points[2]);
     assert_eq!(plain[..2], other_leaf[..2]);
     let beta = 16 * SET.axes + 32 + 4 * SET.t;
-    assert_eq!(plain[2][..beta], other_leaf[2][..beta]);
-    assert_ne!(plain[2][beta..beta + 4 * SET.t], other_leaf[2][beta..beta + 4 * SET.t]);
-    assert_eq!(plain[2][beta + 4 * SET.t..], other_leaf[2][beta + 4 * SET.t..]);
+    for run in 0..RUNS {
+        let [plain, other_leaf] = [&plain, &other_leaf].map(|given| part(&given[2], run, SET.opening_bytes(2)));
+        assert_eq!(plain[..beta], other_leaf[..beta]);
+        assert_ne!(plain[beta..beta + 4 * SET.t], other_leaf[beta..beta + 4 * SET.t]);
+        assert_eq!(plain[beta + 4 * SET.t..], other_leaf[beta + 4 * SET.t..]);
+    }
 }
 
 fn sample_exchange(leaf: u8) -> Exchange {
-    honest_exchange(&sample_key(), &sample_start(), leaf)
+    honest_exchange(&sample_key(), &sample_start(), &leaves(leaf))
 }
 
 /// The verifier's five calls on an exchange.
 fn verifier_calls(exchange: &Exchange) -> [VerifierCall; 5] {
     [
-        VerifierCall::Begin { parameters: SET, message_1: exchange.message_1.clone() },
+        VerifierCall::Begin { parameters: SET, runs: RUNS, message_1: exchange.message_1.clone() },
         VerifierCall::Points { message_2: exchange.message_2.clone() },
         VerifierCall::Response { message_3: exchange.message_3.clone() },
-        VerifierCall::Leaf { leaf: exchange.leaf },
+        VerifierCall::Leaf { leaves: exchange.leaves.clone() },
         VerifierCall::Opening { message_5: exchange.message_5.clone(), lent: lent() },
     ]
 }
@@ -308,7 +368,7 @@ fn verifier_state_comes_before_lengths() {
     let calls = [
         VerifierCall::Points { message_2: vec![] },
         VerifierCall::Response { message_3: vec![] },
-        VerifierCall::Leaf { leaf: 255 },
+        VerifierCall::Leaf { leaves: vec![255] },
         VerifierCall::Opening { message_5: vec![], lent: LentBytes::default() },
     ];
     for call in &calls {
@@ -316,9 +376,20 @@ fn verifier_state_comes_before_lengths() {
         verifier_refuses(&mut verifier_after(&exchange, 5), call, CLOSED);
     }
     for (place, call) in calls.iter().enumerate() {
-        let due = if place == 2 { LEAF_NOT_BELOW_N } else { WRONG_LENGTH };
-        verifier_refuses(&mut verifier_after(&exchange, place + 1), call, due);
+        verifier_refuses(&mut verifier_after(&exchange, place + 1), call, WRONG_LENGTH);
     }
+}
+
+#[test]
+fn verifier_leaf_refuses_with_2_before_4() {
+    let mut verifier = verifier_after(&sample_exchange(5), 3);
+    for leaves in [vec![], vec![8], vec![5], vec![5, 5, 5], vec![0; 32], vec![8; 33]] {
+        verifier_refuses(&mut verifier, &VerifierCall::Leaf { leaves }, WRONG_LENGTH);
+    }
+    for leaves in [vec![8, 0], vec![0, 8], vec![255, 255]] {
+        verifier_refuses(&mut verifier, &VerifierCall::Leaf { leaves }, LEAF_NOT_BELOW_N);
+    }
+    assert_eq!(verifier.leaf(&[7, 7]), CARRIED_OUT);
 }
 
 #[test]
@@ -326,17 +397,19 @@ fn verifier_begin_refuses_with_1_before_2() {
     let exchange = sample_exchange(5);
     for calls in [0, 3, 5] {
         let mut verifier = verifier_after(&exchange, calls);
-        for length in [0, 63, 65] {
+        for length in [0, 64, 95, 97, 32 + 32 * 33] {
             let message_1 = vec![0; length];
-            let parameters = Parameters { axes: 9, ..SET };
-            let outside = VerifierCall::Begin { parameters, message_1: message_1.clone() };
-            verifier_refuses(&mut verifier, &outside, PARAMETER_OUTSIDE_LIMITS);
-            verifier_refuses(&mut verifier, &VerifierCall::Begin { parameters: SET, message_1 }, WRONG_LENGTH);
+            for (parameters, runs) in [(Parameters { axes: 9, ..SET }, RUNS), (SET, 0), (SET, 33)] {
+                let outside = VerifierCall::Begin { parameters, runs, message_1: message_1.clone() };
+                verifier_refuses(&mut verifier, &outside, PARAMETER_OUTSIDE_LIMITS);
+            }
+            let short = VerifierCall::Begin { parameters: SET, runs: RUNS, message_1 };
+            verifier_refuses(&mut verifier, &short, WRONG_LENGTH);
         }
     }
 }
 
-/// Message 5 has the length for the leaf held: the shorter one for leaf n−1 alone.
+/// Message 5 has the length for the leaves held: the shorter one for leaf n−1 alone.
 #[test]
 fn opening_length_follows_the_leaf_held() {
     for (held, other) in [(5, 7), (7, 5)] {
@@ -400,14 +473,14 @@ fn flipped(mut session: Vec<u8>, place: usize, bit: usize) -> Vec<u8> {
 fn sessions_are_stored_and_read_back() {
     let mut prover = Prover::default();
     for call in [begin_with(1, 1), points(), leaf(2)] {
-        assert_eq!(prover.to_bytes().len(), 373);
+        assert_eq!(prover.to_bytes().len(), 2358);
         assert_eq!(Prover::from_bytes(&prover.to_bytes()), prover);
         carry_out(&mut prover, &call);
     }
     assert_eq!(Prover::from_bytes(&prover.to_bytes()), prover);
     for calls in 0..=5 {
         let verifier = verifier_after(&sample_exchange(5), calls);
-        assert_eq!(verifier.to_bytes().len(), 167);
+        assert_eq!(verifier.to_bytes().len(), 4167);
         assert_eq!(Verifier::from_bytes(&verifier.to_bytes()), verifier);
     }
 }
@@ -428,7 +501,7 @@ fn a_damaged_length_opens_no_second_leaf() {
     }
 }
 
-/// A begun session with parameters outside their limits or an x that is too heavy is closed; its salt and root still count.
+/// A begun session with parameters or a run count outside their limits or an x that is too heavy is closed; its salt and root still count.
 #[test]
 fn damaged_provers_are_closed() {
     let mut begun = Prover::default();
@@ -436,8 +509,8 @@ fn damaged_provers_are_closed() {
     let mut answered = begun.clone();
     carry_out(&mut answered, &points());
     for session in [begun.to_bytes(), answered.to_bytes()] {
-        // m 9 as 1, k 4 as 12, w 3 as 19, D 3 as 11, t 2 as 10
-        for (place, bit) in [(1, 3), (2, 3), (3, 4), (4, 3), (5, 3)] {
+        // m 9 as 1, k 4 as 12, w 3 as 19, D 3 as 11, t 2 as 10, 2 runs as 0, 34 and 130
+        for (place, bit) in [(1, 3), (2, 3), (3, 4), (4, 3), (5, 3), (6, 1), (6, 5), (6, 7)] {
             let mut damaged = Prover::from_bytes(&flipped(session.clone(), place, bit));
             refuse(&mut damaged, &points(), CLOSED);
             refuse(&mut damaged, &leaf(0), CLOSED);
@@ -445,7 +518,7 @@ fn damaged_provers_are_closed() {
             carry_out(&mut damaged, &begin_with(1, 2));
         }
         let mut heavy = session;
-        heavy[6..6 + SET.m].fill(1);
+        heavy[7..7 + SET.m].fill(1);
         let mut heavy = Prover::from_bytes(&heavy);
         refuse(&mut heavy, &points(), CLOSED);
         refuse(&mut heavy, &leaf(0), CLOSED);
@@ -482,13 +555,36 @@ fn damaged_phases_are_closed() {
     }
 }
 
-/// A begun verifier with a leaf that is not below n or a parameter outside its limits is closed.
+/// Where the leaves start in a verifier's session.
+const LEAVES: usize = 4167 - 32;
+
+/// What a verifier keeps past the messages of its runs is not looked at, and later calls leave it.
+#[test]
+fn bytes_past_the_messages_stay() {
+    let exchange = sample_exchange(5);
+    let places = [7 + 96, 7 + 1056 + 32, 7 + 1056 + 2048 + 64, LEAVES + 2];
+    for done in 1..5 {
+        let mut session = verifier_after(&exchange, done).to_bytes();
+        places.iter().for_each(|&place| session[place] = 0xff);
+        let mut verifier = Verifier::from_bytes(&session);
+        for call in &verifier_calls(&exchange)[done..] {
+            assert_eq!(call.make(&mut verifier).number, CARRIED_OUT);
+        }
+        let mut expected = verifier_after(&exchange, 5).to_bytes();
+        places.iter().for_each(|&place| expected[place] = 0xff);
+        assert_eq!(verifier.to_bytes(), expected);
+        assert_eq!(verifier_calls(&exchange)[0].make(&mut verifier).number, CARRIED_OUT);
+        assert_eq!(verifier, verifier_after(&exchange, 1));
+    }
+}
+
+/// A begun verifier with a leaf of its runs that is not below n, or a parameter or run count outside its limits, is closed.
 #[test]
 fn damaged_verifiers_are_closed() {
     let exchange = sample_exchange(5);
     for done in 1..=5 {
         let session = verifier_after(&exchange, done).to_bytes();
-        for (place, bit) in [(1, 3), (4, 3), (5, 3), (166, 3), (166, 7)] {
+        for (place, bit) in [(1, 3), (4, 3), (5, 3), (6, 1), (6, 5), (LEAVES, 3), (LEAVES, 7), (LEAVES + 1, 3)] {
             let damaged = flipped(session.clone(), place, bit);
             for call in &verifier_calls(&exchange)[1..] {
                 verifier_refuses(&mut Verifier::from_bytes(&damaged), call, CLOSED);

@@ -8,7 +8,7 @@ use reference::points_field::{Point, POINT_BYTES};
 use reference::sampling::damage::flip_bit;
 use reference::sampling::exchanges::{extraction, honest_exchange, verdict, Exchange, Start};
 use reference::sampling::keys::{any_key, valid_key, Key};
-use reference::sampling::made_up::{openings, pairs, some_leaves};
+use reference::sampling::made_up::{any_leaves, openings, pairs, some_leaves};
 use reference::sampling::parameter_sets::{random_set, sets_of_every_shape};
 use reference::sampling::simulated::leaf_first;
 use reference::sampling::Random;
@@ -17,29 +17,34 @@ use reference::sampling::Random;
 fn random_exchange(random: &mut Random) -> (Key, Exchange) {
     let set = random_set(random, 16, 4);
     let key = valid_key(random, &set);
-    let start = Start::random(random, &set);
-    let leaf = random.below(set.leaves()) as u8;
-    let exchange = honest_exchange(&key, &start, leaf);
+    let runs = random.between(1, 2);
+    let start = Start::random(random, &set, runs);
+    let leaves = any_leaves(random, &set, runs);
+    let exchange = honest_exchange(&key, &start, &leaves);
     (key, exchange)
 }
 
-fn recomputed(key: &Key, exchange: &Exchange) -> Recomputed {
-    recompute(&key.parameters, key.public(), &exchange.messages())
+/// Each run of an exchange recomputed.
+fn recomputed(key: &Key, exchange: &Exchange) -> Vec<Recomputed> {
+    let runs = exchange.messages();
+    runs.runs(&key.parameters).iter().map(|run| recompute(&key.parameters, key.public(), run)).collect()
 }
 
-/// The sums of both parties' α, β and v, read from a layer 6 string: layer, salt and axis take 34 bytes, each party half
-/// of the rest.
+/// The sums of both parties' α, β and v, read from a layer 6 string: layer, salt, run and axis take 35 bytes, each party
+/// half of the rest.
 fn sums_in_string(string: &[u8]) -> Vec<u8> {
-    let parties = &string[34..];
+    let parties = &string[35..];
     let (first, second) = parties.split_at(parties.len() / 2);
     first.iter().zip(second).map(|(a, b)| a ^ b).collect()
 }
 
-/// Asserts that the sums agree, as the axes have them and as the strings hashed show them.
-fn assert_sums_agree(opening: &Recomputed) {
-    assert!(sums_agree(&opening.axes));
-    let sums: Vec<Vec<u8>> = opening.strings.axes.iter().map(|string| sums_in_string(string)).collect();
-    assert!(sums.iter().all(|sum| *sum == sums[0]));
+/// Asserts that the sums agree in every run, as the axes have them and as the strings hashed show them.
+fn assert_sums_agree(runs: &[Recomputed]) {
+    for opening in runs {
+        assert!(sums_agree(&opening.axes));
+        let sums: Vec<Vec<u8>> = opening.strings.axes.iter().map(|string| sums_in_string(string)).collect();
+        assert!(sums.iter().all(|sum| *sum == sums[0]));
+    }
 }
 
 #[test]
@@ -101,11 +106,11 @@ fn changed_in_one_byte(random: &mut Random, set: &Parameters, axes: &[Axis]) -> 
     all
 }
 
-/// A made-up exchange under a key of any bytes.
+/// A made-up exchange of one run under a key of any bytes.
 fn made_up_exchange(random: &mut Random, set: &Parameters) -> (Key, Exchange) {
     let key = any_key(random, set);
-    let leaf = random.below(set.leaves()) as u8;
-    let exchange = leaf_first(random, set, key.public(), leaf);
+    let leaves = any_leaves(random, set, 1);
+    let exchange = leaf_first(random, set, key.public(), &leaves);
     (key, exchange)
 }
 
@@ -115,8 +120,9 @@ fn comparison_of_sums_is_not_blind() {
     let mut random = Random::new(29);
     for set in sets_of_every_shape(&mut random, 8) {
         let (key, exchange) = made_up_exchange(&mut random, &set);
-        let opening = recomputed(&key, &exchange);
-        assert_sums_agree(&opening);
+        let openings = recomputed(&key, &exchange);
+        assert_sums_agree(&openings);
+        let opening = &openings[0];
         for changed in changed_in_one_byte(&mut random, &set, &opening.axes) {
             assert_ne!(changed, opening.axes);
             assert_eq!(sums_agree(&changed), set.axes == 1, "{set:?}");
@@ -124,8 +130,9 @@ fn comparison_of_sums_is_not_blind() {
     }
 }
 
-fn number_of_checks(opening: &Recomputed, exchange: &Exchange) -> Number {
-    number_of(require_accepted(opening, &exchange.messages()))
+fn number_of_checks(set: &Parameters, opening: &Recomputed, exchange: &Exchange) -> Number {
+    let messages = exchange.messages();
+    number_of(require_accepted(opening, &messages.run(set, 0)))
 }
 
 /// If sums differed, the three checks would say so after 5 and before 7.
@@ -135,13 +142,13 @@ fn check_of_6_stands_between_5_and_7() {
     for axes in 2..=8 {
         let set = Parameters { axes, ..random_set(&mut random, 8, 1) };
         let key = any_key(&mut random, &set);
-        let [fitting, other_response, other_h, neither] = openings(&mut random, &key, 1);
-        let mut opening = recomputed(&key, &fitting.0);
+        let exchanges: Vec<Exchange> = openings(&mut random, &key, &[1]).into_iter().map(|(made, _)| made).collect();
+        let mut opening = recomputed(&key, &exchanges[0]).remove(0);
         value_of(&mut opening.axes[axes - 1].parties[1], 0, 0).0[0] ^= 1;
-        assert_eq!(number_of_checks(&opening, &fitting.0), SUMS_DIFFER);
-        assert_eq!(number_of_checks(&opening, &other_response.0), SUMS_DIFFER);
-        assert_eq!(number_of_checks(&opening, &other_h.0), COMMITMENT_DIFFERS);
-        assert_eq!(number_of_checks(&opening, &neither.0), COMMITMENT_DIFFERS);
+        let numbers = exchanges.iter().map(|exchange| number_of_checks(&set, &opening, exchange));
+        // As it is, with another h', with another h, with both.
+        let expected = [SUMS_DIFFER, SUMS_DIFFER, COMMITMENT_DIFFERS, COMMITMENT_DIFFERS];
+        assert_eq!(numbers.collect::<Vec<Number>>(), expected);
     }
 }
 
@@ -150,9 +157,10 @@ fn check_of_6_stands_between_5_and_7() {
 fn made_up_openings_get_0_5_or_7() {
     let mut random = Random::new(35);
     for set in sets_of_every_shape(&mut random, 8) {
-        for leaf in some_leaves(&mut random, &set) {
+        let runs = random.between(1, 2);
+        for leaves in some_leaves(&mut random, &set, runs) {
             let key = any_key(&mut random, &set);
-            for (exchange, number) in openings(&mut random, &key, leaf) {
+            for (exchange, number) in openings(&mut random, &key, &leaves) {
                 let checked = check(&set, key.public(), &exchange.messages());
                 assert_eq!(number_of(checked.map(|_| ())), number, "{set:?}");
                 assert_eq!(verdict(&set, key.public(), &exchange), number, "{set:?}");
@@ -162,13 +170,14 @@ fn made_up_openings_get_0_5_or_7() {
     }
 }
 
-/// In the extractor they are extracted or get 5 or 7, whichever of the two is refused.
+/// In the extractor they are extracted or get 5 or 7, whichever of the two is refused, or 8.
 #[test]
-fn made_up_pairs_are_extracted_or_get_5_or_7() {
+fn made_up_pairs_are_extracted_or_get_5_7_or_8() {
     let mut random = Random::new(36);
     for set in sets_of_every_shape(&mut random, 8) {
         let key = any_key(&mut random, &set);
-        for ([first, second], answer) in pairs(&mut random, &key) {
+        let runs = random.between(1, 2);
+        for ([first, second], answer) in pairs(&mut random, &key, runs) {
             assert_eq!(extraction(&set, key.public(), &first, &second).0, answer, "{set:?}");
             assert_sums_agree(&recomputed(&key, &first));
             assert_sums_agree(&recomputed(&key, &second));

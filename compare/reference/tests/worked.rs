@@ -114,8 +114,8 @@ fn edges_of_axes_and_positions() {
 fn begins_answer_1_at_the_edges() {
     for set in [(256, 1, 1, 1, 1), (9, 9, 1, 1, 1), (9, 4, 1, 9, 1), (9, 4, 1, 1, 9)] {
         let parameters = Parameters::new(set.0, set.1, set.2, set.3, set.4);
-        assert_eq!(Verifier::default().begin(parameters, &[0; 64]), PARAMETER_OUTSIDE_LIMITS);
-        let input = ProverInput::Begin { parameters, x_a: vec![], salt: vec![], root: vec![] };
+        assert_eq!(Verifier::default().begin(parameters, 1, &[0; 64]), PARAMETER_OUTSIDE_LIMITS);
+        let input = ProverInput::Begin { parameters, runs: 1, x_a: vec![], salt: vec![], root: vec![] };
         let call = ProverCall { input, lent: LentBytes::default(), output: vec![] };
         assert_eq!(call.make(&mut Prover::default()).number, PARAMETER_OUTSIDE_LIMITS);
     }
@@ -126,8 +126,9 @@ fn prover_at_leaf(key: &Key) -> Prover {
     let set = key.parameters;
     let mut prover = Prover::default();
     let lent = LentBytes { matrix: key.matrix.clone(), y: key.y.clone(), work: vec![0; set.work_bytes()] };
-    let begin = ProverInput::Begin { parameters: set, x_a: key.x_a.clone(), salt: vec![1; 32], root: vec![2; 16] };
-    let points = ProverInput::Points { message_2: vec![3; set.message_2_bytes()] };
+    let x_a = key.x_a.clone();
+    let begin = ProverInput::Begin { parameters: set, runs: 1, x_a, salt: vec![1; 32], root: vec![2; 16] };
+    let points = ProverInput::Points { message_2: vec![3; set.message_2_bytes(1)] };
     for (input, length) in [(begin, 64), (points, 32)] {
         let call = ProverCall { input, lent: lent.clone(), output: vec![0; length] };
         assert_eq!(call.make(&mut prover).number, 0);
@@ -140,35 +141,37 @@ fn leaves_7_and_8_at_three_axes() {
     let set = Parameters::new(9, 4, 3, 3, 2);
     let key = valid_key(&mut Random::new(7), &set);
     let lent = LentBytes { matrix: key.matrix.clone(), y: key.y.clone(), work: vec![0; set.work_bytes()] };
-    let leaf =
-        |leaf, length| ProverCall { input: ProverInput::Leaf { leaf }, lent: lent.clone(), output: vec![0; length] };
+    let leaf = |leaf, length| {
+        let input = ProverInput::Leaf { leaves: vec![leaf] };
+        ProverCall { input, lent: lent.clone(), output: vec![0; length] }
+    };
     let (shorter, longer) = (16 * 3 + 32 + 8 * 2, 16 * 3 + 32 + 8 * 2 + 4 + 2 * 3 + 4 * 2);
     assert_eq!(leaf(7, shorter).make(&mut prover_at_leaf(&key)).number, 0);
     assert_eq!(leaf(7, longer).make(&mut prover_at_leaf(&key)).number, WRONG_LENGTH);
     assert_eq!(leaf(8, longer).make(&mut prover_at_leaf(&key)).number, LEAF_NOT_BELOW_N);
     assert_eq!(leaf(8, shorter).make(&mut prover_at_leaf(&key)).number, WRONG_LENGTH);
     let mut verifier = Verifier::default();
-    assert_eq!(verifier.begin(set, &[0; 64]), 0);
+    assert_eq!(verifier.begin(set, 1, &[0; 64]), 0);
     assert_eq!(verifier.points(&[0; 16]), 0);
     assert_eq!(verifier.response(&[0; 32]), 0);
-    assert_eq!(verifier.leaf(8), LEAF_NOT_BELOW_N);
-    assert_eq!(verifier.leaf(7), 0);
+    assert_eq!(verifier.leaf(&[8]), LEAF_NOT_BELOW_N);
+    assert_eq!(verifier.leaf(&[7]), 0);
 }
 
 #[test]
 fn shipped_opening_lengths() {
-    assert_eq!(Parameters::SHIPPED.message_5_bytes(0), 480);
-    assert_eq!(Parameters::SHIPPED.message_5_bytes(254), 480);
-    assert_eq!(Parameters::SHIPPED.message_5_bytes(255), 184);
+    assert_eq!(Parameters::SHIPPED.opening_bytes(0), 480);
+    assert_eq!(Parameters::SHIPPED.opening_bytes(254), 480);
+    assert_eq!(Parameters::SHIPPED.opening_bytes(255), 184);
 }
 
 #[test]
 fn shipped_set_exchanges_are_accepted() {
     let mut random = Random::new(8);
     let key = valid_key(&mut random, &Parameters::SHIPPED);
-    let start = Start::random(&mut random, &Parameters::SHIPPED);
-    for leaf in [0, 1, 5, 128, 254, 255] {
-        let exchange = honest_exchange(&key, &start, leaf);
-        assert_eq!(verdict(&Parameters::SHIPPED, key.public(), &exchange), 0, "leaf {leaf}");
+    let start = Start::random(&mut random, &Parameters::SHIPPED, 2);
+    for leaves in [[0, 1], [5, 128], [254, 255]] {
+        let exchange = honest_exchange(&key, &start, &leaves);
+        assert_eq!(verdict(&Parameters::SHIPPED, key.public(), &exchange), 0, "leaves {leaves:?}");
     }
 }

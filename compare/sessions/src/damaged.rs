@@ -9,16 +9,17 @@ use reference::prover::Prover;
 use reference::sampling::calls::{ProverCall, VerifierCall};
 use reference::sampling::exchanges::{honest_exchange, Start};
 use reference::sampling::keys::{valid_key, Key};
+use reference::sampling::made_up::any_leaves;
 use reference::sampling::parameter_sets::random_set;
 use reference::sampling::Random;
 use reference::verifier::Verifier;
 
 /// The bits of the phase, the first byte of a session.
 const PHASE: usize = 8;
-/// The bits of phase and parameters.
-const FRONT: usize = 8 * 6;
-/// The bits in front of a prover's salt and root: phase, parameters and x.
-const BEFORE_SALT: usize = 8 * (6 + 255);
+/// The bits of phase, parameters and run count.
+const FRONT: usize = 8 * 7;
+/// The bits in front of a prover's salt and root: phase, parameters, run count and x.
+const BEFORE_SALT: usize = 8 * (7 + 255);
 
 /// Some different bits of the first so many.
 fn some_bits(random: &mut Random, number: usize, range: usize) -> Vec<usize> {
@@ -38,8 +39,8 @@ fn phase_bits() -> Vec<Vec<usize>> {
     (1..1 << PHASE).map(chosen).filter(|bits: &Vec<usize>| bits.len() <= 3).collect()
 }
 
-/// Bits to flip in a session of so many bytes: up to three of the phase, every single one of the parameters, and one to
-/// three among these first ones or anywhere.
+/// Bits to flip in a session of so many bytes: up to three of the phase, every single one of the parameters and the run
+/// count, and one to three among these first ones or anywhere.
 fn damages(random: &mut Random, size: usize) -> Vec<Vec<usize>> {
     let mut all = phase_bits();
     all.extend((PHASE..FRONT).map(|bit| vec![bit]));
@@ -113,21 +114,24 @@ fn damaged_verifier(
     Ok(())
 }
 
-/// A small key, what an exchange starts with, and a leaf.
-fn sample(random: &mut Random) -> (Key, Start, u8) {
+/// A small key, what an exchange of so many runs starts with, and leaves.
+fn sample(random: &mut Random, runs: usize) -> (Key, Start, Vec<u8>) {
     let set = random_set(random, 12, 3);
     let key = valid_key(random, &set);
-    let start = Start::random(random, &set);
-    let leaf = random.below(set.leaves()) as u8;
-    (key, start, leaf)
+    let start = Start::random(random, &set, runs);
+    let leaves = any_leaves(random, &set, runs);
+    (key, start, leaves)
 }
+
+/// The run counts of the exchanges.
+const RUNS: [usize; 6] = [1, 2, 1, 3, 1, 5];
 
 /// Provers' sessions, damaged before the first call of an exchange and after each.
 pub fn provers(seed: u64, exchanges: usize, count: &mut Count) {
     let mut random = Random::new(seed ^ 0xf11b);
     for exchange in 0..exchanges {
-        let (key, start, leaf) = sample(&mut random);
-        let calls = prover::calls(&mut random, &key, start, leaf);
+        let (key, start, leaves) = sample(&mut random, RUNS[exchange % RUNS.len()]);
+        let calls = prover::calls(&mut random, &key, start, &leaves);
         let mut session = unlock::prover::Prover::new();
         let mut expected = Prover::default();
         for done in 0..=calls.len() {
@@ -149,8 +153,8 @@ pub fn provers(seed: u64, exchanges: usize, count: &mut Count) {
 pub fn verifiers(seed: u64, exchanges: usize, count: &mut Count) {
     let mut random = Random::new(seed ^ 0xf11c);
     for exchange in 0..exchanges {
-        let (key, start, leaf) = sample(&mut random);
-        let calls = verifier::calls(&mut random, &key, &honest_exchange(&key, &start, leaf));
+        let (key, start, leaves) = sample(&mut random, RUNS[exchange % RUNS.len()]);
+        let calls = verifier::calls(&mut random, &key, &honest_exchange(&key, &start, &leaves));
         let mut session = unlock::verifier::Verifier::new();
         let mut expected = Verifier::default();
         for done in 0..=calls.len() {

@@ -15,11 +15,11 @@ pub fn make_prover(call: &ProverCall, prover: &mut unlock::prover::Prover) -> Ef
     let (mut work, mut output) = (call.lent.work.clone(), call.output.clone());
     let (matrix, y) = (&call.lent.matrix, &call.lent.y);
     let number = match &call.input {
-        ProverInput::Begin { parameters: p, x_a, salt, root } => {
-            prover.begin(&set_of(p), x_a, salt, root, matrix, y, &mut work, &mut output)
+        ProverInput::Begin { parameters: p, runs, x_a, salt, root } => {
+            prover.begin(&set_of(p), *runs as u64, x_a, salt, root, matrix, y, &mut work, &mut output)
         }
         ProverInput::Points { message_2 } => prover.points(message_2, matrix, y, &mut work, &mut output),
-        ProverInput::Leaf { leaf } => prover.leaf(*leaf, matrix, y, &mut work, &mut output),
+        ProverInput::Leaf { leaves } => prover.leaf(leaves, matrix, y, &mut work, &mut output),
     };
     Effect { number, work, output }
 }
@@ -28,10 +28,10 @@ pub fn make_prover(call: &ProverCall, prover: &mut unlock::prover::Prover) -> Ef
 pub fn make_verifier(call: &VerifierCall, verifier: &mut unlock::verifier::Verifier) -> Effect {
     let mut work = Vec::new();
     let number = match call {
-        VerifierCall::Begin { parameters: p, message_1 } => verifier.begin(&set_of(p), message_1),
+        VerifierCall::Begin { parameters: p, runs, message_1 } => verifier.begin(&set_of(p), *runs as u64, message_1),
         VerifierCall::Points { message_2 } => verifier.points(message_2),
         VerifierCall::Response { message_3 } => verifier.response(message_3),
-        VerifierCall::Leaf { leaf } => verifier.leaf(*leaf),
+        VerifierCall::Leaf { leaves } => verifier.leaf(leaves),
         VerifierCall::Opening { message_5, lent } => {
             work.clone_from(&lent.work);
             verifier.opening(message_5, &lent.matrix, &lent.y, &mut work)
@@ -46,7 +46,7 @@ pub fn messages(exchange: &Exchange) -> unlock::extractor::Messages<'_> {
         message_1: &exchange.message_1,
         message_2: &exchange.message_2,
         message_3: &exchange.message_3,
-        leaf: exchange.leaf,
+        leaves: &exchange.leaves,
         message_5: &exchange.message_5,
     }
 }
@@ -56,8 +56,8 @@ pub fn make_extractor(call: &ExtractorCall) -> (u32, Vec<u8>, Vec<u8>) {
     let (mut work, mut output) = (call.lent.work.clone(), call.output.clone());
     let (first, second) = (messages(&call.first), messages(&call.second));
     let (matrix, y) = (&call.lent.matrix, &call.lent.y);
-    let set = set_of(&call.parameters);
-    let answer = unlock::extractor::extract(&set, first, second, matrix, y, &mut work, &mut output);
+    let (set, runs) = (set_of(&call.parameters), call.runs as u64);
+    let answer = unlock::extractor::extract(&set, runs, first, second, matrix, y, &mut work, &mut output);
     (answer, work, output)
 }
 
@@ -65,8 +65,8 @@ pub fn make_extractor(call: &ExtractorCall) -> (u32, Vec<u8>, Vec<u8>) {
 pub fn answer_number(answer: Answer) -> u32 {
     match answer {
         Answer::Refused(number) => u32::from(number),
-        Answer::Unequal { layer, number } => 65536 * u32::from(layer) + u32::from(number),
-        Answer::Extracted { axis } => 256 + u32::from(axis),
+        Answer::Unequal { run, layer, number } => 65536 * u32::from(layer) + 256 * u32::from(run) + u32::from(number),
+        Answer::Extracted { run, axis } => 256 * (u32::from(run) + 1) + u32::from(axis),
     }
 }
 

@@ -1,4 +1,5 @@
-//! The calls that the program `test_prover` makes at the shipped set: what it must print, by the second implementation.
+//! The calls that the program `test_prover` makes at the shipped set, with two runs: what it must print, by the second
+//! implementation.
 
 use crate::count::Count;
 use reference::key::PublicKey;
@@ -9,6 +10,9 @@ use reference::sampling::calls::{LentBytes, ProverCall, ProverInput};
 use reference::shake256::shake256;
 
 const SHIPPED: Parameters = Parameters::SHIPPED;
+
+/// The run count.
+const RUNS: usize = 2;
 
 /// The bytes that a label stands for.
 fn labelled(label: &str, length: usize) -> Vec<u8> {
@@ -34,40 +38,45 @@ fn calls() -> Vec<(&'static str, ProverCall)> {
     let salt = labelled("salt", 32);
     let root = labelled("root", 16);
     let other_root = labelled("other root", 16);
-    let message_2 = labelled("points", SHIPPED.message_2_bytes());
+    let message_2 = labelled("points", SHIPPED.message_2_bytes(RUNS));
     let work = vec![0xa5; SHIPPED.work_bytes()];
     let lent = LentBytes { matrix, y, work };
-    let begin = |parameters, x_a: &[u8], root: &[u8]| ProverInput::Begin {
+    let begin_runs = |parameters, runs, x_a: &[u8], root: &[u8]| ProverInput::Begin {
         parameters,
+        runs,
         x_a: x_a.to_vec(),
         salt: salt.clone(),
         root: root.to_vec(),
     };
+    let begin = |parameters, x_a: &[u8], root: &[u8]| begin_runs(parameters, RUNS, x_a, root);
     let points = |length: usize| ProverInput::Points { message_2: message_2[..length].to_vec() };
+    let leaf = |leaves: &[u8]| ProverInput::Leaf { leaves: leaves.to_vec() };
     let call = |input, length| ProverCall { input, lent: lent.clone(), output: vec![0x5a; length] };
     let short_y = {
-        let mut call = call(begin(SHIPPED, &x_a, &root), 64);
+        let mut call = call(begin(SHIPPED, &x_a, &root), 96);
         call.lent.y.pop();
         call
     };
     vec![
-        ("points", call(points(24), 32)),
-        ("begin", call(begin(Parameters::new(256, 126, 79, 8, 3), &x_a, &root), 64)),
+        ("points", call(points(48), 64)),
+        ("begin", call(begin(Parameters::new(256, 126, 79, 8, 3), &x_a, &root), 96)),
+        ("begin", call(begin_runs(SHIPPED, 33, &x_a, &root), 96)),
         ("begin", short_y),
-        ("begin", call(begin(SHIPPED, &[0xff; 126], &root), 64)),
-        ("begin", call(begin(SHIPPED, &x_a, &root), 64)),
-        ("leaf", call(ProverInput::Leaf { leaf: 77 }, 480)),
-        ("points", call(points(23), 32)),
-        ("points", call(points(24), 32)),
-        ("points", call(points(24), 32)),
-        ("leaf", call(ProverInput::Leaf { leaf: 77 }, 184)),
-        ("leaf", call(ProverInput::Leaf { leaf: 77 }, 480)),
-        ("leaf", call(ProverInput::Leaf { leaf: 77 }, 480)),
-        ("points", call(points(24), 32)),
-        ("begin", call(begin(SHIPPED, &x_a, &root), 64)),
-        ("begin", call(begin(SHIPPED, &x_a, &other_root), 64)),
-        ("points", call(points(24), 32)),
-        ("leaf", call(ProverInput::Leaf { leaf: 255 }, 184)),
+        ("begin", call(begin(SHIPPED, &[0xff; 126], &root), 96)),
+        ("begin", call(begin(SHIPPED, &x_a, &root), 96)),
+        ("leaf", call(leaf(&[77, 255]), 664)),
+        ("points", call(points(47), 64)),
+        ("points", call(points(48), 64)),
+        ("points", call(points(48), 64)),
+        ("leaf", call(leaf(&[77, 255]), 368)),
+        ("leaf", call(leaf(&[77]), 664)),
+        ("leaf", call(leaf(&[77, 255]), 664)),
+        ("leaf", call(leaf(&[77, 255]), 664)),
+        ("points", call(points(48), 64)),
+        ("begin", call(begin(SHIPPED, &x_a, &root), 96)),
+        ("begin", call(begin(SHIPPED, &x_a, &other_root), 96)),
+        ("points", call(points(48), 64)),
+        ("leaf", call(leaf(&[255, 255]), 368)),
     ]
 }
 

@@ -14,6 +14,9 @@ pub mod verifier;
 use reference::sampling::scripts::Size;
 use reference::sampling::Random;
 
+/// The run counts that are compared beside those of the scripts.
+pub const RUN_COUNTS: [usize; 4] = [1, 2, 5, 32];
+
 /// The size of a numbered script: mostly small, one in twenty up to eight axes.
 fn size(number: u64) -> Size {
     match number % 20 {

@@ -2,11 +2,11 @@
 
 use crate::count::Count;
 use crate::effects::require;
-use crate::{extractor, verifier};
+use crate::{extractor, verifier, RUN_COUNTS};
 use reference::numbers::{Number, CARRIED_OUT};
-use reference::sampling::keys::any_key;
+use reference::sampling::keys::{any_key, Key};
 use reference::sampling::made_up;
-use reference::sampling::parameter_sets::sets_of_every_shape;
+use reference::sampling::parameter_sets::{random_set, sets_of_every_shape};
 use reference::sampling::Random;
 
 /// The greatest m of the sets.
@@ -18,33 +18,47 @@ fn ends_in(number: Number, numbers: &[Number]) -> Result<(), String> {
     require(numbers == wanted, &format!("numbers {numbers:?}, not {wanted:?}"))
 }
 
-/// Made-up openings through all calls of a verifier, for every D and t: leaf 0, leaf n−1 and any leaf, with h and h' that
-/// fit or not.
+/// One run for most sets, two for every fourth.
+fn runs_of(place: usize) -> usize {
+    1 + usize::from(place.is_multiple_of(4))
+}
+
+/// Made-up openings through all calls of a verifier, for every D and t: leaf 0, leaf n−1 and any leaves, with h and h' that
+/// fit or not in some run.
 pub fn openings(seed: u64, count: &mut Count) {
     let mut random = Random::new(seed ^ 0x3ade);
-    for set in sets_of_every_shape(&mut random, GREATEST_M) {
-        for leaf in made_up::some_leaves(&mut random, &set) {
+    for (place, set) in sets_of_every_shape(&mut random, GREATEST_M).into_iter().enumerate() {
+        for leaves in made_up::some_leaves(&mut random, &set, runs_of(place)) {
             let key = any_key(&mut random, &set);
-            for (exchange, number) in made_up::openings(&mut random, &key, leaf) {
+            for (exchange, number) in made_up::openings(&mut random, &key, &leaves) {
                 let calls = verifier::calls(&mut random, &key, &exchange);
                 let numbers = verifier::compare(&calls, unlock::verifier::Verifier::new(), count);
                 let outcome = numbers.and_then(|numbers| ends_in(number, &numbers));
-                count.settle(&format!("made-up opening of leaf {leaf} at {set:?}"), outcome);
+                count.settle(&format!("made-up opening of leaves {leaves:?} at {set:?}"), outcome);
             }
         }
     }
 }
 
-/// Made-up pairs through the extractor, for every D and t.
+fn compare_pairs(random: &mut Random, key: &Key, runs: usize, count: &mut Count) {
+    for ([first, second], wanted) in made_up::pairs(random, key, runs) {
+        let call = extractor::call(random, key, first, second);
+        let outcome = extractor::compare(&call, count)
+            .and_then(|answer| require(answer == wanted, &format!("{answer:?}, not {wanted:?}")));
+        count.settle(&format!("made-up pair of {runs} runs at {:?}", key.parameters), outcome);
+    }
+}
+
+/// Made-up pairs through the extractor, for every D and t; and small ones of one, two, five and 32 runs.
 pub fn pairs(seed: u64, count: &mut Count) {
     let mut random = Random::new(seed ^ 0x3adf);
-    for set in sets_of_every_shape(&mut random, GREATEST_M) {
+    for (place, set) in sets_of_every_shape(&mut random, GREATEST_M).into_iter().enumerate() {
         let key = any_key(&mut random, &set);
-        for ([first, second], wanted) in made_up::pairs(&mut random, &key) {
-            let call = extractor::call(&mut random, &key, first, second);
-            let outcome = extractor::compare(&call, count)
-                .and_then(|answer| require(answer == wanted, &format!("{answer:?}, not {wanted:?}")));
-            count.settle(&format!("made-up pair at {set:?}"), outcome);
-        }
+        compare_pairs(&mut random, &key, runs_of(place), count);
+    }
+    for runs in RUN_COUNTS {
+        let set = random_set(&mut random, GREATEST_M, 3);
+        let key = any_key(&mut random, &set);
+        compare_pairs(&mut random, &key, runs, count);
     }
 }

@@ -2,14 +2,15 @@
 
 use crate::count::Count;
 use crate::effects::{make_prover, require, same};
-use crate::{size, stranger};
+use crate::{size, stranger, RUN_COUNTS};
 use reference::numbers::CARRIED_OUT;
 use reference::parameters::Parameters;
 use reference::prover::Prover;
 use reference::sampling::calls::{LentBytes, ProverCall, ProverInput};
 use reference::sampling::exchanges::Start;
 use reference::sampling::keys::{valid_key, Key};
-use reference::sampling::parameter_sets::extreme_sets;
+use reference::sampling::made_up::{any_leaves, some_leaves};
+use reference::sampling::parameter_sets::{extreme_sets, random_set};
 use reference::sampling::scripts::{prover_script, Size};
 use reference::sampling::Random;
 use std::ops::Range;
@@ -70,14 +71,14 @@ fn lent(key: &Key, random: &mut Random) -> LentBytes {
 }
 
 /// The calls of an exchange in the right order.
-pub fn calls(random: &mut Random, key: &Key, start: Start, leaf: u8) -> Vec<ProverCall> {
+pub fn calls(random: &mut Random, key: &Key, start: Start, leaves: &[u8]) -> Vec<ProverCall> {
     let Start { salt, root, message_2 } = start;
-    let set = key.parameters;
-    let begin = ProverInput::Begin { parameters: set, x_a: key.x_a.clone(), salt: salt.to_vec(), root: root.to_vec() };
+    let (set, runs) = (key.parameters, leaves.len());
+    let (x_a, salt, root) = (key.x_a.clone(), salt.to_vec(), root.to_vec());
     [
-        (begin, Parameters::MESSAGE_1_BYTES),
-        (ProverInput::Points { message_2 }, Parameters::MESSAGE_3_BYTES),
-        (ProverInput::Leaf { leaf }, set.message_5_bytes(usize::from(leaf))),
+        (ProverInput::Begin { parameters: set, runs, x_a, salt, root }, Parameters::message_1_bytes(runs)),
+        (ProverInput::Points { message_2 }, Parameters::message_3_bytes(runs)),
+        (ProverInput::Leaf { leaves: leaves.to_vec() }, set.message_5_bytes(leaves)),
     ]
     .into_iter()
     .map(|(input, length)| ProverCall { input, lent: lent(key, random), output: random.bytes(length) })
@@ -89,11 +90,28 @@ pub fn extremes(seed: u64, count: &mut Count) {
     let mut random = Random::new(seed);
     for set in extreme_sets() {
         let key = valid_key(&mut random, &set);
-        let start = Start::random(&mut random, &set);
-        let leaf = random.below(set.leaves()) as u8;
-        let calls = calls(&mut random, &key, start, leaf);
+        let start = Start::random(&mut random, &set, 1);
+        let leaves = any_leaves(&mut random, &set, 1);
+        let calls = calls(&mut random, &key, start, &leaves);
         let outcome = compare(&calls, unlock::prover::Prover::new(), count);
         count.settle(&format!("prover at {set:?}"), outcome);
+    }
+}
+
+/// Exchanges of one, two, five and 32 runs: leaf 0 in all of them, leaf n−1, and any leaves.
+pub fn runs(seed: u64, rounds: usize, count: &mut Count) {
+    let mut random = Random::new(seed ^ 0x3055);
+    for round in 0..rounds {
+        for runs in RUN_COUNTS {
+            let set = random_set(&mut random, 16, 4);
+            let key = valid_key(&mut random, &set);
+            for leaves in some_leaves(&mut random, &set, runs) {
+                let start = Start::random(&mut random, &set, runs);
+                let calls = calls(&mut random, &key, start, &leaves);
+                let outcome = compare(&calls, unlock::prover::Prover::new(), count);
+                count.settle(&format!("prover of {runs} runs in round {round}"), outcome);
+            }
+        }
     }
 }
 

@@ -2,11 +2,12 @@
 
 use crate::count::Count;
 use crate::effects::{make_verifier, require, same};
-use crate::{size, stranger};
+use crate::{size, stranger, RUN_COUNTS};
 use reference::sampling::calls::{LentBytes, VerifierCall};
 use reference::sampling::damage::flip_bit;
 use reference::sampling::exchanges::{honest_exchange, Exchange, Start};
 use reference::sampling::keys::{valid_key, Key};
+use reference::sampling::made_up::{any_leaves, some_leaves};
 use reference::sampling::parameter_sets::{extreme_sets, random_set};
 use reference::sampling::scripts::{verifier_script, Size};
 use reference::sampling::Random;
@@ -77,10 +78,14 @@ pub fn calls(random: &mut Random, key: &Key, exchange: &Exchange) -> Vec<Verifie
     let work = random.bytes(key.parameters.work_bytes() + longer);
     let lent = LentBytes { matrix: key.matrix.clone(), y: key.y.clone(), work };
     vec![
-        VerifierCall::Begin { parameters: key.parameters, message_1: exchange.message_1.clone() },
+        VerifierCall::Begin {
+            parameters: key.parameters,
+            runs: exchange.runs(),
+            message_1: exchange.message_1.clone(),
+        },
         VerifierCall::Points { message_2: exchange.message_2.clone() },
         VerifierCall::Response { message_3: exchange.message_3.clone() },
-        VerifierCall::Leaf { leaf: exchange.leaf },
+        VerifierCall::Leaf { leaves: exchange.leaves.clone() },
         VerifierCall::Opening { message_5: exchange.message_5.clone(), lent },
     ]
 }
@@ -92,51 +97,60 @@ fn accepted(outcome: Result<Vec<u8>, String>) -> Result<(), String> {
     }
 }
 
-/// Honest exchanges: every leaf for small D, a few for the extreme parameters.
+/// Hands an exchange that must be accepted to both verifiers.
+fn settle_accepted(random: &mut Random, key: &Key, exchange: &Exchange, count: &mut Count) {
+    let calls = calls(random, key, exchange);
+    let outcome = accepted(compare(&calls, unlock::verifier::Verifier::new(), count));
+    count.settle(&format!("leaves {:?} at {:?}", exchange.leaves, key.parameters), outcome);
+}
+
+/// Honest exchanges: every leaf for small D, one for the extreme parameters, and some of one, two, five and 32 runs.
 pub fn honest(seed: u64, sets: usize, count: &mut Count) {
     let mut random = Random::new(seed ^ 0x0b0e);
     for _ in 0..sets {
         let set = random_set(&mut random, 20, 3);
         let key = valid_key(&mut random, &set);
-        let start = Start::random(&mut random, &set);
+        let start = Start::random(&mut random, &set, 1);
         for leaf in 0..set.leaves() {
-            let exchange = honest_exchange(&key, &start, leaf as u8);
-            let calls = calls(&mut random, &key, &exchange);
-            let outcome = accepted(compare(&calls, unlock::verifier::Verifier::new(), count));
-            count.settle(&format!("leaf {leaf} at {set:?}"), outcome);
+            settle_accepted(&mut random, &key, &honest_exchange(&key, &start, &[leaf as u8]), count);
         }
     }
     for set in extreme_sets() {
         let key = valid_key(&mut random, &set);
-        let start = Start::random(&mut random, &set);
-        let leaf = random.below(set.leaves()) as u8;
-        let exchange = honest_exchange(&key, &start, leaf);
-        let calls = calls(&mut random, &key, &exchange);
-        let outcome = accepted(compare(&calls, unlock::verifier::Verifier::new(), count));
-        count.settle(&format!("leaf {leaf} at {set:?}"), outcome);
+        let start = Start::random(&mut random, &set, 1);
+        let leaves = any_leaves(&mut random, &set, 1);
+        settle_accepted(&mut random, &key, &honest_exchange(&key, &start, &leaves), count);
+    }
+    for runs in RUN_COUNTS {
+        let set = random_set(&mut random, 20, 4);
+        let key = valid_key(&mut random, &set);
+        let start = Start::random(&mut random, &set, runs);
+        for leaves in some_leaves(&mut random, &set, runs) {
+            settle_accepted(&mut random, &key, &honest_exchange(&key, &start, &leaves), count);
+        }
     }
 }
 
-/// The fields of message 5 and what else an opening depends on.
+/// The fields of a run and what else an opening depends on.
 const DAMAGES: usize = 12;
 
 /// Changes one bit of one of them; false if the field is empty.
-fn damage(random: &mut Random, kind: usize, key: &mut Key, exchange: &mut Exchange) -> bool {
+fn damage(random: &mut Random, kind: usize, key: &mut Key, exchange: &mut Exchange, run: usize) -> bool {
     let set = key.parameters;
     let siblings = 16 * set.axes;
     let values = siblings + 32;
     let aux = values + 8 * set.t;
     let field = match kind {
         0 => &mut exchange.message_1[..32],
-        1 => &mut exchange.message_1[32..],
-        2 => &mut exchange.message_2[..4 * set.t],
-        3 => &mut exchange.message_2[4 * set.t..],
-        4 => &mut exchange.message_3[..],
-        5 => &mut exchange.message_5[..siblings],
-        6 => &mut exchange.message_5[siblings..values],
-        7 => &mut exchange.message_5[values..values + 4 * set.t],
-        8 => &mut exchange.message_5[values + 4 * set.t..aux],
-        9 => &mut exchange.message_5[aux..],
+        1 => exchange.h_mut(run),
+        2 => &mut exchange.challenge_mut(&set, run)[..4 * set.t],
+        3 => &mut exchange.challenge_mut(&set, run)[4 * set.t..],
+        4 => exchange.response_mut(run),
+        5 => &mut exchange.opening_mut(&set, run)[..siblings],
+        6 => &mut exchange.opening_mut(&set, run)[siblings..values],
+        7 => &mut exchange.opening_mut(&set, run)[values..values + 4 * set.t],
+        8 => &mut exchange.opening_mut(&set, run)[values + 4 * set.t..aux],
+        9 => &mut exchange.opening_mut(&set, run)[aux..],
         10 => &mut key.matrix[..],
         _ => &mut key.y[..],
     };
@@ -147,27 +161,55 @@ fn damage(random: &mut Random, kind: usize, key: &mut Key, exchange: &mut Exchan
     true
 }
 
-/// Honest exchanges damaged in one field, or opened at another leaf.
+/// Compares an exchange damaged in one field of a run, and in one of another run too.
+fn damaged_run(random: &mut Random, key: &Key, exchange: &Exchange, run: usize, count: &mut Count) {
+    for kind in 0..DAMAGES {
+        for twice in [false, true] {
+            let (mut key, mut exchange) = (key.clone(), exchange.clone());
+            if !damage(random, kind, &mut key, &mut exchange, run) {
+                continue;
+            }
+            if twice {
+                let (other, kind) = (random.below(exchange.runs()), random.below(DAMAGES));
+                damage(random, kind, &mut key, &mut exchange, other);
+            }
+            let calls = calls(random, &key, &exchange);
+            let outcome = compare(&calls, unlock::verifier::Verifier::new(), count);
+            count.settle(&format!("damage {kind} of run {run} of {}", exchange.runs()), outcome.map(|_| ()));
+        }
+    }
+}
+
+/// Honest exchanges damaged in one field of one run or of two, or opened at other leaves.
 pub fn damaged(seed: u64, rounds: usize, count: &mut Count) {
     let mut random = Random::new(seed ^ 0xda3a);
     for round in 0..rounds {
-        let set = random_set(&mut random, 24, 4);
+        let (set, runs) = (random_set(&mut random, 24, 4), random.between(1, 3));
         let key = valid_key(&mut random, &set);
-        let start = Start::random(&mut random, &set);
-        let leaf = random.below(set.leaves()) as u8;
-        let exchange = honest_exchange(&key, &start, leaf);
-        for kind in 0..DAMAGES {
-            let (mut key, mut exchange) = (key.clone(), exchange.clone());
-            if damage(&mut random, kind, &mut key, &mut exchange) {
-                let calls = calls(&mut random, &key, &exchange);
-                let outcome = compare(&calls, unlock::verifier::Verifier::new(), count);
-                count.settle(&format!("damage {kind} in round {round}"), outcome.map(|_| ()));
-            }
-        }
-        let other = Exchange { leaf: random.below(set.leaves()) as u8, ..exchange };
+        let start = Start::random(&mut random, &set, runs);
+        let leaves = any_leaves(&mut random, &set, runs);
+        let exchange = honest_exchange(&key, &start, &leaves);
+        let run = random.below(runs);
+        damaged_run(&mut random, &key, &exchange, run, count);
+        let other = Exchange { leaves: any_leaves(&mut random, &set, runs), ..exchange };
         let calls = calls(&mut random, &key, &other);
         let outcome = compare(&calls, unlock::verifier::Verifier::new(), count);
-        count.settle(&format!("another leaf in round {round}"), outcome.map(|_| ()));
+        count.settle(&format!("other leaves in round {round}"), outcome.map(|_| ()));
+    }
+}
+
+/// Exchanges of one, two, five and 32 runs, damaged in every run.
+pub fn damaged_runs(seed: u64, count: &mut Count) {
+    let mut random = Random::new(seed ^ 0xda3b);
+    for runs in RUN_COUNTS {
+        let set = random_set(&mut random, 8, 2);
+        let key = valid_key(&mut random, &set);
+        let start = Start::random(&mut random, &set, runs);
+        let leaves = any_leaves(&mut random, &set, runs);
+        let exchange = honest_exchange(&key, &start, &leaves);
+        for run in 0..runs {
+            damaged_run(&mut random, &key, &exchange, run, count);
+        }
     }
 }
 

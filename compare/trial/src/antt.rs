@@ -3,6 +3,7 @@
 use reference::parameters::Parameters;
 use reference::sampling::exchanges::Exchange;
 use reference::sampling::keys::Key;
+use reference::strings::SALT_BYTES;
 use std::collections::HashSet;
 
 /// What every module may use: a module and the names taken from it.
@@ -54,7 +55,7 @@ pub fn transcript(exchange: &Exchange) -> String {
         ("message1", list(&exchange.message_1)),
         ("message2", list(&exchange.message_2)),
         ("message3", list(&exchange.message_3)),
-        ("leaf", exchange.leaf.to_string()),
+        ("leaves", list(&exchange.leaves)),
         ("message5", list(&exchange.message_5)),
     ])
 }
@@ -134,11 +135,18 @@ impl Module {
         self.value(name, "List ℕ", &list(bytes));
     }
 
-    /// An exchange, from its messages.
-    pub fn exchange(&self, exchange: &Exchange) -> String {
-        let [m1, m2, m3, m5] = [&exchange.message_1, &exchange.message_2, &exchange.message_3, &exchange.message_5]
-            .map(|message| self.list(message));
-        format!("\n    exchange\n    {m1}\n    {m2}\n    {m3}\n    {}\n    {m5}", exchange.leaf)
+    /// Names what the messages of an exchange of one run hold of it.
+    pub fn run(&mut self, name: &str, exchange: &Exchange) {
+        let (salt, h) = exchange.message_1.split_at(SALT_BYTES);
+        let term = record(&[
+            ("prefix", list(&[salt, &[0]].concat())),
+            ("h", list(h)),
+            ("message2", list(&exchange.message_2)),
+            ("message3", list(&exchange.message_3)),
+            ("leaf", exchange.leaves[0].to_string()),
+            ("message5", list(&exchange.message_5)),
+        ]);
+        self.value(name, "Exchange", &term);
     }
 
     /// States what a term computes to.

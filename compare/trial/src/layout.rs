@@ -7,7 +7,7 @@ use reference::leaves::coordinate;
 use reference::parameters::Parameters;
 use reference::tree::sibling_nodes;
 
-const USES: [(&str, &[&str]); 5] = [
+const USES: [(&str, &[&str]); 6] = [
     (
         "Rattle.layout.specs.Layout",
         &["levels", "coordinate", "message2Length", "message5Length", "workLength", "outputLength"],
@@ -16,6 +16,7 @@ const USES: [(&str, &[&str]); 5] = [
     ("Rattle.exchange.specs.Opening", &["Exchange"]),
     ("Rattle.exchange.specs.Extractor", &["compared", "axis"]),
     ("Rattle.test_standin.specs.Definitions", &["definitions"]),
+    ("Rattle.test_exchange.specs.Definitions", &["exchangeLengths"]),
 ];
 
 /// A list of terms.
@@ -60,12 +61,29 @@ fn compared(set: &Parameters, hidden: [usize; 2]) -> Vec<Vec<usize>> {
 fn length_facts(module: &mut Module) {
     let set = Parameters::SHIPPED;
     module.value("shipped", "Parameters", &parameters(&set));
-    let leaves = [0, set.last_leaf(), set.leaves()];
+    let leaves = [0, set.last_leaf() as u8];
     let openings = leaves.map(|leaf| format!("message5Length shipped {leaf}")).join(" ∷ ");
     let computed = format!("message2Length shipped ∷ {openings} ∷ workLength shipped ∷ outputLength shipped ∷ []");
-    let [first, last, beyond] = leaves.map(|leaf| set.message_5_bytes(leaf));
-    let lengths = [set.message_2_bytes(), first, last, beyond, set.work_bytes(), set.extractor_bytes()];
+    let [first, last] = leaves.map(|leaf| set.opening_bytes(leaf));
+    let lengths = [set.challenge_bytes(), first, last, set.work_bytes(), set.states_bytes()];
     module.fact("lengths-are", &computed, &numbers(lengths));
+}
+
+/// Of exchanges of several runs, one of which hides leaf n.
+fn exchange_length_facts(module: &mut Module, set: &Parameters) {
+    let leaves = [0, set.last_leaf() as u8, set.leaves() as u8];
+    for runs in 1..=leaves.len() {
+        let leaves = &leaves[..runs];
+        let computed = format!("exchangeLengths cube {runs} ({})", numbers(leaves.iter().map(|&leaf| leaf.into())));
+        let lengths = [
+            Parameters::message_1_bytes(runs),
+            set.message_2_bytes(runs),
+            Parameters::message_3_bytes(runs),
+            set.message_5_bytes(leaves),
+            set.extractor_bytes(runs),
+        ];
+        module.fact(&format!("exchange{runs}-lengths-are"), &computed, &numbers(lengths));
+    }
 }
 
 fn cube_facts(module: &mut Module, set: &Parameters) {
@@ -102,7 +120,9 @@ pub fn module() -> Module {
         "shipped, cube, leafNumbers     the shipped set; a set with D 3, and its leaves",
         "hiding i                       an exchange that hides leaf i, its messages empty",
         "pairs                          the pairs of two leaves",
-        "lengths-are                    message 2; message 5 for leaf 0, n−1 and n; work area; the extractor's output",
+        "lengths-are                    of a run: message 2; message 5 for leaf 0 and n−1; work area; the extractor's output",
+        "exchange1-lengths-are, ..      of one, two and three runs that hide leaf 0, n−1 and n: messages 1, 2, 3 and 5, the",
+        "                               extractor's output",
         "coordinates-are                of each leaf, on axes 1 to 3",
         "siblings-are                   of each leaf: the nodes, from the root side down",
         "compared-are                   layers and numbers in the order in which the extractor compares, leaves 2 and 5 hidden",
@@ -112,6 +132,7 @@ pub fn module() -> Module {
     let set = Parameters::new(2, 1, 1, 3, 1);
     length_facts(&mut module);
     module.value("cube", "Parameters", &parameters(&set));
+    exchange_length_facts(&mut module, &set);
     cube_facts(&mut module, &set);
     extractor_facts(&mut module, &set);
     module

@@ -12,6 +12,7 @@ mod extractor;
 mod layout;
 mod messages;
 mod prover;
+mod runs;
 mod sample;
 mod sums;
 mod verifier;
@@ -31,25 +32,28 @@ struct Crate {
     modules: Vec<Module>,
 }
 
-/// m, k, w, D, t and the weight of x: small, since the facts are computed by the definitions.
+/// m, k, w, D, t, the weight of x and the run count: small, since the facts are computed by the definitions.
 fn crates() -> [Crate; 2] {
-    let one_axis = Sample::new(1, Parameters::new(3, 1, 2, 1, 1), 2);
-    let two_axes = Sample::new(2, Parameters::new(5, 3, 2, 2, 1), 1);
-    let two_positions = Sample::new(3, Parameters::new(3, 2, 1, 1, 2), 1);
-    let small = Sample::new(4, Parameters::new(2, 1, 1, 1, 1), 1);
-    let small_square = Sample::new(5, Parameters::new(2, 1, 1, 2, 1), 1);
+    let one_axis = Sample::new(1, Parameters::new(3, 1, 2, 1, 1), 2, 1);
+    let two_axes = Sample::new(2, Parameters::new(5, 3, 2, 2, 1), 1, 1);
+    let two_positions = Sample::new(3, Parameters::new(3, 2, 1, 1, 2), 1, 1);
+    let small = Sample::new(4, Parameters::new(2, 1, 1, 1, 1), 1, 1);
+    let small_square = Sample::new(5, Parameters::new(2, 1, 1, 2, 1), 1, 1);
+    let two_runs = Sample::new(6, Parameters::new(2, 1, 1, 1, 1), 1, 2);
     let [one_axis_findings, two_axes_findings] = extractor::findings(&small, &small_square);
-    let title = "m 5, k 3, w 2, D 2, t 1; x has one nonzero entry, so E is filled.";
+    let title = "m 5, k 3, w 2, D 2, t 1, one run; x has one nonzero entry, so E is filled.";
     let exchange = vec![
         layout::module(),
-        messages::module("OneAxis", "m 3, k 1, w 2, D 1, t 1.", &one_axis, 0, Extent::Verdicts),
+        runs::module(&two_runs),
+        messages::module("OneAxis", "m 3, k 1, w 2, D 1, t 1, one run.", &one_axis, &[0], Extent::Verdicts),
         one_axis_findings,
-        messages::module("TwoPositions", "m 3, k 2, w 1, D 1, t 2.", &two_positions, 0, Extent::Messages),
-        messages::module("TwoAxes", title, &two_axes, 1, Extent::Messages),
+        messages::module("TwoPositions", "m 3, k 2, w 1, D 1, t 2, one run.", &two_positions, &[0], Extent::Messages),
+        messages::module("TwoAxes", title, &two_axes, &[1], Extent::Messages),
         two_axes_findings,
+        messages::module("TwoRuns", "m 2, k 1, w 1, D 1, t 1, two runs.", &two_runs, &[0, 1], Extent::Runs),
         sums::module("Sums", "m 2, k 1, w 1, D 2, t 1.", &small_square, 10, 1),
     ];
-    let calls = vec![prover::calls(&small), verifier::calls(&small), extractor::calls(&small)];
+    let calls = vec![prover::calls(&two_runs), verifier::calls(&two_runs), extractor::calls(&two_runs)];
     [
         Crate { name: "test_exchange", given: &["Definitions"], modules: exchange },
         Crate { name: "test_calls", given: &["Definitions"], modules: calls },

@@ -1,4 +1,4 @@
-//! One parameter set: the key's polynomials, the prover's messages, and verdicts.
+//! One parameter set and run count: the key's polynomials, the prover's messages, and verdicts.
 
 use crate::antt::{list, parameters, public_key, record, Module};
 use crate::sample::{changed, Part, Sample};
@@ -11,44 +11,38 @@ const USES: [(&str, &[&str]); 2] = [
 ];
 
 /// The equations of `Computed`.
-const COMPUTED: [&str; 10] = [
-    "x-is",
-    "S-is",
-    "Q-is",
-    "P-is",
-    "F-is",
-    "message1-is",
-    "message3-is",
-    "message5-is",
-    "last5-is",
-    "last-judged",
-];
+const COMPUTED: [&str; 10] =
+    ["x-is", "S-is", "Q-is", "P-is", "F-is", "message1-is", "message3-is", "message5-is", "last5-is", "last-judged"];
 
 /// How many of the facts a module states: a verdict costs as much as three messages 3, and the more the longer x is.
 #[derive(Clone, Copy, PartialEq, Eq)]
 pub enum Extent {
     /// One verdict, of the honest exchange that hides leaf n−1.
     Messages,
-    /// All verdicts.
+    /// All verdicts, of parts of run 0.
     Verdicts,
+    /// Verdicts of parts of both runs.
+    Runs,
 }
 
-/// The module of a set: facts for an exchange that hides one leaf, and for one that hides leaf n−1.
-pub fn module(name: &'static str, title: &str, sample: &Sample, leaf: usize, extent: Extent) -> Module {
+/// The module of a set: facts for an exchange that hides these leaves, and for one that hides leaf n−1 in every run.
+pub fn module(name: &'static str, title: &str, sample: &Sample, leaves: &[u8], extent: Extent) -> Module {
     let set = sample.key.parameters;
     let comment = [
         title,
         "",
         "sample         a key, an exchange of it, and what follows from them",
         "computed       the definitions compute it",
-        "..-judged      verdicts: of the exchange that hides its leaf, and with a part of message 5 changed",
+        "..-judged      verdicts: of the exchange that hides its leaves, and with parts of message 5 changed",
     ];
-    let mut module = Module::new(name, &comment[..if extent == Extent::Verdicts { 5 } else { 4 }], &USES);
-    let exchanges = [leaf, set.last_leaf()].map(|leaf| sample.exchange(leaf));
+    let mut module = Module::new(name, &comment[..if extent == Extent::Messages { 4 } else { 5 }], &USES);
+    let exchanges = [sample.exchange(leaves), sample.exchange_hiding(set.last_leaf())];
     module.value("sample", "Sample", &sample_record(sample, &exchanges));
     module.holds("computed", "Computed sample", &COMPUTED);
-    if extent == Extent::Verdicts {
-        verdict_facts(&mut module, sample, &exchanges[0]);
+    match extent {
+        Extent::Messages => (),
+        Extent::Verdicts => verdict_facts(&mut module, sample, &exchanges[0]),
+        Extent::Runs => run_facts(&mut module, sample, &exchanges[0]),
     }
     module
 }
@@ -59,13 +53,14 @@ fn sample_record(sample: &Sample, [hidden, last]: &[Exchange; 2]) -> String {
     let polynomials = KeyPolynomials::new(&key.parameters, &x);
     record(&[
         ("p", parameters(&key.parameters)),
+        ("runs", sample.runs().to_string()),
         ("key", public_key(&key.matrix, &key.y)),
         ("xA", list(&key.x_a)),
         ("salt", list(&sample.start.salt)),
         ("root", list(&sample.start.root)),
         ("message2", list(&sample.start.message_2)),
-        ("leaf", hidden.leaf.to_string()),
-        ("last", last.leaf.to_string()),
+        ("leaves", list(&hidden.leaves)),
+        ("lasts", list(&last.leaves)),
         ("x", list(&x)),
         ("S", list(&polynomials.s)),
         ("Q", list(&polynomials.q)),
@@ -78,10 +73,9 @@ fn sample_record(sample: &Sample, [hidden, last]: &[Exchange; 2]) -> String {
     ])
 }
 
-/// States the verdict of an exchange, which gets this name.
+/// States the verdict of an exchange of one run, which gets this name.
 pub fn verdict_fact(module: &mut Module, sample: &Sample, name: &str, exchange: &Exchange) {
-    let term = module.exchange(exchange);
-    module.value(name, "Exchange", &term);
+    module.run(name, exchange);
     let number = verdict(&sample.key.parameters, sample.key.public(), exchange);
     let computed = format!("answerNumber (verdict standIn p {name} key)");
     module.fact(&format!("{name}-judged"), &computed, &number.to_string());
@@ -97,13 +91,24 @@ fn verdict_facts(module: &mut Module, sample: &Sample, honest: &Exchange) {
         ("alphaChanged", Part::Alpha),
     ];
     for (name, part) in parts {
-        judged_fact(module, sample, name, &changed(&set, honest, part));
+        judged_fact(module, sample, name, &changed(&set, honest, 0, part));
     }
+}
+
+/// The lowest refused run counts: 5 of the second, 7 of the first before 5 of the second, 5 of the first before 7 of the
+/// second.
+fn run_facts(module: &mut Module, sample: &Sample, honest: &Exchange) {
+    let set = sample.key.parameters;
+    let with = |first, second| changed(&set, &changed(&set, honest, 0, first), 1, second);
+    judged_fact(module, sample, "hidden", honest);
+    judged_fact(module, sample, "secondChanged", &changed(&set, honest, 1, Part::Commitment));
+    judged_fact(module, sample, "alphaThenCommitment", &with(Part::Alpha, Part::Commitment));
+    judged_fact(module, sample, "commitmentThenAlpha", &with(Part::Commitment, Part::Alpha));
 }
 
 /// States the verdict of the sample's exchange with another message 5.
 fn judged_fact(module: &mut Module, sample: &Sample, name: &str, exchange: &Exchange) {
     let number = verdict(&sample.key.parameters, sample.key.public(), exchange);
-    let computed = format!("judged sample {} ({})", exchange.leaf, list(&exchange.message_5));
+    let computed = format!("judged sample ({}) ({})", list(&exchange.leaves), list(&exchange.message_5));
     module.fact(&format!("{name}-judged"), &computed, &number.to_string());
 }

@@ -42,7 +42,7 @@ impl Script<'_> {
         self.session = Prover::from_bytes(&session);
         let held = |field: &str| format!("call{} .prover .{field}", self.made);
         let set = parameters(&Parameters { m: 1, ..self.sample.key.parameters });
-        let fields = ["phase", "x", "salt", "root", "message2"].map(|field| (field, held(field)));
+        let fields = ["phase", "runs", "x", "salt", "root", "message2"].map(|field| (field, held(field)));
         let term = record(&[&fields[..1], &[("parameters", set)], &fields[1..]].concat());
         self.module.comment("the session with m 1, which no call made");
         self.module.value("damaged", "Prover", &term);
@@ -55,15 +55,15 @@ impl Script<'_> {
         let key = module.argument(&public_key(&call.lent.matrix, &call.lent.y));
         let lent = format!("{key} {} {}", module.list(&call.lent.work), module.list(&call.output));
         match &call.input {
-            ProverInput::Begin { parameters: set, x_a, salt, root } => {
+            ProverInput::Begin { parameters: set, runs, x_a, salt, root } => {
                 let set = module.argument(&parameters(set));
                 let inputs = [x_a, salt, root].map(|input| module.list(input)).join(" ");
-                format!("begin standIn {session} {set} {inputs} {lent}")
+                format!("begin standIn {session} {set} {runs} {inputs} {lent}")
             }
             ProverInput::Points { message_2 } => {
                 format!("points standIn {session} {} {lent}", module.list(message_2))
             }
-            ProverInput::Leaf { leaf } => format!("leaf standIn {session} {leaf} {lent}"),
+            ProverInput::Leaf { leaves } => format!("leaf standIn {session} {} {lent}", module.list(leaves)),
         }
     }
 
@@ -81,29 +81,31 @@ impl Script<'_> {
         root[0] ^= other;
         let input = ProverInput::Begin {
             parameters: key.parameters,
+            runs: self.sample.runs(),
             x_a: key.x_a.clone(),
             salt: start.salt.to_vec(),
             root: root.to_vec(),
         };
-        self.call(input, Parameters::MESSAGE_1_BYTES)
+        self.call(input, Parameters::message_1_bytes(self.sample.runs()))
     }
 
     fn points(&self) -> ProverCall {
         let input = ProverInput::Points { message_2: self.sample.start.message_2.clone() };
-        self.call(input, Parameters::MESSAGE_3_BYTES)
+        self.call(input, Parameters::message_3_bytes(self.sample.runs()))
     }
 
-    fn leaf(&self, leaf: usize) -> ProverCall {
-        let length = self.sample.key.parameters.message_5_bytes(leaf);
-        self.call(ProverInput::Leaf { leaf: leaf as u8 }, length)
+    /// Leaf with an output of the length for these leaves.
+    fn leaf(&self, leaves: &[u8]) -> ProverCall {
+        let length = self.sample.key.parameters.message_5_bytes(leaves);
+        self.call(ProverInput::Leaf { leaves: leaves.to_vec() }, length)
     }
 }
 
-/// A begin with other parameters or another x_A.
-fn changed_begin(begin: &ProverCall, change: impl Fn(&mut Parameters, &mut Vec<u8>)) -> ProverCall {
+/// A begin with other parameters, another run count or another x_A.
+fn changed_begin(begin: &ProverCall, change: impl Fn(&mut Parameters, &mut usize, &mut Vec<u8>)) -> ProverCall {
     let mut call = begin.clone();
-    let ProverInput::Begin { parameters, x_a, .. } = &mut call.input else { unreachable!() };
-    change(parameters, x_a);
+    let ProverInput::Begin { parameters, runs, x_a, .. } = &mut call.input else { unreachable!() };
+    change(parameters, runs, x_a);
     call
 }
 
@@ -118,26 +120,33 @@ fn long_output(mut call: ProverCall) -> ProverCall {
 fn script_calls(script: &Script) -> Vec<(&'static str, ProverCall)> {
     let set = script.sample.key.parameters;
     let begin = script.begin(0);
-    let overweight = changed_begin(&begin, |_, x_a| x_a[0] ^= 1);
+    let overweight = changed_begin(&begin, |_, _, x_a| x_a[0] ^= 1);
     let mut short_work = overweight.clone();
     short_work.lent.work.truncate(set.work_bytes() - 1);
-    let mut short_opening = script.leaf(set.leaves());
-    short_opening.output.truncate(set.message_5_bytes(set.last_leaf()));
+    let (last, beyond) = (set.last_leaf() as u8, set.leaves() as u8);
+    let mut short_opening = script.leaf(&[0, beyond]);
+    short_opening.output.truncate(set.message_5_bytes(&[0, last]));
     vec![
         ("points before the first begin, the output a byte long", long_output(script.points())),
-        ("begin with k = m", changed_begin(&begin, |set, _| set.k = set.m)),
+        ("begin with k = m", changed_begin(&begin, |set, _, _| set.k = set.m)),
+        ("begin with 33 runs, x overweight", changed_begin(&overweight, |_, runs, _| *runs = 33)),
+        ("begin with no run", changed_begin(&begin, |_, runs, _| *runs = 0)),
+        ("begin with three runs, the output that of two", changed_begin(&begin, |_, runs, _| *runs = 3)),
         ("begin, x overweight, the work area a byte short", short_work),
         ("begin", begin.clone()),
         ("begin with the salt and root held, x overweight", overweight),
         ("begin with the salt and root held", begin.clone()),
-        ("leaf before points, the output a byte long", long_output(script.leaf(0))),
+        ("leaf before points, the output a byte long", long_output(script.leaf(&[0, 0]))),
         ("points, the output a byte long", long_output(script.points())),
         ("points", script.points()),
         ("points again", script.points()),
-        ("leaf n, the output as short as for leaf n−1", short_opening),
-        ("leaf n", script.leaf(set.leaves())),
-        ("leaf 0", script.leaf(0)),
-        ("leaf n once closed", script.leaf(set.leaves())),
+        ("leaf of one leaf", script.leaf(&[beyond])),
+        ("leaf of three leaves", script.leaf(&[0, 0, beyond])),
+        ("leaves 0 and n, the output as short as for leaf n−1", short_opening),
+        ("leaves 0 and n", script.leaf(&[0, beyond])),
+        ("leaves n and n−1", script.leaf(&[beyond, last])),
+        ("leaves 0 and n−1", script.leaf(&[0, last])),
+        ("leaves n and 0 once closed", script.leaf(&[beyond, 0])),
         ("points once closed", script.points()),
         ("begin with the salt and root held, once closed", begin),
         ("begin with another root", script.begin(1)),
@@ -148,7 +157,7 @@ fn script_calls(script: &Script) -> Vec<(&'static str, ProverCall)> {
 fn damaged_calls(script: &Script) -> Vec<(&'static str, ProverCall)> {
     vec![
         ("points, the session damaged", script.points()),
-        ("leaf 0, the session damaged", script.leaf(0)),
+        ("leaves 0 and 0, the session damaged", script.leaf(&[0, 0])),
         ("begin with the salt and root held, the session damaged", script.begin(1)),
         ("begin with another root, the session damaged", script.begin(0)),
     ]

@@ -20,18 +20,28 @@ pub struct Sample {
 }
 
 impl Sample {
-    /// A sample with a vector of this weight.
-    pub fn new(seed: u64, set: Parameters, weight: usize) -> Sample {
+    /// A sample of so many runs with a vector of this weight.
+    pub fn new(seed: u64, set: Parameters, weight: usize, runs: usize) -> Sample {
         let mut random = Random::new(seed);
         let x = vector_of_weight(&mut random, set.m, weight);
         let key = key_of_vector(&mut random, &set, &x);
-        let message_2 = random.bytes(set.message_2_bytes());
+        let message_2 = random.bytes(set.message_2_bytes(runs));
         Sample { key, start: Start { salt: random.array(), root: random.array(), message_2 } }
     }
 
-    /// The honest exchange that hides a leaf.
-    pub fn exchange(&self, leaf: usize) -> Exchange {
-        honest_exchange(&self.key, &self.start, leaf as u8)
+    /// The run count.
+    pub fn runs(&self) -> usize {
+        self.start.message_2.len() / self.key.parameters.challenge_bytes()
+    }
+
+    /// The honest exchange that hides these leaves, one a run.
+    pub fn exchange(&self, leaves: &[u8]) -> Exchange {
+        honest_exchange(&self.key, &self.start, leaves)
+    }
+
+    /// The honest exchange that hides one leaf in every run.
+    pub fn exchange_hiding(&self, leaf: usize) -> Exchange {
+        self.exchange(&vec![leaf as u8; self.runs()])
     }
 }
 
@@ -48,8 +58,8 @@ pub enum Part {
     Aux,
 }
 
-/// The exchange with the lowest bit of the first byte of a part of message 5 changed.
-pub fn changed(set: &Parameters, exchange: &Exchange, part: Part) -> Exchange {
+/// The exchange with the lowest bit of the first byte of a part of a run's opening changed.
+pub fn changed(set: &Parameters, exchange: &Exchange, run: usize, part: Part) -> Exchange {
     let commitment = 16 * set.axes;
     let place = match part {
         Part::Sibling(level) => 16 * level,
@@ -58,6 +68,6 @@ pub fn changed(set: &Parameters, exchange: &Exchange, part: Part) -> Exchange {
         Part::Aux => commitment + 32 + 8 * set.t,
     };
     let mut exchange = exchange.clone();
-    exchange.message_5[place] ^= 1;
+    exchange.opening_mut(set, run)[place] ^= 1;
     exchange
 }

@@ -1,5 +1,5 @@
-//! The sums of α, β and v on each axis of openings that somebody made up: message 5 is random, h and h' are what follows
-//! from it.
+//! The sums of α, β and v on each axis of openings of one run that somebody made up: message 5 is random, h and h' are what
+//! follows from it.
 
 use crate::antt::{list, Module};
 use crate::messages::verdict_fact;
@@ -13,7 +13,7 @@ use reference::sampling::Random;
 
 const USES: [(&str, &[&str]); 3] = [
     ("Rattle.exchange.specs.Parties", &["sumsOf"]),
-    ("Rattle.exchange.specs.Opening", &["Exchange", "exchange", "announced", "verdict"]),
+    ("Rattle.exchange.specs.Opening", &["Exchange", "announced", "verdict"]),
     ("Rattle.test_standin.specs.Definitions", &["definitions"]),
 ];
 
@@ -24,7 +24,7 @@ pub fn module(name: &'static str, title: &str, sample: &Sample, seed: u64, leaf:
         title,
         "",
         "p, key                   parameters, matrix and y",
-        "madeUp, madeUpLast       accepted exchanges that no prover made: message 5 is random; madeUpLast hides leaf n−1",
+        "madeUp, madeUpLast       accepted runs that no prover made: message 5 is random; madeUpLast hides leaf n−1",
         "..-judged                their verdicts",
         "..-sums                  the sums of α, β and v on each axis",
     ];
@@ -32,7 +32,7 @@ pub fn module(name: &'static str, title: &str, sample: &Sample, seed: u64, leaf:
     module.key(&sample.key);
     let mut random = Random::new(seed);
     for (name, leaf) in [("madeUp", leaf), ("madeUpLast", set.last_leaf())] {
-        let exchange = leaf_first(&mut random, &set, sample.key.public(), leaf as u8);
+        let exchange = leaf_first(&mut random, &set, sample.key.public(), &[leaf as u8]);
         verdict_fact(&mut module, sample, name, &exchange);
         sums_fact(&mut module, sample, name, &exchange);
     }
@@ -40,7 +40,8 @@ pub fn module(name: &'static str, title: &str, sample: &Sample, seed: u64, leaf:
 }
 
 fn sums_fact(module: &mut Module, sample: &Sample, name: &str, exchange: &Exchange) {
-    let axes = recompute(&sample.key.parameters, sample.key.public(), &exchange.messages()).axes;
+    let (set, messages) = (&sample.key.parameters, exchange.messages());
+    let axes = recompute(set, sample.key.public(), &messages.run(set, 0)).axes;
     let numbers: String = (0..axes.len()).map(|j| format!("{j} ∷ ")).collect();
     let expected: String = axes.iter().map(|axis| format!("{} ∷ ", list(&sums(axis)))).collect();
     let computed = format!("map (λ j. sumsOf p (announced standIn p {name} key j)) ({numbers}[])");

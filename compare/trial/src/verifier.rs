@@ -3,6 +3,7 @@
 use crate::antt::{list, parameters, public_key, record, Module};
 use crate::sample::{changed, Part, Sample, WORK};
 use reference::parameters::Parameters;
+use reference::runs::GREATEST_RUNS;
 use reference::sampling::calls::{LentBytes, VerifierCall};
 use reference::sampling::exchanges::Exchange;
 use reference::verifier::Verifier;
@@ -24,15 +25,16 @@ struct Script {
 }
 
 impl Script {
-    /// Names the session with leaf n in place of the leaf that it holds, and goes on from it.
+    /// Names the session with leaf n in place of the second leaf that it holds, and goes on from it.
     fn damage(&mut self, set: &Parameters) {
         let mut session = self.session.to_bytes();
-        *session.last_mut().expect("a session has bytes") = set.leaves() as u8;
+        let place = session.len() - GREATEST_RUNS;
+        session[place + 1] = set.leaves() as u8;
         self.session = Verifier::from_bytes(&session);
         let held = |field| (field, format!("call{} .verifier .{field}", self.made));
-        let fields = ["phase", "parameters", "message1", "message2", "message3"].map(held);
-        let term = record(&[&fields[..], &[("leaf", set.leaves().to_string())]].concat());
-        self.module.comment("the session with leaf n, which no call made");
+        let fields = ["phase", "parameters", "runs", "message1", "message2", "message3"].map(held);
+        let term = record(&[&fields[..], &[("leaves", list(&session[place..]))]].concat());
+        self.module.comment("the session with leaf n in run 1, which no call made");
         self.module.value("damaged", "Verifier", &term);
         self.term = "damaged".into();
     }
@@ -41,12 +43,12 @@ impl Script {
     fn term(&self, call: &VerifierCall) -> String {
         let (module, session) = (&self.module, &self.term);
         match call {
-            VerifierCall::Begin { parameters: set, message_1 } => {
-                format!("begin {session} {} {}", module.argument(&parameters(set)), module.list(message_1))
+            VerifierCall::Begin { parameters: set, runs, message_1 } => {
+                format!("begin {session} {} {runs} {}", module.argument(&parameters(set)), module.list(message_1))
             }
             VerifierCall::Points { message_2 } => format!("points {session} {}", module.list(message_2)),
             VerifierCall::Response { message_3 } => format!("response {session} {}", module.list(message_3)),
-            VerifierCall::Leaf { leaf } => format!("leaf {session} {leaf}"),
+            VerifierCall::Leaf { leaves } => format!("leaf {session} {}", module.list(leaves)),
             VerifierCall::Opening { message_5, lent } => {
                 let key = module.argument(&public_key(&lent.matrix, &lent.y));
                 format!("opening standIn {session} {} {key} {}", module.list(message_5), module.list(&lent.work))
@@ -93,10 +95,14 @@ fn lent(sample: &Sample) -> LentBytes {
 /// The five calls of an exchange.
 fn five_calls(sample: &Sample, exchange: &Exchange) -> [VerifierCall; 5] {
     [
-        VerifierCall::Begin { parameters: sample.key.parameters, message_1: exchange.message_1.clone() },
+        VerifierCall::Begin {
+            parameters: sample.key.parameters,
+            runs: sample.runs(),
+            message_1: exchange.message_1.clone(),
+        },
         VerifierCall::Points { message_2: exchange.message_2.clone() },
         VerifierCall::Response { message_3: exchange.message_3.clone() },
-        VerifierCall::Leaf { leaf: exchange.leaf },
+        VerifierCall::Leaf { leaves: exchange.leaves.clone() },
         VerifierCall::Opening { message_5: exchange.message_5.clone(), lent: lent(sample) },
     ]
 }
@@ -110,27 +116,33 @@ fn short(message: &[u8]) -> Vec<u8> {
 /// first in the order counts.
 fn first_calls(sample: &Sample, honest: &Exchange) -> Vec<(&'static str, VerifierCall)> {
     let set = sample.key.parameters;
-    let short_begin = |parameters| VerifierCall::Begin { parameters, message_1: short(&honest.message_1) };
+    let short_begin = |parameters, runs| VerifierCall::Begin { parameters, runs, message_1: short(&honest.message_1) };
     let short_response = VerifierCall::Response { message_3: short(&honest.message_3) };
     let short_opening = VerifierCall::Opening { message_5: short(&honest.message_5), lent: lent(sample) };
-    let leaf_beyond = VerifierCall::Leaf { leaf: set.leaves() as u8 };
+    let leaves = |leaves: &[u8]| VerifierCall::Leaf { leaves: leaves.to_vec() };
+    let beyond = set.leaves() as u8;
+    let leaf_beyond = leaves(&[0, beyond]);
     let [begin, points, response, leaf, opening] = five_calls(sample, honest);
     vec![
-        ("leaf n before the first begin", leaf_beyond.clone()),
-        ("begin with t 9, message 1 a byte short", short_begin(Parameters { t: 9, ..set })),
-        ("begin, message 1 a byte short", short_begin(set)),
+        ("leaves 0 and n before the first begin", leaf_beyond.clone()),
+        ("begin with t 9, message 1 a byte short", short_begin(Parameters { t: 9, ..set }, 2)),
+        ("begin with no run, message 1 a byte short", short_begin(set, 0)),
+        ("begin with 33 runs, message 1 a byte short", short_begin(set, 33)),
+        ("begin with two runs, message 1 a byte short", short_begin(set, 2)),
         ("begin", begin),
         ("response before points, message 3 a byte short", short_response.clone()),
         ("points, message 2 a byte short", VerifierCall::Points { message_2: short(&honest.message_2) }),
         ("points", points),
         ("response, message 3 a byte short", short_response),
         ("response", response),
-        ("leaf n", leaf_beyond.clone()),
-        ("leaf 0", leaf),
+        ("leaf n alone", leaves(&[beyond])),
+        ("leaves 0, 0 and n", leaves(&[0, 0, beyond])),
+        ("leaves 0 and n", leaf_beyond.clone()),
+        ("leaves 0 and n−1", leaf),
         ("opening, message 5 a byte short", short_opening.clone()),
         ("opening", opening),
         ("opening once closed, message 5 a byte short", short_opening),
-        ("leaf n once closed", leaf_beyond),
+        ("leaves 0 and n once closed", leaf_beyond),
     ]
 }
 
@@ -144,10 +156,11 @@ pub fn calls(sample: &Sample) -> Module {
         "p, key, m1, m2, m3, m5     parameters, matrix and y, the messages of an honest exchange",
         "work                       a work area, longer than its named length",
         "call1, call2, ..           the calls, with all that they are lent",
-        "damaged                    a session whose opening is due, with leaf n",
+        "damaged                    a session whose opening is due, with leaf n in run 1",
         "call1-gives, ..            the number that the call answers; of an opening, then the work area",
     ];
-    let honest = sample.exchange(0);
+    let last = set.last_leaf() as u8;
+    let honest = sample.exchange(&[0, last]);
     let mut module = Module::new("VerifierCalls", &comment, &USES);
     module.key(&sample.key);
     module.bytes("m1", &honest.message_1);
@@ -159,17 +172,19 @@ pub fn calls(sample: &Sample) -> Module {
     for (label, call) in first_calls(sample, &honest) {
         script.make(label, &call);
     }
-    let mut response_changed = sample.exchange(set.last_leaf());
-    response_changed.message_3[31] ^= 0x80;
-    script.exchange(sample, "the commitment changed", &changed(&set, &honest, Part::Commitment));
-    script.exchange(sample, "leaf n−1 hidden, message 3 changed", &response_changed);
+    let second_changed = changed(&set, &honest, 1, Part::Commitment);
+    let mut both_changed = second_changed.clone();
+    both_changed.message_3[31] ^= 0x80;
+    script.exchange(sample, "the commitment of run 1 changed", &second_changed);
+    script.exchange(sample, "h' of run 0 changed, and the commitment of run 1", &both_changed);
     let [begin, points, response, leaf, opening] = five_calls(sample, &honest);
-    for (label, call) in [("begin", &begin), ("points", &points), ("response", &response), ("leaf 0", &leaf)] {
+    for (label, call) in [("begin", &begin), ("points", &points), ("response", &response), ("leaves 0 and n−1", &leaf)]
+    {
         script.make(label, call);
     }
     script.damage(&set);
     for (label, call) in
-        [("points", points), ("response", response), ("leaf 0", leaf), ("opening", opening), ("begin", begin)]
+        [("points", points), ("response", response), ("leaf", leaf), ("opening", opening), ("begin", begin)]
     {
         script.make(&format!("{label}, the session damaged"), &call);
     }

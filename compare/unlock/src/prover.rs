@@ -40,11 +40,12 @@ impl Prover {
         &self.session
     }
 
-    /// Starts an exchange and writes message 1.
+    /// Starts an exchange of so many runs and writes message 1.
     #[allow(clippy::too_many_arguments)]
     pub fn begin(
         &mut self,
         set: &[u64],
+        runs: u64,
         x_a: &[u8],
         salt: &[u8],
         root: &[u8],
@@ -60,6 +61,7 @@ impl Prover {
                 self.session.len() as u64,
                 set.as_ptr(),
                 set.len() as u64,
+                runs,
                 x_a.as_ptr(),
                 x_a.len() as u64,
                 salt.as_ptr(),
@@ -100,13 +102,14 @@ impl Prover {
     }
 
     /// Takes message 4, writes message 5 and closes the exchange.
-    pub fn leaf(&mut self, leaf: u8, matrix: &[u8], y: &[u8], work: &mut [u8], out: &mut [u8]) -> u8 {
+    pub fn leaf(&mut self, leaves: &[u8], matrix: &[u8], y: &[u8], work: &mut [u8], out: &mut [u8]) -> u8 {
         // SAFETY: each pointer stands with the length of its slice, and what is written overlaps nothing.
         unsafe {
             interface::unlock_prover_leaf(
                 self.session.as_mut_ptr(),
                 self.session.len() as u64,
-                leaf,
+                leaves.as_ptr(),
+                leaves.len() as u64,
                 matrix.as_ptr(),
                 matrix.len() as u64,
                 y.as_ptr(),

@@ -40,8 +40,8 @@ impl Verifier {
         &self.session
     }
 
-    /// Starts an exchange with message 1.
-    pub fn begin(&mut self, set: &[u64], message_1: &[u8]) -> u8 {
+    /// Starts an exchange of so many runs with message 1.
+    pub fn begin(&mut self, set: &[u64], runs: u64, message_1: &[u8]) -> u8 {
         let (session, len) = (self.session.as_mut_ptr(), self.session.len() as u64);
         // SAFETY: each pointer stands with the length of its slice, and the session overlaps nothing.
         unsafe {
@@ -50,6 +50,7 @@ impl Verifier {
                 len,
                 set.as_ptr(),
                 set.len() as u64,
+                runs,
                 message_1.as_ptr(),
                 message_1.len() as u64,
             )
@@ -71,9 +72,10 @@ impl Verifier {
     }
 
     /// Takes message 4, which was sent.
-    pub fn leaf(&mut self, leaf: u8) -> u8 {
-        // SAFETY: the pointer stands with the length of its slice.
-        unsafe { interface::unlock_verifier_leaf(self.session.as_mut_ptr(), self.session.len() as u64, leaf) }
+    pub fn leaf(&mut self, leaves: &[u8]) -> u8 {
+        let (session, len) = (self.session.as_mut_ptr(), self.session.len() as u64);
+        // SAFETY: each pointer stands with the length of its slice, and the session overlaps nothing.
+        unsafe { interface::unlock_verifier_leaf(session, len, leaves.as_ptr(), leaves.len() as u64) }
     }
 
     /// Takes message 5 and closes the exchange with the verdict.

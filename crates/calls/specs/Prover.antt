@@ -5,7 +5,7 @@
 -- fresh                 a session before its first begin
 -- heldX s               the x that the session holds
 -- heldMessage2 s        the message 2 that it holds
--- intact s              its parameters are within their limits and its x has at most w nonzero entries, as after every begin
+-- intact s              its parameters and its run count are within their limits and its x has at most w nonzero entries, as after every begin
 -- standing s            the phase that counts: a session that is not fresh and not intact, so one that no call made, counts as closed
 -- closed s              'exchange closed, only begin is due'
 -- pointsDue, leafDue    'call not due; so is every call but begin before a session's first begin'
@@ -14,11 +14,11 @@
 -- settle                'A refused call writes no output', and 'leave[s] the session unchanged'
 -- begin                 'begin (key, salt, root seed; gives 1)'; 'drops the exchange held'
 -- points                'points (gives 3)'
--- leaf                  'leaf (gives 5, closes)'
+-- leaf                  'leaf (gives 5, closes)': takes the hidden leaf of each run
 use mathlib.Core.Bool.{Bool, _&&_, _||_, not, cond}
 use mathlib.Core.List.{List, [], _∷_}
 use Prim.Native.Nat.{ℕ}
-use lib.Dec.{leb, ltb}
+use lib.Dec.{leb}
 use lib.ListN.{replicate, take}
 use Rattle.lists.specs.Part.{putAt}
 use Rattle.lists.specs.Zeroed.{zeroed}
@@ -32,13 +32,14 @@ use Rattle.answers.specs.Checks.{checks}
 use Rattle.parameters.specs.declared.Parameters.{Parameters}
 use Rattle.parameters.specs.Limits.{withinLimits}
 use Rattle.relation.specs.Key.{weightOf, vectorOf}
-use Rattle.layout.specs.Layout.{leaves, message2Length, workLength}
-use Rattle.exchange.specs.Run.{runOf}
+use Rattle.layout.specs.Layout.{workLength}
+use Rattle.layout.specs.Maxima.{mostMessages2}
+use Rattle.layout.specs.Runs.{runsWithin, messages2Length}
 use Rattle.exchange.specs.Values.{Key}
-use Rattle.exchange.specs.Messages.{message1, message3, message5}
+use Rattle.runs.specs.Messages.{message1, message3, message5}
 use Rattle.prover_phase.specs.declared.Phase.{Phase}
 use Rattle.prover_phase.specs.declared.Phase.the-variants.{Fresh, Begun, Answered, Closed}
-use Rattle.calls.specs.Lengths.{beginLengths, pointsLengths, leafLengths}
+use Rattle.calls.specs.Lengths.{beginLengths, pointsLengths, leafLengths, leavesBelow}
 pub use Rattle.prover_phase.specs.Phases.{isFresh, isBegun, isAnswered, isClosed}
 pub mod History
 pub mod Settled
@@ -53,6 +54,7 @@ pub mod Runs
 pub record Prover : Type 0 where
   pub phase : Phase
   pub parameters : Parameters
+  pub runs : ℕ
   pub x : List ℕ
   pub salt : List ℕ
   pub root : List ℕ
@@ -62,20 +64,21 @@ unfoldable pub fresh : Prover
 fresh = record {
   phase = Fresh;
   parameters = record { m = 0; k = 0; w = 0; axes = 0; t = 0 };
+  runs = 0;
   x = replicate 255 0;
   salt = replicate 32 0;
   root = replicate 16 0;
-  message2 = replicate 64 0;
+  message2 = replicate mostMessages2 0;
 }
 
 unfoldable pub heldX : Prover → List ℕ
 heldX s = take (s .parameters .m) (s .x)
 
 unfoldable pub heldMessage2 : Prover → List ℕ
-heldMessage2 s = take (message2Length (s .parameters)) (s .message2)
+heldMessage2 s = take (messages2Length (s .parameters) (s .runs)) (s .message2)
 
 unfoldable pub intact : Prover → Bool
-intact s = withinLimits (s .parameters) && leb (weightOf (heldX s)) (s .parameters .w)
+intact s = withinLimits (s .parameters) && (runsWithin (s .runs) && leb (weightOf (heldX s)) (s .parameters .w))
 
 unfoldable pub standing : Prover → Phase
 standing s = cond (isFresh (s .phase) || intact s) (s .phase) Closed
@@ -111,12 +114,12 @@ padded n s = putAt (replicate n 0) 0 s
 module _ (hash : List ℕ → ℕ → List ℕ) (s : Prover) where
   -- ---- begin
 
-  module _ (p : Parameters) (xA salt root : List ℕ) (key : Key) (work out : List ℕ) where
+  module _ (p : Parameters) (runs : ℕ) (xA salt root : List ℕ) (key : Key) (work out : List ℕ) where
     unfoldable pub beginChecks : Answer
     beginChecks =
         checks (
-        (withinLimits p, Parameter)
-        ∷ (allTrue (beginLengths p xA salt root key work out), Length)
+        (withinLimits p && runsWithin runs, Parameter)
+        ∷ (allTrue (beginLengths p runs xA salt root key work out), Length)
         ∷ (leb (weightOf (vectorOf (key .matrix) (key .y) xA)) (p .w), Weight)
         ∷ (not (repeated s salt root), Repeated)
         ∷ []
@@ -128,12 +131,13 @@ module _ (hash : List ℕ → ℕ → List ℕ) (s : Prover) where
       prover = record {
         phase = Begun;
         parameters = p;
+        runs = runs;
         x = padded 255 (vectorOf (key .matrix) (key .y) xA);
         salt = salt;
         root = root;
-        message2 = replicate 64 0;
+        message2 = replicate mostMessages2 0;
       };
-      out = message1 hash p (vectorOf (key .matrix) (key .y) xA) (runOf salt root);
+      out = message1 hash p runs (vectorOf (key .matrix) (key .y) xA) salt root;
       work = zeroed (workLength p) work;
     }
 
@@ -151,37 +155,53 @@ module _ (hash : List ℕ → ℕ → List ℕ) (s : Prover) where
         checks (
         (not (closed s), ExchangeClosed)
         ∷ (pointsDue s, NotDue)
-        ∷ (allTrue (pointsLengths p m2 key work out), Length)
+        ∷ (allTrue (pointsLengths p (s .runs) m2 key work out), Length)
         ∷ []
         )
 
     unfoldable pub answered : Outcome
     answered = record {
       answer = 0;
-      prover = record { phase = Answered; parameters = p; x = s .x; salt = s .salt; root = s .root; message2 = padded 64 m2 };
-      out = message3 hash p (heldX s) (runOf (s .salt) (s .root)) key m2;
+      prover = record {
+        phase = Answered;
+        parameters = p;
+        runs = s .runs;
+        x = s .x;
+        salt = s .salt;
+        root = s .root;
+        message2 = putAt (s .message2) 0 m2;
+      };
+      out = message3 hash p (s .runs) (heldX s) (s .salt) (s .root) key m2;
       work = zeroed (workLength p) work;
     }
 
     unfoldable pub points : Outcome
     points = settle pointsChecks s out work answered
 
-  module _ (i : ℕ) (key : Key) (work out : List ℕ) where
+  module _ (is : List ℕ) (key : Key) (work out : List ℕ) where
     unfoldable pub leafChecks : Answer
     leafChecks =
         checks (
         (not (closed s), ExchangeClosed)
         ∷ (leafDue s, NotDue)
-        ∷ (allTrue (leafLengths p i key work out), Length)
-        ∷ (ltb i (leaves p), Leaf)
+        ∷ (allTrue (leafLengths p (s .runs) is key work out), Length)
+        ∷ (leavesBelow p is, Leaf)
         ∷ []
         )
 
     unfoldable pub opened : Outcome
     opened = record {
       answer = 0;
-      prover = record { phase = Closed; parameters = p; x = s .x; salt = s .salt; root = s .root; message2 = s .message2 };
-      out = message5 hash p (heldX s) (runOf (s .salt) (s .root)) key (heldMessage2 s) i;
+      prover = record {
+        phase = Closed;
+        parameters = p;
+        runs = s .runs;
+        x = s .x;
+        salt = s .salt;
+        root = s .root;
+        message2 = s .message2;
+      };
+      out = message5 hash p (s .runs) (heldX s) (s .salt) (s .root) key (heldMessage2 s) is;
       work = zeroed (workLength p) work;
     }
 

@@ -3,7 +3,7 @@
 --
 -- Verifier             what a session holds
 -- fresh                a session before its first begin
--- intact s             its parameters are within their limits and its leaf is below n, as after every begin
+-- intact s             its parameters and its run count are within their limits and the leaves of its runs are below n, as after every begin
 -- standing s           the phase that counts: a session that is not fresh and not intact, so one that no call made, counts as closed
 -- closed s             'exchange closed, only begin is due'
 -- due s here           'call not due; so is every call but begin before a session's first begin'
@@ -14,7 +14,7 @@
 use mathlib.Core.Bool.{Bool, _&&_, _||_, not, cond}
 use mathlib.Core.List.{List, [], _∷_}
 use Prim.Native.Nat.{ℕ}
-use lib.Dec.{eqb, ltb}
+use lib.Dec.{eqb}
 use lib.ListN.{length, replicate, take}
 use Rattle.lists.specs.Part.{putAt}
 use Rattle.lists.specs.Zeroed.{zeroed}
@@ -27,12 +27,14 @@ use Rattle.answers.specs.Number.{refusalNumber, answerNumber}
 use Rattle.answers.specs.Checks.{checks}
 use Rattle.parameters.specs.declared.Parameters.{Parameters}
 use Rattle.parameters.specs.Limits.{withinLimits}
-use Rattle.layout.specs.Layout.{leaves, message2Length, workLength}
+use Rattle.layout.specs.Layout.{workLength}
+use Rattle.layout.specs.Maxima.{mostRuns, mostMessage1, mostMessages2, mostMessages3}
+use Rattle.layout.specs.Runs.{runsWithin, message1Length, messages2Length, messages3Length}
 use Rattle.exchange.specs.Values.{Key}
-use Rattle.exchange.specs.Opening.{Exchange, exchange, verdict}
+use Rattle.runs.specs.Opening.{Transcript, transcript, verdict}
 use Rattle.verifier_phase.specs.declared.Phase.{Phase}
 use Rattle.verifier_phase.specs.declared.Phase.the-variants.{Fresh, Begun, Pointed, Responded, Chosen, Closed}
-use Rattle.calls.specs.Lengths.{openingLengths}
+use Rattle.calls.specs.Lengths.{openingLengths, leavesBelow}
 pub use Rattle.verifier_phase.specs.Phases.{step}
 pub mod History
 pub mod Since
@@ -46,23 +48,38 @@ pub mod Runs
 pub record Verifier : Type 0 where
   pub phase : Phase
   pub parameters : Parameters
+  pub runs : ℕ
   pub message1 : List ℕ
   pub message2 : List ℕ
   pub message3 : List ℕ
-  pub leaf : ℕ
+  pub leaves : List ℕ
 
 unfoldable pub fresh : Verifier
 fresh = record {
   phase = Fresh;
   parameters = record { m = 0; k = 0; w = 0; axes = 0; t = 0 };
-  message1 = replicate 64 0;
-  message2 = replicate 64 0;
-  message3 = replicate 32 0;
-  leaf = 0;
+  runs = 0;
+  message1 = replicate mostMessage1 0;
+  message2 = replicate mostMessages2 0;
+  message3 = replicate mostMessages3 0;
+  leaves = replicate mostRuns 0;
 }
 
+-- what it holds of each message, in front of zeros
+abbrev pub heldMessage1 : Verifier → List ℕ
+heldMessage1 s = take (message1Length (s .runs)) (s .message1)
+
+abbrev pub heldMessage2 : Verifier → List ℕ
+heldMessage2 s = take (messages2Length (s .parameters) (s .runs)) (s .message2)
+
+abbrev pub heldMessage3 : Verifier → List ℕ
+heldMessage3 s = take (messages3Length (s .runs)) (s .message3)
+
+abbrev pub heldLeaves : Verifier → List ℕ
+heldLeaves s = take (s .runs) (s .leaves)
+
 unfoldable pub intact : Verifier → Bool
-intact s = withinLimits (s .parameters) && ltb (s .leaf) (leaves (s .parameters))
+intact s = withinLimits (s .parameters) && (runsWithin (s .runs) && leavesBelow (s .parameters) (heldLeaves s))
 
 unfoldable pub standing : Verifier → Phase
 standing s = cond (eqb (step (s .phase)) (step Fresh) || intact s) (s .phase) Closed
@@ -74,8 +91,8 @@ unfoldable pub due : Verifier → Phase → Bool
 due s here = eqb (step (standing s)) (step here)
 
 -- the messages held, with message 5
-unfoldable pub heldExchange : Verifier → List ℕ → Exchange
-heldExchange s m5 = exchange (s .message1) (take (message2Length (s .parameters)) (s .message2)) (s .message3) (s .leaf) m5
+unfoldable pub heldTranscript : Verifier → List ℕ → Transcript
+heldTranscript s m5 = transcript (heldMessage1 s) (heldMessage2 s) (heldMessage3 s) (heldLeaves s) m5
 
 -- ---- what a call gives
 
@@ -98,62 +115,73 @@ afterBegin s here cs = checks ((not (closed s), ExchangeClosed) ∷ (due s here,
 
 -- ---- begin, points, response, leaf: the checks of each, the session after it, and the call
 
-unfoldable pub beginChecks : Parameters → List ℕ → Answer
-beginChecks p m1 = checks ((withinLimits p, Parameter) ∷ (eqb (length m1) 64, Length) ∷ [])
+unfoldable pub beginChecks : Parameters → ℕ → List ℕ → Answer
+beginChecks p runs m1 = checks ((withinLimits p && runsWithin runs, Parameter) ∷ (eqb (length m1) (message1Length runs), Length) ∷ [])
 
-unfoldable pub begun : Parameters → List ℕ → Verifier
-begun p m1 = record { phase = Begun; parameters = p; message1 = m1; message2 = replicate 64 0; message3 = replicate 32 0; leaf = 0 }
+unfoldable pub begun : Parameters → ℕ → List ℕ → Verifier
+begun p runs m1 = record {
+  phase = Begun;
+  parameters = p;
+  runs = runs;
+  message1 = putAt (replicate mostMessage1 0) 0 m1;
+  message2 = replicate mostMessages2 0;
+  message3 = replicate mostMessages3 0;
+  leaves = replicate mostRuns 0;
+}
 
-unfoldable pub begin : Verifier → Parameters → List ℕ → Outcome
-begin s p m1 = settle (beginChecks p m1) s (begun p m1)
+unfoldable pub begin : Verifier → Parameters → ℕ → List ℕ → Outcome
+begin s p runs m1 = settle (beginChecks p runs m1) s (begun p runs m1)
 
 unfoldable pub pointsChecks : Verifier → List ℕ → Answer
-pointsChecks s m2 = afterBegin s Begun ((eqb (length m2) (message2Length (s .parameters)), Length) ∷ [])
+pointsChecks s m2 = afterBegin s Begun ((eqb (length m2) (messages2Length (s .parameters) (s .runs)), Length) ∷ [])
 
 unfoldable pub pointed : Verifier → List ℕ → Verifier
 pointed s m2 = record {
   phase = Pointed;
   parameters = s .parameters;
+  runs = s .runs;
   message1 = s .message1;
-  message2 = putAt (replicate 64 0) 0 m2;
+  message2 = putAt (s .message2) 0 m2;
   message3 = s .message3;
-  leaf = s .leaf;
+  leaves = s .leaves;
 }
 
 unfoldable pub points : Verifier → List ℕ → Outcome
 points s m2 = settle (pointsChecks s m2) s (pointed s m2)
 
 unfoldable pub responseChecks : Verifier → List ℕ → Answer
-responseChecks s m3 = afterBegin s Pointed ((eqb (length m3) 32, Length) ∷ [])
+responseChecks s m3 = afterBegin s Pointed ((eqb (length m3) (messages3Length (s .runs)), Length) ∷ [])
 
 unfoldable pub responded : Verifier → List ℕ → Verifier
 responded s m3 = record {
   phase = Responded;
   parameters = s .parameters;
+  runs = s .runs;
   message1 = s .message1;
   message2 = s .message2;
-  message3 = m3;
-  leaf = s .leaf;
+  message3 = putAt (s .message3) 0 m3;
+  leaves = s .leaves;
 }
 
 unfoldable pub response : Verifier → List ℕ → Outcome
 response s m3 = settle (responseChecks s m3) s (responded s m3)
 
-unfoldable pub leafChecks : Verifier → ℕ → Answer
-leafChecks s i = afterBegin s Responded ((ltb i (leaves (s .parameters)), Leaf) ∷ [])
+unfoldable pub leafChecks : Verifier → List ℕ → Answer
+leafChecks s is = afterBegin s Responded ((eqb (length is) (s .runs), Length) ∷ (leavesBelow (s .parameters) is, Leaf) ∷ [])
 
-unfoldable pub chosen : Verifier → ℕ → Verifier
-chosen s i = record {
+unfoldable pub chosen : Verifier → List ℕ → Verifier
+chosen s is = record {
   phase = Chosen;
   parameters = s .parameters;
+  runs = s .runs;
   message1 = s .message1;
   message2 = s .message2;
   message3 = s .message3;
-  leaf = i;
+  leaves = putAt (s .leaves) 0 is;
 }
 
-unfoldable pub leaf : Verifier → ℕ → Outcome
-leaf s i = settle (leafChecks s i) s (chosen s i)
+unfoldable pub leaf : Verifier → List ℕ → Outcome
+leaf s is = settle (leafChecks s is) s (chosen s is)
 
 -- ---- the opening
 
@@ -162,10 +190,11 @@ unfoldable pub ended : Verifier → Verifier
 ended s = record {
   phase = Closed;
   parameters = s .parameters;
+  runs = s .runs;
   message1 = s .message1;
   message2 = s .message2;
   message3 = s .message3;
-  leaf = s .leaf;
+  leaves = s .leaves;
 }
 
 module _ (hash : List ℕ → ℕ → List ℕ) (s : Verifier) (m5 : List ℕ) (key : Key) (work : List ℕ) where
@@ -173,10 +202,10 @@ module _ (hash : List ℕ → ℕ → List ℕ) (s : Verifier) (m5 : List ℕ) (
   p = s .parameters
 
   unfoldable pub openingChecks : Answer
-  openingChecks = afterBegin s Chosen ((allTrue (openingLengths p (s .leaf) m5 key work), Length) ∷ [])
+  openingChecks = afterBegin s Chosen ((allTrue (openingLengths p (heldLeaves s) m5 key work), Length) ∷ [])
 
   unfoldable pub judge : Answer → Judged
-  judge Done = record { answer = answerNumber (verdict hash p (heldExchange s m5) key); verifier = ended s; work = zeroed (workLength p) work }
+  judge Done = record { answer = answerNumber (verdict hash p (s .runs) (heldTranscript s m5) key); verifier = ended s; work = zeroed (workLength p) work }
   judge (Refused r) = record { answer = refusalNumber r; verifier = s; work = work }
 
   unfoldable pub opening : Judged

@@ -1,6 +1,7 @@
 -- The extractor's call for C.
 --
--- extractNumber a      the number of a refusal as it stands; 65536·layer + number for an unequal pair; 256 + axis where the output is filled
+-- extractNumber a      the number of a refusal as it stands; 65536·layer + 256·run + number for an unequal pair; 256·(run + 1) + axis where the
+--                      output is filled
 -- Outcome              number, output and work area
 -- extractAfter o       what the call's outcome o gives
 -- extractCall          the call, at SHAKE256
@@ -12,6 +13,7 @@ use Rattle.answers.specs.declared.Refusal.the-variants.{Length}
 use Rattle.parameters.specs.declared.Parameters.{Parameters}
 use Rattle.shake256.specs.Fips.{SHAKE256}
 use Rattle.exchange.specs.Values.{Key}
+use Rattle.runs.specs.Opening.{Transcript}
 use Rattle.calls.specs.Extractor.{refused, pair, filled}
 use Rattle.calls.specs.Extractor as extractor
 use Rattle.capi.specs.Set.{withSet}
@@ -19,8 +21,8 @@ pub mod Laws
 
 abbrev pub extractNumber : extractor.Answer → ℕ
 extractNumber (refused n) = n
-extractNumber (pair layer number) = 65536 * layer + number
-extractNumber (filled axis) = 256 + axis
+extractNumber (pair run layer number) = 65536 * layer + 256 * run + number
+extractNumber (filled run axis) = 256 * (run + 1) + axis
 
 pub record Outcome : Type 0 where
   pub number : ℕ
@@ -34,8 +36,8 @@ given n out work = record { number = n; out = out; work = work }
 unfoldable pub extractAfter : extractor.Outcome → Outcome
 extractAfter o = given (extractNumber (o .answer)) (o .out) (o .work)
 
-abbrev pub extractCall : Parameters → extractor.Transcript → extractor.Transcript → Key → List ℕ → List ℕ → Outcome
-extractCall p t t′ key work out = extractAfter (extractor.extraction SHAKE256 p t t′ key work out)
+abbrev pub extractCall : Parameters → ℕ → Transcript → Transcript → Key → List ℕ → List ℕ → Outcome
+extractCall p runs t t′ key work out = extractAfter (extractor.extraction SHAKE256 p runs t t′ key work out)
 
-abbrev pub extractSet : List ℕ → extractor.Transcript → extractor.Transcript → Key → List ℕ → List ℕ → Outcome
-extractSet ns t t′ key work out = withSet ns (λ p. extractCall p t t′ key work out) (given (refusalNumber Length) out work)
+abbrev pub extractSet : List ℕ → ℕ → Transcript → Transcript → Key → List ℕ → List ℕ → Outcome
+extractSet ns runs t t′ key work out = withSet ns (λ p. extractCall p runs t t′ key work out) (given (refusalNumber Length) out work)

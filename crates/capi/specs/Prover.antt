@@ -36,15 +36,16 @@ proverAfter b o = given (o .answer) (after (o .answer) b (proverBytes (o .prover
 unfoldable pub proverCall : List ℕ → ℕ → List ℕ → List ℕ → (prover.Prover → prover.Outcome) → Outcome
 proverCall b n work out call = fits b proverSize (proverAfter b (call (proverFrom b))) (given n b out work)
 
-abbrev pub proverBegin : List ℕ → Parameters → List ℕ → List ℕ → List ℕ → Key → List ℕ → List ℕ → Outcome
-proverBegin b p xA salt root key work out = proverCall b (misfitNumber p) work out (λ s. prover.begin SHAKE256 s p xA salt root key work out)
+abbrev pub proverBegin : List ℕ → Parameters → ℕ → List ℕ → List ℕ → List ℕ → Key → List ℕ → List ℕ → Outcome
+proverBegin b p runs xA salt root key work out =
+    proverCall b (misfitNumber p runs) work out (λ s. prover.begin SHAKE256 s p runs xA salt root key work out)
 
-abbrev pub proverBeginSet : List ℕ → List ℕ → List ℕ → List ℕ → List ℕ → Key → List ℕ → List ℕ → Outcome
-proverBeginSet b ns xA salt root key work out =
-    withSet ns (λ p. proverBegin b p xA salt root key work out) (given (refusalNumber Length) b out work)
+abbrev pub proverBeginSet : List ℕ → List ℕ → ℕ → List ℕ → List ℕ → List ℕ → Key → List ℕ → List ℕ → Outcome
+proverBeginSet b ns runs xA salt root key work out =
+    withSet ns (λ p. proverBegin b p runs xA salt root key work out) (given (refusalNumber Length) b out work)
 
 abbrev pub proverPoints : List ℕ → List ℕ → Key → List ℕ → List ℕ → Outcome
 proverPoints b m2 key work out = proverCall b (refusalNumber Length) work out (λ s. prover.points SHAKE256 s m2 key work out)
 
-abbrev pub proverLeaf : List ℕ → ℕ → Key → List ℕ → List ℕ → Outcome
-proverLeaf b i key work out = proverCall b (refusalNumber Length) work out (λ s. prover.leaf SHAKE256 s i key work out)
+abbrev pub proverLeaf : List ℕ → List ℕ → Key → List ℕ → List ℕ → Outcome
+proverLeaf b is key work out = proverCall b (refusalNumber Length) work out (λ s. prover.leaf SHAKE256 s is key work out)

@@ -30,11 +30,11 @@ verifierAfter b o = kept (o .answer) (after (o .answer) b (verifierBytes (o .ver
 unfoldable pub verifierCall : List ℕ → ℕ → (verifier.Verifier → verifier.Outcome) → Kept
 verifierCall b n call = fits b verifierSize (verifierAfter b (call (verifierFrom b))) (kept n b)
 
-abbrev pub verifierBegin : List ℕ → Parameters → List ℕ → Kept
-verifierBegin b p m1 = verifierCall b (misfitNumber p) (λ s. verifier.begin s p m1)
+abbrev pub verifierBegin : List ℕ → Parameters → ℕ → List ℕ → Kept
+verifierBegin b p runs m1 = verifierCall b (misfitNumber p runs) (λ s. verifier.begin s p runs m1)
 
-abbrev pub verifierBeginSet : List ℕ → List ℕ → List ℕ → Kept
-verifierBeginSet b ns m1 = withSet ns (λ p. verifierBegin b p m1) (kept (refusalNumber Length) b)
+abbrev pub verifierBeginSet : List ℕ → List ℕ → ℕ → List ℕ → Kept
+verifierBeginSet b ns runs m1 = withSet ns (λ p. verifierBegin b p runs m1) (kept (refusalNumber Length) b)
 
 abbrev pub verifierPoints : List ℕ → List ℕ → Kept
 verifierPoints b m2 = verifierCall b (refusalNumber Length) (λ s. verifier.points s m2)
@@ -42,8 +42,8 @@ verifierPoints b m2 = verifierCall b (refusalNumber Length) (λ s. verifier.poin
 abbrev pub verifierResponse : List ℕ → List ℕ → Kept
 verifierResponse b m3 = verifierCall b (refusalNumber Length) (λ s. verifier.response s m3)
 
-abbrev pub verifierLeaf : List ℕ → ℕ → Kept
-verifierLeaf b i = verifierCall b (refusalNumber Length) (λ s. verifier.leaf s i)
+abbrev pub verifierLeaf : List ℕ → List ℕ → Kept
+verifierLeaf b is = verifierCall b (refusalNumber Length) (λ s. verifier.leaf s is)
 
 -- ---- the opening
 

@@ -15,7 +15,7 @@ ghost use Rattle.capi.specs.Prover.{given, proverBeginSet, proverPoints,
 
 // Writes the session of a call that was carried out; the number of its answer.
 fn keep(called: Called, session: &mut [u8]) -> u8
-    requires { ⌜ (length (now session) ≡ proverSize) × (answerNumber (called .answer) ≡ 0 → Small (called .prover .parameters)) ⌝ }
+    requires { ⌜ (length (now session) ≡ proverSize) × (answerNumber (called .answer) ≡ 0 → Small (called .prover .parameters) (called .prover .runs)) ⌝ }
     ensures { λ r. ⌜ kept r (now (session .exit)) ≡ kept (answerNumber (called .answer))
         (after (answerNumber (called .answer)) (now (session .entry)) (proverBytes (held (called .prover)))) ⌝ }
 {
@@ -28,11 +28,12 @@ fn keep(called: Called, session: &mut [u8]) -> u8
     0
 }
 
-// Begins an exchange and gives message 1. A set of another length gives 2 before everything else.
+// Begins an exchange of so many runs and gives message 1. A set of another length gives 2 before everything else.
 #[no_mangle]
 pub extern "C" fn unlock_prover_begin(
     session: &mut [u8],
     set: &[usize],
+    runs: usize,
     x_a: &[u8],
     salt: &[u8],
     root: &[u8],
@@ -42,7 +43,7 @@ pub extern "C" fn unlock_prover_begin(
     out: &mut [u8],
 ) -> u8
     ensures { λ r. ⌜ given r (now (session .exit)) (now (out .exit)) (now (work .exit))
-        ≡ proverBeginSet (now (session .entry)) (now (set .entry)) (now («x_a» .entry)) (now (salt .entry)) (now (root .entry))
+        ≡ proverBeginSet (now (session .entry)) (now (set .entry)) runs (now («x_a» .entry)) (now (salt .entry)) (now (root .entry))
         (keyOf (now (matrix .entry)) (now (y .entry))) (now (work .entry)) (now (out .entry)) ⌝ }
 {
     if set.len() != parameters::set::LENGTH {
@@ -50,10 +51,10 @@ pub extern "C" fn unlock_prover_begin(
     }
     let p = parameters_of(set);
     if session.len() != stored::PROVER_SIZE {
-        return misfit_number(p);
+        return misfit_number(p, runs);
     }
     let s = stored::read_prover(session);
-    let called = s.begin(p, x_a, salt, root, matrix, y, work, out);
+    let called = s.begin(p, runs, x_a, salt, root, matrix, y, work, out);
     keep(called, session)
 }
 
@@ -78,23 +79,23 @@ pub extern "C" fn unlock_prover_points(
     keep(called, session)
 }
 
-// Takes message 4, the leaf that stays hidden, gives message 5 and closes the exchange.
+// Takes message 4, the leaf that stays hidden in each run, gives message 5 and closes the exchange.
 #[no_mangle]
 pub extern "C" fn unlock_prover_leaf(
     session: &mut [u8],
-    leaf: u8,
+    leaves: &[u8],
     matrix: &[u8],
     y: &[u8],
     work: &mut [u8],
     out: &mut [u8],
 ) -> u8
     ensures { λ r. ⌜ given r (now (session .exit)) (now (out .exit)) (now (work .exit))
-        ≡ proverLeaf (now (session .entry)) leaf (keyOf (now (matrix .entry)) (now (y .entry))) (now (work .entry)) (now (out .entry)) ⌝ }
+        ≡ proverLeaf (now (session .entry)) (now (leaves .entry)) (keyOf (now (matrix .entry)) (now (y .entry))) (now (work .entry)) (now (out .entry)) ⌝ }
 {
     if session.len() != stored::PROVER_SIZE {
         return 2;
     }
     let s = stored::read_prover(session);
-    let called = s.leaf(leaf, matrix, y, work, out);
+    let called = s.leaf(leaves, matrix, y, work, out);
     keep(called, session)
 }

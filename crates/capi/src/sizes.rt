@@ -42,24 +42,32 @@ pub extern "C" fn unlock_work_size(set: &[usize]) -> usize
     layout::work_length(parameters_of(set))
 }
 
-// The length of message 5 where the leaf is hidden; 0 where the set has another length or a parameter is outside its limits.
+// The length of message 5 of as many runs as there are hidden leaves; 0 where the set has another length, or a parameter or the run
+// count is outside its limits.
 #[no_mangle]
-pub extern "C" fn unlock_opening_size(set: &[usize], leaf: u8) -> usize
-    ensures { λ r. ⌜ r ≡ openingSize (now (set .entry)) leaf ⌝ }
+pub extern "C" fn unlock_opening_size(set: &[usize], leaves: &[u8]) -> usize
+    ensures { λ r. ⌜ r ≡ openingSize (now (set .entry)) (now (leaves .entry)) ⌝ }
 {
+    if !layout::runs::runs_within(leaves.len()) {
+        return 0;
+    }
     if !set_within(set) {
         return 0;
     }
-    layout::message5_length(parameters_of(set), leaf as usize)
+    layout::runs::messages5_length(parameters_of(set), leaves)
 }
 
-// The length of the extractor's output; 0 where the set has another length or a parameter is outside its limits.
+// The length of the extractor's output for so many runs; 0 where the set has another length, or a parameter or the run count is
+// outside its limits.
 #[no_mangle]
-pub extern "C" fn unlock_extract_size(set: &[usize]) -> usize
-    ensures { λ r. ⌜ r ≡ extractSize (now (set .entry)) ⌝ }
+pub extern "C" fn unlock_extract_size(set: &[usize], runs: usize) -> usize
+    ensures { λ r. ⌜ r ≡ extractSize (now (set .entry)) runs ⌝ }
 {
+    if !layout::runs::runs_within(runs) {
+        return 0;
+    }
     if !set_within(set) {
         return 0;
     }
-    layout::output_length(parameters_of(set))
+    layout::runs::outputs_length(parameters_of(set), runs)
 }

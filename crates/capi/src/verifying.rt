@@ -17,7 +17,7 @@ ghost use Rattle.capi.specs.Verifier.{verifierBeginSet, verifierPoints, 
 
 // Writes the session of a call that was carried out; the number of its answer.
 fn keep(called: Called, session: &mut [u8]) -> u8
-    requires { ⌜ (length (now session) ≡ verifierSize) × (answerNumber (called .answer) ≡ 0 → Small (called .verifier .parameters)) ⌝ }
+    requires { ⌜ (length (now session) ≡ verifierSize) × (answerNumber (called .answer) ≡ 0 → Small (called .verifier .parameters) (called .verifier .runs)) ⌝ }
     ensures { λ r. ⌜ kept r (now (session .exit)) ≡ kept (answerNumber (called .answer))
         (after (answerNumber (called .answer)) (now (session .entry)) (verifierBytes (held (called .verifier)))) ⌝ }
 {
@@ -30,20 +30,25 @@ fn keep(called: Called, session: &mut [u8]) -> u8
     0
 }
 
-// Begins an exchange with its parameters and message 1. A set of another length gives 2 before everything else.
+// Begins an exchange of so many runs with its parameters and message 1. A set of another length gives 2 before everything else.
 #[no_mangle]
-pub extern "C" fn unlock_verifier_begin(session: &mut [u8], set: &[usize], message1: &[u8]) -> u8
-    ensures { λ r. ⌜ kept r (now (session .exit)) ≡ verifierBeginSet (now (session .entry)) (now (set .entry)) (now (message1 .entry)) ⌝ }
+pub extern "C" fn unlock_verifier_begin(
+    session: &mut [u8],
+    set: &[usize],
+    runs: usize,
+    message1: &[u8],
+) -> u8
+    ensures { λ r. ⌜ kept r (now (session .exit)) ≡ verifierBeginSet (now (session .entry)) (now (set .entry)) runs (now (message1 .entry)) ⌝ }
 {
     if set.len() != parameters::set::LENGTH {
         return 2;
     }
     let p = parameters_of(set);
     if session.len() != stored::VERIFIER_SIZE {
-        return misfit_number(p);
+        return misfit_number(p, runs);
     }
     let s = stored::read_verifier(session);
-    let called = s.begin(p, message1);
+    let called = s.begin(p, runs, message1);
     keep(called, session)
 }
 
@@ -60,7 +65,7 @@ pub extern "C" fn unlock_verifier_points(session: &mut [u8], message2: &[u8]) ->
     keep(called, session)
 }
 
-// Takes message 3, the response digest.
+// Takes message 3, the response digests.
 #[no_mangle]
 pub extern "C" fn unlock_verifier_response(session: &mut [u8], message3: &[u8]) -> u8
     ensures { λ r. ⌜ kept r (now (session .exit)) ≡ verifierResponse (now (session .entry)) (now (message3 .entry)) ⌝ }
@@ -73,22 +78,22 @@ pub extern "C" fn unlock_verifier_response(session: &mut [u8], message3: &[u8]) 
     keep(called, session)
 }
 
-// Takes message 4, the leaf that is to stay hidden.
+// Takes message 4, the leaf that is to stay hidden in each run.
 #[no_mangle]
-pub extern "C" fn unlock_verifier_leaf(session: &mut [u8], leaf: u8) -> u8
-    ensures { λ r. ⌜ kept r (now (session .exit)) ≡ verifierLeaf (now (session .entry)) leaf ⌝ }
+pub extern "C" fn unlock_verifier_leaf(session: &mut [u8], leaves: &[u8]) -> u8
+    ensures { λ r. ⌜ kept r (now (session .exit)) ≡ verifierLeaf (now (session .entry)) (now (leaves .entry)) ⌝ }
 {
     if session.len() != stored::VERIFIER_SIZE {
         return 2;
     }
     let s = stored::read_verifier(session);
-    let called = s.leaf(leaf);
+    let called = s.leaf(leaves);
     keep(called, session)
 }
 
 // Writes the session of an opening that was judged; the number of its answer.
 fn keep_opening(called: Called, session: &mut [u8]) -> u8
-    requires { ⌜ (length (now session) ≡ verifierSize) × (judges (answerNumber (called .answer)) ≡ true → Small (called .verifier .parameters)) ⌝ }
+    requires { ⌜ (length (now session) ≡ verifierSize) × (judges (answerNumber (called .answer)) ≡ true → Small (called .verifier .parameters) (called .verifier .runs)) ⌝ }
     ensures { λ r. ⌜ kept r (now (session .exit)) ≡ kept (answerNumber (called .answer))
         (cond (judges (answerNumber (called .answer))) (verifierBytes (held (called .verifier))) (now (session .entry))) ⌝ }
 {
@@ -102,7 +107,7 @@ fn keep_opening(called: Called, session: &mut [u8]) -> u8
     n
 }
 
-// Judges message 5 and closes the exchange: 0 where the opening is accepted, else 5 or 7.
+// Judges message 5 and closes the exchange: 0 where all runs are accepted, else 5 or 7 of the lowest refused run.
 #[no_mangle]
 pub extern "C" fn unlock_verifier_opening(
     session: &mut [u8],

@@ -1,13 +1,15 @@
 -- Demand 2, its last clause: 'with a valid key, its matrix and y unchanged throughout, every root and salt that an exchange may start
--- with, all points and multipliers and every leaf of the cube lead to acceptance.' It is about the calls, after any run of prover's calls
+-- with, all points and multipliers and every leaf of the cube lead to acceptance.' It is about the calls, after any calls of the prover
 -- and from any session of the verifier, so that a second exchange counts like the first; of the hash only the length of what it gives is used.
+-- It holds for every run count, 1 to 32, with points and multipliers and a leaf for each run (document 02, request 01).
 --
 -- ValidKey p key xA     'a valid key': parameters within their limits, matrix, y and x_A of the lengths that document 01 gives them,
 --                       y and x_A of bytes, and x of at most w nonzero entries
 -- MayStart h salt root  'root and salt that an exchange may start with' after the calls h: of their lengths, and not both equal to those of the
 --                       last begin carried out
 -- Slices                the work area and the output that each call is lent
--- Fitting p i lent      outputs of their messages' lengths; 'a work area may be longer, never shorter than 2·D·(k+2w+12t)'
+-- Leaves p runs is      a leaf of the cube for each run
+-- Fitting p runs is lent   outputs of their messages' lengths; 'a work area may be longer, never shorter than 2·D·(k+2w+12t)'
 -- proverBegin, verifierBegin, verifierPoints, proverPoints, verifierResponse, verifierLeaf, proverLeaf, verifierOpening
 --                       the eight calls in their order, each given what the other session's call wrote, and the same matrix and y
 -- LeadsToAcceptance     all eight are carried out, and the opening is accepted
@@ -21,8 +23,11 @@ use Rattle.parameters.specs.declared.Parameters.{Parameters}
 use Rattle.parameters.specs.Limits.{Within}
 use Rattle.polynomial.specs.Bytes.{Bytes}
 use Rattle.relation.specs.Key.{weightOf, vectorOf}
-use Rattle.layout.specs.Layout.{leaves, message2Length, message5Length, workLength}
+use Rattle.layout.specs.Layout.{leaves, workLength}
+use Rattle.layout.specs.Runs.{message1Length, messages2Length, messages3Length, messages5Length}
+use Rattle.layout.specs.Runs.Laws.{RunsWithin}
 use Rattle.exchange.specs.Values.{Key}
+use Rattle.runs.specs.Messages.{leafAt}
 use Rattle.calls.specs.Prover as prover
 use Rattle.calls.specs.Prover.{Prover}
 use Rattle.calls.specs.Prover.History.{Begin, Call, after, Made, made, lastBegin}
@@ -58,23 +63,28 @@ pub record Slices : Type 0 where
   pub leaf-out : List ℕ
   pub opening-work : List ℕ
 
-pub record Fitting (p : Parameters) (i : ℕ) (lent : Slices) : Type 0 where
+pub record Leaves (p : Parameters) (runs : ℕ) (is : List ℕ) : Type 0 where
+  pub one-a-run : length is ≡ runs
+  pub below : (e : ℕ) → e < runs → leafAt is e < leaves p
+
+pub record Fitting (p : Parameters) (runs : ℕ) (is : List ℕ) (lent : Slices) : Type 0 where
   pub begin-work : workLength p ≤ length (lent .begin-work)
-  pub begin-out : length (lent .begin-out) ≡ 64
+  pub begin-out : length (lent .begin-out) ≡ message1Length runs
   pub points-work : workLength p ≤ length (lent .points-work)
-  pub points-out : length (lent .points-out) ≡ 32
+  pub points-out : length (lent .points-out) ≡ messages3Length runs
   pub leaf-work : workLength p ≤ length (lent .leaf-work)
-  pub leaf-out : length (lent .leaf-out) ≡ message5Length p i
+  pub leaf-out : length (lent .leaf-out) ≡ messages5Length p is
   pub opening-work : workLength p ≤ length (lent .opening-work)
 
 -- ---- the eight calls
 
-module _ (hash : List ℕ → ℕ → List ℕ) (p : Parameters) (key : Key) (xA : List ℕ) (s : Prover) (v : Verifier) (salt root m2 : List ℕ) (i : ℕ) (lent : Slices) where
+module _ (hash : List ℕ → ℕ → List ℕ) (p : Parameters) (runs : ℕ) (key : Key) (xA : List ℕ) (s : Prover) (v : Verifier)
+    (salt root m2 is : List ℕ) (lent : Slices) where
   abbrev pub proverBegin : prover.Outcome
-  proverBegin = prover.begin hash s p xA salt root key (lent .begin-work) (lent .begin-out)
+  proverBegin = prover.begin hash s p runs xA salt root key (lent .begin-work) (lent .begin-out)
 
   abbrev pub verifierBegin : verifier.Outcome
-  verifierBegin = verifier.begin v p (proverBegin .out)
+  verifierBegin = verifier.begin v p runs (proverBegin .out)
 
   abbrev pub verifierPoints : verifier.Outcome
   verifierPoints = verifier.points (verifierBegin .verifier) m2
@@ -86,10 +96,10 @@ module _ (hash : List ℕ → ℕ → List ℕ) (p : Parameters) (key : Key) (xA
   verifierResponse = verifier.response (verifierPoints .verifier) (proverPoints .out)
 
   abbrev pub verifierLeaf : verifier.Outcome
-  verifierLeaf = verifier.leaf (verifierResponse .verifier) i
+  verifierLeaf = verifier.leaf (verifierResponse .verifier) is
 
   abbrev pub proverLeaf : prover.Outcome
-  proverLeaf = prover.leaf hash (proverPoints .prover) i key (lent .leaf-work) (lent .leaf-out)
+  proverLeaf = prover.leaf hash (proverPoints .prover) is key (lent .leaf-work) (lent .leaf-out)
 
   abbrev pub verifierOpening : verifier.Judged
   verifierOpening = verifier.opening hash (verifierLeaf .verifier) (proverLeaf .out) key (lent .opening-work)
@@ -108,9 +118,9 @@ module _ (hash : List ℕ → ℕ → List ℕ) (p : Parameters) (key : Key) (xA
 -- ---- the clause
 
 abbrev pub Complete : (List ℕ → ℕ → List ℕ) → Type 0
-Complete hash = (p : Parameters) (key : Key) (xA : List ℕ) → ValidKey p key xA
+Complete hash = (p : Parameters) (runs : ℕ) → RunsWithin runs → (key : Key) (xA : List ℕ) → ValidKey p key xA
     → (cs : List Call) (v : Verifier) (salt root : List ℕ) → MayStart (made hash cs) salt root
-    → (m2 : List ℕ) → length m2 ≡ message2Length p
-    → (i : ℕ) → i < leaves p
-    → (lent : Slices) → Fitting p i lent
-    → LeadsToAcceptance hash p key xA (after hash cs) v salt root m2 i lent
+    → (m2 : List ℕ) → length m2 ≡ messages2Length p runs
+    → (is : List ℕ) → Leaves p runs is
+    → (lent : Slices) → Fitting p runs is lent
+    → LeadsToAcceptance hash p runs key xA (after hash cs) v salt root m2 is lent

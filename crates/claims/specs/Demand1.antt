@@ -21,6 +21,7 @@ use Rattle.answers.specs.Order.Laws.{noneOf, First, answer-carried, answer-firs
 use Rattle.parameters.specs.declared.Parameters.{Parameters}
 use Rattle.layout.specs.Layout.{workLength}
 use Rattle.exchange.specs.Values.{Key}
+use Rattle.runs.specs.Opening.{Transcript}
 use Rattle.calls.specs.Held.{isSome}
 use Rattle.calls.specs.Judging.{judged}
 use Rattle.calls.specs.Prover as prover
@@ -60,9 +61,9 @@ pub record Prover (hash : List ℕ → ℕ → List ℕ) : Type 0 where
   pub points : (cs : List proverHistory.Call) (m2 : List ℕ) (key : Key) (work out : List ℕ)
       → (proverHistory.outcome hash (proverHistory.after hash cs) (proverHistory.pointsCall m2 key work out) .answer ≡ 0)
       ↔ proverRuns.PointsDue (proverHistory.made hash cs) m2 key work out
-  pub leaf : (cs : List proverHistory.Call) (i : ℕ) (key : Key) (work out : List ℕ)
-      → (proverHistory.outcome hash (proverHistory.after hash cs) (proverHistory.leafCall i key work out) .answer ≡ 0)
-      ↔ proverRuns.LeafDue (proverHistory.made hash cs) i key work out
+  pub leaf : (cs : List proverHistory.Call) (is : List ℕ) (key : Key) (work out : List ℕ)
+      → (proverHistory.outcome hash (proverHistory.after hash cs) (proverHistory.leafCall is key work out) .answer ≡ 0)
+      ↔ proverRuns.LeafDue (proverHistory.made hash cs) is key work out
   -- begin is carried out exactly where 1, 2 and 3 pass and salt and root are not both those of the last begin; 13 exactly where they are
   pub begin : (cs : List proverHistory.Call) (b : proverHistory.Begin) (work out : List ℕ)
       → (proverHistory.outcome hash (proverHistory.after hash cs) (proverHistory.beginCall b work out) .answer ≡ 0)
@@ -71,12 +72,12 @@ pub record Prover (hash : List ℕ → ℕ → List ℕ) : Type 0 where
       → (proverHistory.outcome hash (proverHistory.after hash cs) (proverHistory.beginCall b work out) .answer ≡ 13)
       ↔ proverRuns.Repeats (proverHistory.made hash cs) b work out
   -- between two openings there is a begin with another salt or root
-  pub begin-between : (earlier : List proverHistory.Call) (i : ℕ) (key : Key) (work out : List ℕ)
-      → proverHistory.outcome hash (proverHistory.after hash earlier) (proverHistory.leafCall i key work out) .answer ≡ 0
-      → (later : List proverHistory.Call) (i′ : ℕ) (key′ : Key) (work′ out′ : List ℕ)
-      → proverHistory.outcome hash (proverHistory.after hash (later ++ (proverHistory.leafCall i key work out ∷ earlier)))
-      (proverHistory.leafCall i′ key′ work′ out′) .answer ≡ 0
-      → proverRuns.Between hash earlier (proverHistory.leafCall i key work out) later
+  pub begin-between : (earlier : List proverHistory.Call) (is : List ℕ) (key : Key) (work out : List ℕ)
+      → proverHistory.outcome hash (proverHistory.after hash earlier) (proverHistory.leafCall is key work out) .answer ≡ 0
+      → (later : List proverHistory.Call) (is′ : List ℕ) (key′ : Key) (work′ out′ : List ℕ)
+      → proverHistory.outcome hash (proverHistory.after hash (later ++ (proverHistory.leafCall is key work out ∷ earlier)))
+      (proverHistory.leafCall is′ key′ work′ out′) .answer ≡ 0
+      → proverRuns.Between hash earlier (proverHistory.leafCall is key work out) later
   -- 'Begin is due always', on any session
   pub begin-due : (s : prover.Prover) (b : proverHistory.Begin) (work out : List ℕ)
       → (proverHistory.outcome hash s (proverHistory.beginCall b work out) .answer ≡ 11 → ⊥)
@@ -111,10 +112,10 @@ pub record Verifier (hash : List ℕ → ℕ → List ℕ) : Type 0 where
 
 pub record Extractor (hash : List ℕ → ℕ → List ℕ) : Type 0 where
   -- answer, output and work area
-  pub told : (p : Parameters) (t t′ : extractor.Transcript) (key : Key) (work out : List ℕ)
-      → extractor.extraction hash p t t′ key work out ≡ extractorExpected.expected hash p t t′ key work out
-  pub number : (p : Parameters) (t t′ : extractor.Transcript) (key : Key) (work out : List ℕ)
-      → extractor.numberOf (extractor.extraction hash p t t′ key work out .answer) ≡ extractorExpected.expectedNumber hash p t t′ key work out
+  pub told : (p : Parameters) (runs : ℕ) (t t′ : Transcript) (key : Key) (work out : List ℕ)
+      → extractor.extraction hash p runs t t′ key work out ≡ extractorExpected.expected hash p runs t t′ key work out
+  pub number : (p : Parameters) (runs : ℕ) (t t′ : Transcript) (key : Key) (work out : List ℕ)
+      → extractor.numberOf (extractor.extraction hash p runs t t′ key work out .answer) ≡ extractorExpected.expectedNumber hash p runs t t′ key work out
 
 pub record Demand1 : Type 0 where
   pub by-the-order : ByTheOrder
@@ -129,7 +130,7 @@ module _ (hash : List ℕ → ℕ → List ℕ) where
     refused = proverSettled.refused-same hash;
     one-response-and-one-opening = proverAny.at-most-one hash;
     points = λ cs m2 key work out. (proverRuns.points-carried hash cs m2 key work out, proverRuns.points-due-after-begin hash cs m2 key work out);
-    leaf = λ cs i key work out. (proverRuns.leaf-carried hash cs i key work out, proverRuns.leaf-due-after-points hash cs i key work out);
+    leaf = λ cs is key work out. (proverRuns.leaf-carried hash cs is key work out, proverRuns.leaf-due-after-points hash cs is key work out);
     begin = λ cs b work out. (proverRuns.begin-carried hash cs b work out, proverRuns.begin-due-always hash cs b work out);
     repeated = proverRuns.repeated-exactly hash;
     begin-between = proverRuns.begin-between hash;

@@ -4,6 +4,8 @@
 -- unequal, and otherwise gives every leaf's state, whose summed x, S, Q, P, a, b, c satisfy Hx = y and ε(SQ − PF)(r) = c − ab at each position;
 -- and for every list of such pairs under one key, salt and commitment, free of such strings among them all, that meets m + w different points
 -- at one position, each with two unequal multipliers, x is the same in all the pairs and has at most w nonzero entries.'
+-- Over exchanges of several runs (document 02, request 01): the hidden leaves differ in at least one run, every such run is extracted, and the points of
+-- the second half are counted 'at one position of one run, only from pairs whose hidden leaves differ in that run'.
 --
 -- Demand3       the demand
 -- demand-3      it holds
@@ -19,9 +21,10 @@ use Rattle.parameters.specs.declared.Parameters.{Parameters}
 use Rattle.parameters.specs.Limits.{Within}
 use Rattle.polynomial.specs.Bytes.{Bytes}
 use Rattle.polynomial.specs.Bytes.Laws.{bytes-from}
-use Rattle.layout.specs.Layout.{workLength, outputLength}
+use Rattle.layout.specs.Layout.{workLength}
+use Rattle.layout.specs.Runs.{outputsLength}
 use Rattle.exchange.specs.Values.{Key}
-use Rattle.calls.specs.Extractor.{Transcript}
+use Rattle.runs.specs.Opening.{Transcript}
 use Rattle.claims.specs.Words.{Comparable}
 use Rattle.claims.specs.Extraction.{Extracts}
 use Rattle.claims.specs.Extraction.Proof.{extracts}
@@ -30,19 +33,20 @@ use Rattle.claims.specs.Weight.Proof.{weight-claim}
 
 pub record Demand3 : Type 0 where
   -- two openings
-  pub extraction : (p : Parameters) (key : Key) (t t′ : Transcript) → Comparable SHAKE256 p key t t′
-      → (work out : List ℕ) → workLength p ≤ length work → length out ≡ outputLength p
-      → Extracts SHAKE256 p key t t′ work out
-  -- a list of pairs of openings
-  pub weight : (p : Parameters) (key : Key) (m1 : List ℕ) (qs : List Pair) (l : ℕ) (rs : List Point) → Within p → Bytes (key .y) → Each InBytes qs
-      → Meeting SHAKE256 p key m1 qs l rs
-      → OneLightX SHAKE256 p key qs
+  pub extraction : (p : Parameters) (runs : ℕ) (key : Key) (t t′ : Transcript) → Comparable SHAKE256 p runs key t t′
+      → (work out : List ℕ) → workLength p ≤ length work → length out ≡ outputsLength p runs
+      → Extracts SHAKE256 p runs key t t′ work out
+  -- a list of pairs of openings: the points of run e
+  pub weight : (p : Parameters) (runs : ℕ) (key : Key) (e : ℕ) (salt h : List ℕ) (qs : List Pair) (l : ℕ) (rs : List Point)
+      → Within p → Bytes (key .y) → Each InBytes qs → Meeting SHAKE256 p runs key e salt h qs l rs
+      → OneLightX SHAKE256 p runs key e qs
 
 bytes-SHAKE256 : (s : List ℕ) (n : ℕ) → Bytes (SHAKE256 s n)
 bytes-SHAKE256 s n = bytes-from (SHAKE256 s n) (SHAKE256-byte s n)
 
 pub demand-3 : Demand3
 demand-3 = record {
-  extraction = λ p key t t′ c work out wl ol. extracts SHAKE256 length-SHAKE256 p key t t′ work out c wl ol;
-  weight = λ p key m1 qs l rs within y-bytes sent h. weight-claim SHAKE256 length-SHAKE256 bytes-SHAKE256 p key m1 qs l rs within h y-bytes sent;
+  extraction = λ p runs key t t′ c work out wl ol. extracts SHAKE256 length-SHAKE256 p runs key t t′ work out c wl ol;
+  weight = λ p runs key e salt h qs l rs within y-bytes sent m.
+      weight-claim SHAKE256 length-SHAKE256 p runs key e salt h qs l rs within m bytes-SHAKE256 y-bytes sent;
 }

@@ -10,14 +10,14 @@ use Rattle.answers.specs.declared.Answer.the-variants.{Done}
 use Rattle.answers.specs.Number.{answerNumber}
 use Rattle.layout.specs.Layout.{workLength}
 use Rattle.exchange.specs.Values.{Key}
-use Rattle.exchange.specs.Opening.{verdict}
-use Rattle.calls.specs.Verifier.{Verifier, ended, heldExchange, openingChecks, judge, opening}
+use Rattle.runs.specs.Opening.{verdict}
+use Rattle.calls.specs.Verifier.{Verifier, ended, heldTranscript, openingChecks, judge, opening}
 
 pub opening-closes : (hash : List ℕ → ℕ → List ℕ) (s : Verifier) (m5 : List ℕ) (key : Key) (work : List ℕ)
     → openingChecks hash s m5 key work ≡ Done
     → opening hash s m5 key work
     ≡ record {
-      answer = answerNumber (verdict hash (s .parameters) (heldExchange s m5) key);
+      answer = answerNumber (verdict hash (s .parameters) (s .runs) (heldTranscript s m5) key);
       verifier = ended s;
       work = zeroed (workLength (s .parameters)) work;
     }

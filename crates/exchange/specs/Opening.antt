@@ -1,6 +1,7 @@
--- An exchange as its verifier sees it: what the messages hold, and what follows from them.
+-- A run of an exchange as its verifier sees it: what the messages hold, and what follows from them. In its message 1 the prefix stands where
+-- document 01 has the salt.
 --
--- Exchange             salt and h of message 1, messages 2 to 5; message 4 is the hidden leaf
+-- Exchange             prefix and h of message 1, messages 2 to 5; message 4 is the hidden leaf
 -- exchange m1 .. m5    read from the messages
 -- pathOf, commitmentOf, alphaOf, betaOf, auxOf   what message 5 holds, in its order
 -- openedState i        the state of leaf i, from the sibling seeds; of the hidden leaf it means nothing
@@ -27,7 +28,7 @@ use Rattle.answers.specs.declared.Answer.{Answer}
 use Rattle.answers.specs.declared.Refusal.the-variants.{Commitment, Response}
 use Rattle.answers.specs.Checks.{checks}
 use Rattle.parameters.specs.declared.Parameters.{Parameters}
-use Rattle.layout.specs.Layout.{levels, leaves, digit, factorLength, valuesLength, siblingsLength}
+use Rattle.layout.specs.Layout.{levels, leaves, digit, factorLength, valuesLength, siblingsLength, prefixLength}
 use Rattle.exchange.specs.Strings.{string4, string5, string7}
 use Rattle.exchange.specs.Tree.{openedSeeds}
 use Rattle.exchange.specs.Leaf.{state, share}
@@ -47,7 +48,7 @@ pub record Exchange : Type 0 where
   pub message5 : List ℕ
 
 unfoldable pub exchange : List ℕ → List ℕ → List ℕ → ℕ → List ℕ → Exchange
-exchange m1 m2 m3 leaf m5 = record { prefix = take 32 m1; h = drop 32 m1; message2 = m2; message3 = m3; leaf = leaf; message5 = m5 }
+exchange m1 m2 m3 leaf m5 = record { prefix = take prefixLength m1; h = drop prefixLength m1; message2 = m2; message3 = m3; leaf = leaf; message5 = m5 }
 
 -- ---- what message 5 holds
 

@@ -1,7 +1,7 @@
 -- A run of the exchange: what all that it hashes starts with, and what its leaves come from.
 --
--- Run               the prefix, which follows the layer byte in every string, and the seed of the root of its tree
--- runOf salt root   the one run of an exchange: its prefix is the salt
+-- Run                 the prefix, which follows the layer byte in every string, and the seed of the root of its tree
+-- runOf prefix root   the run that has these
 use mathlib.Core.List.{List}
 use Prim.Native.Nat.{ℕ}
 
@@ -10,4 +10,4 @@ pub record Run : Type 0 where
   pub root : List ℕ
 
 abbrev pub runOf : List ℕ → List ℕ → Run
-runOf salt root = record { prefix = salt; root = root }
+runOf prefix root = record { prefix = prefix; root = root }

@@ -1,5 +1,6 @@
 -- The strings that are hashed. 'Each is hashed by SHAKE256 and starts with a layer byte and the 32-byte salt; ‖ joins.'
--- The prefix is what follows the layer byte in every string: the salt.
+-- The prefix is what follows the layer byte in every string: the salt, then the run byte ('Each string of layers 1 to 7 gets a run byte (0 upward)
+-- after the salt', document 02, request 01).
 --
 -- string layer pre s   layer ‖ prefix ‖ s: nothing else builds a string
 -- nodeBytes v          'node numbers two, low byte first'

@@ -10,10 +10,9 @@ use Rattle.layout.specs.Layout.{openedLength}
 use Rattle.extractor.specs.declared.Hidden.{Hidden}
 use Rattle.extractor.specs.Shapes.{Openings}
 
-pub record Comparing (p : Parameters) (m1 : List ℕ) (hidden : Hidden) (m5 opened other5 other out : List ℕ) : Type 0 where
-  pub salt : 32 ≤ length m1
+pub record Comparing (p : Parameters) (hidden : Hidden) (m5 opened other5 other : List ℕ) : Type 0 where
   pub first-aux : auxPlace p ≤ length m5
   pub second-aux : auxPlace p ≤ length other5
   pub first-fits : openedLength p ≤ length opened
   pub second-fits : openedLength p ≤ length other
-  pub views : Openings p hidden (auxIn p m5) (take (openedLength p) opened) (auxIn p other5) (take (openedLength p) other) out
+  pub views : Openings p hidden (auxIn p m5) (take (openedLength p) opened) (auxIn p other5) (take (openedLength p) other)

@@ -1,24 +1,26 @@
 -- The checks before 5, over the lengths of what is lent.
 --
--- lengthsOf t, lentOf key work out   the lengths of an exchange's messages, with its leaf, and of what is lent besides
--- lengthTests p l         the lengths of an exchange's messages are right, one test each
+-- lengthsOf t, lentOf key work out   the lengths of an exchange's messages but message 4, and of what is lent besides
+-- lengthTests p runs l is  the lengths of an exchange's messages are right, one test each; is is message 4
 -- allLengths              all lengths are right
--- earlyOf                 the checks before 5, from the lengths and from whether messages 1, 2 and 3 of both exchanges agree
+-- below p is              all hidden leaves are below n
+-- earlyOf                 the checks before 5, from the lengths, from messages 4, and from whether messages 1, 2 and 3 of both exchanges agree
 -- early-is                they are the call's
--- Sent p t                the messages of an exchange have their lengths
+-- Sent p runs t           the messages of an exchange have their lengths
 -- Early                   what is known where the checks before 5 pass
 -- early-passed            they pass: it is known
 use mathlib.Core.Path.{_≡_, refl, sym, ap, _∙_}
 use mathlib.Core.Bool.{Bool, true, false, _&&_, not, and-true}
-use mathlib.Core.List.{List, [], _∷_, _++_}
-use Prim.Native.Nat.{ℕ, _<_}
+use mathlib.Core.List.{List, [], _∷_, _++_, map}
+use Prim.Native.Nat.{ℕ, zero, suc, _<_}
+use native.Mathlib.Omega.{arith}
 use lib.Dec.{eqb, ltb}
 use lib.ListN.{length}
-use borrow.Author.Tests.{eqb-true, eqb-false, ltb-true, not-true}
+use borrow.Author.Tests.{eqb-true, ltb-true, not-true}
 use Rattle.lists.specs.Checks.{allTrue}
 use Rattle.lists.specs.Checks.Laws.{all-at, and-left, and-right}
 use Rattle.lists.specs.Equal.{eqList}
-use Rattle.lists.specs.Equal.Laws.{eqList-true}
+use Rattle.lists.specs.Equal.Laws.{eqList-true, eqList-false}
 use Rattle.answers.specs.declared.Answer.{Answer}
 use Rattle.answers.specs.declared.Answer.the-variants.{Done}
 use Rattle.answers.specs.declared.Refusal.the-variants.{Parameter, Length, Leaf, Exchange as Differs, SameLeaf}
@@ -27,12 +29,17 @@ use Rattle.answers.specs.Checks.Laws.{check-true, check-rest}
 use Rattle.parameters.specs.declared.Parameters.{Parameters}
 use Rattle.parameters.specs.Limits.{withinLimits, Within}
 use Rattle.parameters.specs.Limits.Laws.{test-within}
-use Rattle.layout.specs.Layout.{leaves, message2Length, message5Length, outputLength}
+use Rattle.layout.specs.Layout.{leaves}
+use Rattle.layout.specs.Runs.{runsWithin, message1Length, messages2Length, messages3Length, messages5Length, outputsLength}
+use Rattle.layout.specs.Runs.Laws.{RunsWithin, runs-within}
 use Rattle.exchange.specs.Values.{Key}
 use Rattle.layout.specs.Lent.{lentTests, lent}
 use Rattle.layout.specs.Lent as layout
 use Rattle.layout.specs.Lent.Laws.{test-lent}
-use Rattle.calls.specs.Extractor.{Transcript, messageLengths, extractLengths, sameStatement, earlyChecks}
+use Rattle.runs.specs.Messages.{leafAt}
+use Rattle.runs.specs.Opening.{Transcript}
+use Rattle.calls.specs.Lengths.{leavesBelow}
+use Rattle.calls.specs.Extractor.{messageLengths, extractLengths, sameStatement, earlyChecks}
 use Rattle.extractor.specs.declared.checks.Lengths.{Lengths}
 use Rattle.extractor.specs.declared.checks.Lent.{Lent}
 
@@ -41,30 +48,33 @@ lengthsOf t = record {
   message1 = length (t .message1);
   message2 = length (t .message2);
   message3 = length (t .message3);
-  leaf = t .leaf;
   message5 = length (t .message5);
 }
 
 abbrev pub lentOf : Key → List ℕ → List ℕ → Lent
 lentOf key work out = record { matrix = length (key .matrix); y = length (key .y); work = length work; out = length out }
 
-abbrev pub lengthTests : Parameters → Lengths → List Bool
-lengthTests p l =
-    eqb (l .message1) 64 ∷ eqb (l .message2) (message2Length p) ∷ eqb (l .message3) 32 ∷ eqb (l .message5) (message5Length p (l .leaf)) ∷ []
+abbrev pub lengthTests : Parameters → ℕ → Lengths → List ℕ → List Bool
+lengthTests p runs l is =
+    eqb (l .message1) (message1Length runs) ∷ eqb (l .message2) (messages2Length p runs) ∷ eqb (l .message3) (messages3Length runs)
+    ∷ eqb (length is) runs ∷ eqb (l .message5) (messages5Length p is) ∷ []
 
-unfoldable pub allLengths : Parameters → Lengths → Lengths → Lent → Bool
-allLengths p l l′ rest =
-    allTrue (lengthTests p l)
-    && (allTrue (lengthTests p l′) && (lent p (rest .matrix) (rest .y) (rest .work) && eqb (rest .out) (outputLength p)))
+unfoldable pub allLengths : Parameters → ℕ → Lengths → List ℕ → Lengths → List ℕ → Lent → Bool
+allLengths p runs l is l′ js rest =
+    allTrue (lengthTests p runs l is)
+    && (allTrue (lengthTests p runs l′ js) && (lent p (rest .matrix) (rest .y) (rest .work) && eqb (rest .out) (outputsLength p runs)))
 
-unfoldable pub earlyOf : Parameters → Lengths → Lengths → Lent → Bool → Answer
-earlyOf p l l′ rest same =
+abbrev pub below : Parameters → List ℕ → Bool
+below p is = allTrue (map (λ i. ltb i (leaves p)) is)
+
+unfoldable pub earlyOf : Parameters → ℕ → Lengths → List ℕ → Lengths → List ℕ → Lent → Bool → Answer
+earlyOf p runs l is l′ js rest same =
     checks (
-    (withinLimits p, Parameter)
-    ∷ (allLengths p l l′ rest, Length)
-    ∷ (ltb (l .leaf) (leaves p) && ltb (l′ .leaf) (leaves p), Leaf)
+    (withinLimits p && runsWithin runs, Parameter)
+    ∷ (allLengths p runs l is l′ js rest, Length)
+    ∷ (below p is && below p js, Leaf)
     ∷ (same, Differs)
-    ∷ (not (eqb (l .leaf) (l′ .leaf)), SameLeaf)
+    ∷ (not (eqList is js), SameLeaf)
     ∷ []
     )
 
@@ -75,85 +85,100 @@ all-append [] ys = refl
 all-append (true ∷ xs) ys = all-append xs ys
 all-append (false ∷ xs) ys = refl
 
-pub record Sent (p : Parameters) (t : Transcript) : Type 0 where
-  pub size1 : length (t .message1) ≡ 64
-  pub size2 : length (t .message2) ≡ message2Length p
-  pub size3 : length (t .message3) ≡ 32
-  pub size5 : length (t .message5) ≡ message5Length p (t .leaf)
+below-each : (n : ℕ) (is : List ℕ) → allTrue (map (λ i. ltb i n) is) ≡ true → (e : ℕ) → e < length is → leafAt is e < n
+below-each n [] h e l = absurd (omega arith)
+below-each n (i ∷ is) h zero l = ltb-true i n (and-left (ltb i n) _ h)
+below-each n (i ∷ is) h (suc e) l = below-each n is (and-right (ltb i n) _ h) e (omega arith)
 
-sent : (p : Parameters) (t : Transcript) → allTrue (lengthTests p (lengthsOf t)) ≡ true → Sent p t
-sent p t e =
-    let so = all-at (lengthTests p (lengthsOf t)) e in
+pub record Sent (p : Parameters) (runs : ℕ) (t : Transcript) : Type 0 where
+  pub size1 : length (t .message1) ≡ message1Length runs
+  pub size2 : length (t .message2) ≡ messages2Length p runs
+  pub size3 : length (t .message3) ≡ messages3Length runs
+  pub size4 : length (t .leaves) ≡ runs
+  pub size5 : length (t .message5) ≡ messages5Length p (t .leaves)
+
+sent : (p : Parameters) (runs : ℕ) (t : Transcript) → allTrue (lengthTests p runs (lengthsOf t) (t .leaves)) ≡ true → Sent p runs t
+sent p runs t e =
+    let so = all-at (lengthTests p runs (lengthsOf t) (t .leaves)) e in
     record {
-      size1 = eqb-true (length (t .message1)) 64 (so 0);
-      size2 = eqb-true (length (t .message2)) (message2Length p) (so 1);
-      size3 = eqb-true (length (t .message3)) 32 (so 2);
-      size5 = eqb-true (length (t .message5)) (message5Length p (t .leaf)) (so 3);
+      size1 = eqb-true (length (t .message1)) (message1Length runs) (so 0);
+      size2 = eqb-true (length (t .message2)) (messages2Length p runs) (so 1);
+      size3 = eqb-true (length (t .message3)) (messages3Length runs) (so 2);
+      size4 = eqb-true (length (t .leaves)) runs (so 3);
+      size5 = eqb-true (length (t .message5)) (messages5Length p (t .leaves)) (so 4);
     }
 
-module _ (hash : List ℕ → ℕ → List ℕ) (p : Parameters) (t t′ : Transcript) (key : Key) (work out : List ℕ) where
-  lengths-are : allTrue (extractLengths hash p t t′ key work out) ≡ allLengths p (lengthsOf t) (lengthsOf t′) (lentOf key work out)
+module _ (hash : List ℕ → ℕ → List ℕ) (p : Parameters) (runs : ℕ) (t t′ : Transcript) (key : Key) (work out : List ℕ) where
+  lengths-are : allTrue (extractLengths hash p runs t t′ key work out) ≡ allLengths p runs (lengthsOf t) (t .leaves) (lengthsOf t′) (t′ .leaves) (lentOf key work out)
   unfolding extractLengths allLengths lent
   lengths-are =
       let ls : List Bool = lentTests p (length (key .matrix)) (length (key .y)) (length work) in
-      let o : Bool = eqb (length out) (outputLength p) in
-      all-append (messageLengths p t) (messageLengths p t′ ++ (ls ++ (o ∷ [])))
-      ∙ ap (λ (b : Bool). allTrue (messageLengths p t) && b)
-      (all-append (messageLengths p t′) (ls ++ (o ∷ []))
-      ∙ ap (λ (b : Bool). allTrue (messageLengths p t′) && b) (all-append ls (o ∷ []) ∙ ap (λ (b : Bool). allTrue ls && b) (and-true o)))
+      let o : Bool = eqb (length out) (outputsLength p runs) in
+      all-append (messageLengths p runs t) (messageLengths p runs t′ ++ (ls ++ (o ∷ [])))
+      ∙ ap (λ (b : Bool). allTrue (messageLengths p runs t) && b)
+      (all-append (messageLengths p runs t′) (ls ++ (o ∷ []))
+      ∙ ap (λ (b : Bool). allTrue (messageLengths p runs t′) && b) (all-append ls (o ∷ []) ∙ ap (λ (b : Bool). allTrue ls && b) (and-true o)))
 
-  pub early-is : earlyOf p (lengthsOf t) (lengthsOf t′) (lentOf key work out)
+  pub early-is : earlyOf p runs (lengthsOf t) (t .leaves) (lengthsOf t′) (t′ .leaves) (lentOf key work out)
       (eqList (t .message1) (t′ .message1) && (eqList (t .message2) (t′ .message2) && eqList (t .message3) (t′ .message3)))
-      ≡ earlyChecks hash p t t′ key work out
-  unfolding earlyChecks sameStatement earlyOf
+      ≡ earlyChecks hash p runs t t′ key work out
+  unfolding earlyChecks sameStatement earlyOf leavesBelow
   early-is = rw lengths-are
 
   -- ---- what passed checks say
 
   pub record Early : Type 0 where
     pub within : Within p
-    pub first : Sent p t
-    pub second : Sent p t′
+    pub count : RunsWithin runs
+    pub first : Sent p runs t
+    pub second : Sent p runs t′
     pub lent : layout.Lent p (length (key .matrix)) (length (key .y)) (length work)
-    pub room : length out ≡ outputLength p
-    pub below : t .leaf < leaves p
-    pub below′ : t′ .leaf < leaves p
+    pub room : length out ≡ outputsLength p runs
+    pub below : (e : ℕ) → e < runs → leafAt (t .leaves) e < leaves p
+    pub below′ : (e : ℕ) → e < runs → leafAt (t′ .leaves) e < leaves p
     pub message1 : t .message1 ≡ t′ .message1
     pub message2 : t .message2 ≡ t′ .message2
     pub message3 : t .message3 ≡ t′ .message3
-    pub other : t .leaf ≡ t′ .leaf → ⊥
+    pub other : t .leaves ≡ t′ .leaves → ⊥
 
-  pub early-passed : earlyChecks hash p t t′ key work out ≡ Done → Early
-  unfolding earlyChecks sameStatement allLengths
+  pub early-passed : earlyChecks hash p runs t t′ key work out ≡ Done → Early
+  unfolding earlyChecks sameStatement allLengths leavesBelow
   early-passed e =
+      let limits : Bool = withinLimits p && runsWithin runs in
       let same1 : Bool = eqList (t .message1) (t′ .message1) in
       let same2 : Bool = eqList (t .message2) (t′ .message2) in
-      let lengths : Bool = allTrue (extractLengths hash p t t′ key work out) in
-      let inside : Bool = ltb (t .leaf) (leaves p) && ltb (t′ .leaf) (leaves p) in
+      let lengths : Bool = allTrue (extractLengths hash p runs t t′ key work out) in
+      let low : Bool = allTrue (map (λ i. ltb i (leaves p)) (t .leaves)) in
+      let low′ : Bool = allTrue (map (λ i. ltb i (leaves p)) (t′ .leaves)) in
+      let inside : Bool = low && low′ in
       let same : Bool = same1 && (same2 && eqList (t .message3) (t′ .message3)) in
-      let apart : Bool = not (eqb (t .leaf) (t′ .leaf)) in
-      let ts : Bool = allTrue (lengthTests p (lengthsOf t)) in
-      let ts′ : Bool = allTrue (lengthTests p (lengthsOf t′)) in
+      let apart : Bool = not (eqList (t .leaves) (t′ .leaves)) in
+      let ts : Bool = allTrue (lengthTests p runs (lengthsOf t) (t .leaves)) in
+      let ts′ : Bool = allTrue (lengthTests p runs (lengthsOf t′) (t′ .leaves)) in
       let lents : Bool = lent p (length (key .matrix)) (length (key .y)) (length work) in
-      let e2 = check-rest (withinLimits p) Parameter _ e in
+      let e2 = check-rest limits Parameter _ e in
       let e3 = check-rest lengths Length _ e2 in
       let e4 = check-rest inside Leaf _ e3 in
+      let in-limits = check-true limits Parameter _ e in
       let sizes = sym lengths-are ∙ check-true lengths Length _ e2 in
       let sizes′ = and-right ts _ sizes in
       let last = and-right ts′ _ sizes′ in
-      let below = check-true inside Leaf _ e3 in
+      let under = check-true inside Leaf _ e3 in
       let agree = check-true same Differs _ e4 in
       let agree′ = and-right same1 _ agree in
+      let one = sent p runs t (and-left ts _ sizes) in
+      let two = sent p runs t′ (and-left ts′ _ sizes′) in
       record {
-        within = test-within p (check-true (withinLimits p) Parameter _ e);
-        first = sent p t (and-left ts _ sizes);
-        second = sent p t′ (and-left ts′ _ sizes′);
+        within = test-within p (and-left (withinLimits p) _ in-limits);
+        count = runs-within runs (and-right (withinLimits p) _ in-limits);
+        first = one;
+        second = two;
         lent = test-lent p (length (key .matrix)) (length (key .y)) (length work) (and-left lents _ last);
-        room = eqb-true (length out) (outputLength p) (and-right lents _ last);
-        below = ltb-true (t .leaf) (leaves p) (and-left (ltb (t .leaf) (leaves p)) _ below);
-        below′ = ltb-true (t′ .leaf) (leaves p) (and-right (ltb (t .leaf) (leaves p)) _ below);
+        room = eqb-true (length out) (outputsLength p runs) (and-right lents _ last);
+        below = λ e l. below-each (leaves p) (t .leaves) (and-left low _ under) e (let s = one .size4 in omega arith);
+        below′ = λ e l. below-each (leaves p) (t′ .leaves) (and-right low _ under) e (let s = two .size4 in omega arith);
         message1 = eqList-true (t .message1) (t′ .message1) (and-left same1 _ agree);
         message2 = eqList-true (t .message2) (t′ .message2) (and-left same2 _ agree′);
         message3 = eqList-true (t .message3) (t′ .message3) (and-right same2 _ agree′);
-        other = eqb-false (t .leaf) (t′ .leaf) (not-true (eqb (t .leaf) (t′ .leaf)) (check-true apart SameLeaf Done (check-rest same Differs _ e4)));
+        other = eqList-false (t .leaves) (t′ .leaves) (not-true (eqList (t .leaves) (t′ .leaves)) (check-true apart SameLeaf Done (check-rest same Differs _ e4)));
       }

@@ -23,7 +23,6 @@ use Rattle.extractor.specs.Comparison.Laws.{Shows}
 use Rattle.extractor.specs.Opened.{viewOf}
 use Rattle.extractor.specs.Opened.Laws.{state-front}
 pub mod Laws
-pub mod Pair
 
 pub record Judging (p : Parameters) (statement : List ℕ) (leaf : ℕ) (m5 matrix y work opened : List ℕ) : Type 0 where
   pub within : Within p

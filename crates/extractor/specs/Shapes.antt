@@ -6,7 +6,7 @@
 -- Placed                   what two openings give, the leaf u is one of the leaves, and room for the states
 -- Output                   what two openings give, aux where leaf n−1 is disclosed, and room for the output
 -- Opening p leaf aux opened   an opening that hides a leaf below n
--- Openings                 two openings with different hidden leaves, and room for the output
+-- Openings                 two openings with different hidden leaves
 use mathlib.Core.Path.{_≡_}
 use mathlib.Core.Bool.{true, false}
 use mathlib.Core.List.{List}
@@ -50,9 +50,8 @@ pub record Opening (p : Parameters) (leaf : ℕ) (aux opened : List ℕ) : Type 
   pub aux-size : isLast p leaf ≡ false → length aux ≡ auxLength p
   pub size : length opened ≡ openedLength p
 
-pub record Openings (p : Parameters) (hidden : Hidden) (aux opened other-aux other-opened out : List ℕ) : Type 0 where
+pub record Openings (p : Parameters) (hidden : Hidden) (aux opened other-aux other-opened : List ℕ) : Type 0 where
   pub within : Within p
   pub first : Opening p (hidden .first) aux opened
   pub second : Opening p (hidden .second) other-aux other-opened
   pub other : hidden .first ≡ hidden .second → ⊥
-  pub room : length out ≡ outputLength p

@@ -1,32 +1,33 @@
 // The checks that stand before 5 in document 01's order: 1, 2, 4, 8, 9.
 use answers::Answer;
 use answers::Refusal;
-use layout::leaf_count;
 use layout::lent;
-use layout::message2_length;
-use layout::message5_length;
-use layout::output_length;
+use layout::runs::leaves_below;
+use layout::runs::message1_length;
+use layout::runs::messages2_length;
+use layout::runs::messages3_length;
+use layout::runs::messages5_length;
+use layout::runs::outputs_length;
+use layout::runs::runs_within;
 use lists::equal;
 use parameters::Parameters;
 use parameters::within_limits;
 ghost use mathlib.Core.Path.{_≡_};
 ghost use mathlib.Core.Bool.{_&&_};
-ghost use lib.Dec.{eqb, ltb};
 ghost use lib.ListN.{length};
 ghost use Rattle.lists.specs.Checks.{allTrue};
 ghost use Rattle.lists.specs.Equal.{eqList};
-ghost use Rattle.parameters.specs.Limits.{Within};
-ghost use Rattle.layout.specs.Layout.{leaves};
+ghost use Rattle.parameters.specs.Limits.{withinLimits, Within};
+ghost use Rattle.layout.specs.Runs.{runsWithin};
+ghost use Rattle.layout.specs.Runs.Laws.{RunsWithin};
 ghost use Rattle.exchange.specs.Values.{keyOf};
-ghost use Rattle.calls.specs.Extractor.{transcript};
-ghost use Rattle.extractor.specs.Early.{lengthsOf, lentOf, lengthTests, allLengths, earlyOf};
+ghost use Rattle.extractor.specs.Early.{lentOf, lengthTests, allLengths, below, earlyOf};
 
-// The lengths of the messages of an exchange, and its leaf.
+// The lengths of the messages of an exchange but message 4.
 pub struct Lengths {
     pub message1: usize,
     pub message2: usize,
     pub message3: usize,
-    pub leaf: usize,
     pub message5: usize,
 }
 
@@ -43,17 +44,19 @@ pub fn exchange_lengths(
     message1: &[u8],
     message2: &[u8],
     message3: &[u8],
-    leaf: u8,
     message5: &[u8],
 ) -> Lengths
-    ensures { λ r. ⌜ r ≡ lengthsOf (transcript (now (message1 .entry)) (now (message2 .entry)) (now (message3 .entry)) leaf
-        (now (message5 .entry))) ⌝ }
+    ensures { λ r. ⌜ r ≡ record {
+      message1 = length (now (message1 .entry));
+      message2 = length (now (message2 .entry));
+      message3 = length (now (message3 .entry));
+      message5 = length (now (message5 .entry));
+    } ⌝ }
 {
     Lengths {
         message1: message1.len(),
         message2: message2.len(),
         message3: message3.len(),
-        leaf: leaf as usize,
         message5: message5.len(),
     }
 }
@@ -71,32 +74,47 @@ pub fn lent_lengths(matrix: &[u8], y: &[u8], work: &[u8], out: &[u8]) -> Lent
 }
 
 // Have the messages of an exchange their lengths?
-fn message_lengths(p: Parameters, has: Lengths) -> bool
-    requires { ⌜ Within p ⌝ }
-    ensures { λ r. ⌜ r ≡ allTrue (lengthTests p has) ⌝ }
+fn message_lengths(p: Parameters, runs: usize, has: Lengths, leaves: &[u8]) -> bool
+    requires { ⌜ Within p × RunsWithin runs ⌝ }
+    ensures { λ r. ⌜ r ≡ allTrue (lengthTests p runs has (now (leaves .entry))) ⌝ }
 {
-    has.message1 == 64
-        && (has.message2 == message2_length(p)
-            && (has.message3 == 32 && has.message5 == message5_length(p, has.leaf)))
+    has.message1 == message1_length(runs)
+        && (has.message2 == messages2_length(p, runs)
+            && (has.message3 == messages3_length(runs)
+                && (leaves.len() == runs && has.message5 == messages5_length(p, leaves))))
 }
 
 // Have all slices the lengths that the extractor asks?
-fn all_lengths(p: Parameters, first: Lengths, second: Lengths, rest: Lent) -> bool
-    requires { ⌜ Within p ⌝ }
-    ensures { λ r. ⌜ r ≡ allLengths p first second rest ⌝ }
+fn all_lengths(
+    p: Parameters,
+    runs: usize,
+    first: Lengths,
+    first4: &[u8],
+    second: Lengths,
+    second4: &[u8],
+    rest: Lent,
+) -> bool
+    requires { ⌜ Within p × RunsWithin runs ⌝ }
+    ensures { λ r. ⌜ r ≡ allLengths p runs first (now (first4 .entry)) second (now (second4 .entry)) rest ⌝ }
 {
-    message_lengths(p, first)
-        && (message_lengths(p, second)
-            && (lent(p, rest.matrix, rest.y, rest.work) && rest.out == output_length(p)))
+    message_lengths(p, runs, first, first4)
+        && (message_lengths(p, runs, second, second4)
+            && (lent(p, rest.matrix, rest.y, rest.work) && rest.out == outputs_length(p, runs)))
 }
 
-// Are both leaves below n?
-fn leaves_below(p: Parameters, first: usize, second: usize) -> bool
-    requires { ⌜ Within p ⌝ }
-    ensures { λ r. ⌜ r ≡ (ltb first (leaves p) && ltb second (leaves p)) ⌝ }
+// Are the parameters and the run count within their limits?
+fn all_within(p: Parameters, runs: usize) -> bool
+    ensures { λ r. ⌜ r ≡ (withinLimits p && runsWithin runs) ⌝ }
 {
-    let n = leaf_count(p);
-    first < n && second < n
+    within_limits(p) && runs_within(runs)
+}
+
+// Are all leaves of both exchanges below n?
+fn both_below(p: Parameters, first4: &[u8], second4: &[u8]) -> bool
+    requires { ⌜ Within p ⌝ }
+    ensures { λ r. ⌜ r ≡ (below p (now (first4 .entry)) && below p (now (second4 .entry))) ⌝ }
+{
+    leaves_below(p, first4) && leaves_below(p, second4)
 }
 
 // Do messages 1, 2 and 3 of both exchanges agree?
@@ -117,26 +135,29 @@ pub fn same_statement(
 // All checks before 5; `same` says whether messages 1, 2 and 3 of both exchanges agree.
 pub fn early_checks(
     p: Parameters,
+    runs: usize,
     first: Lengths,
+    first4: &[u8],
     second: Lengths,
+    second4: &[u8],
     rest: Lent,
     same: bool,
 ) -> Answer
-    ensures { λ r. ⌜ r ≡ earlyOf p first second rest same ⌝ }
+    ensures { λ r. ⌜ r ≡ earlyOf p runs first (now (first4 .entry)) second (now (second4 .entry)) rest same ⌝ }
 {
-    if !within_limits(p) {
+    if !all_within(p, runs) {
         return Answer::Refused(Refusal::Parameter);
     }
-    if !all_lengths(p, first, second, rest) {
+    if !all_lengths(p, runs, first, first4, second, second4, rest) {
         return Answer::Refused(Refusal::Length);
     }
-    if !leaves_below(p, first.leaf, second.leaf) {
+    if !both_below(p, first4, second4) {
         return Answer::Refused(Refusal::Leaf);
     }
     if !same {
         return Answer::Refused(Refusal::Exchange);
     }
-    if first.leaf == second.leaf {
+    if equal(first4, second4) {
         return Answer::Refused(Refusal::SameLeaf);
     }
     Answer::Done

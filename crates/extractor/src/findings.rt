@@ -1,32 +1,36 @@
-// Two openings compared: the first unequal pair of strings, or every leaf's state.
+// What two openings of a run gave, compared: the first unequal pair of strings.
 use crate::Hidden;
-use crate::axis::first_axis;
 use crate::commitments::first_commitment;
 use crate::digests::first_digest;
 use crate::opened::first_leaf;
-use crate::output::write_output;
 use crate::rows::first_row;
 use answers::Refusal;
 use layout::leaf_count;
 use layout::rows_end;
 use layout::states_length;
 use parameters::Parameters;
+ghost use mathlib.Core.Path.{_≡_};
 ghost use Rattle.extractor.specs.Comparison.{leafComparison, comparison};
 ghost use Rattle.extractor.specs.Opened.{viewOf};
 ghost use Rattle.extractor.specs.Shapes.{Openings};
-ghost use Rattle.extractor.specs.Found.{Found};
+ghost use Rattle.extractor.specs.Difference.{differenceOf};
 
 // What the extractor answers.
 pub enum Extraction {
     Refused(Refusal),
-    // the first unequal pair of strings: its layer, and the axis for 6, the leaf for 4, 0 for 7 and 5
-    Unequal { layer: u8, number: u8 },
-    // the output is filled: the first axis, from 1, on which the hidden leaves differ
-    Extracted { axis: u8 },
+    // the first unequal pair of strings: its run, its layer, and the axis for 6, the leaf for 4, 0 for 7 and 5
+    Unequal { run: u8, layer: u8, number: u8 },
+    // the output is filled: the lowest run whose hidden leaves differ, and the first axis, from 1, on which they do
+    Extracted { run: u8, axis: u8 },
 }
 
-// Where the rows of both openings agree: names the first unequal pair of layers 5 and 4, or fills out with the states and
-// names the axis.
+// The first unequal pair of strings of a run: its layer, and the axis for 6, the leaf for 4, 0 for 7 and 5. Layer 0: there is none.
+pub struct Difference {
+    pub layer: u8,
+    pub number: u8,
+}
+
+// Where the rows of both openings agree: the first unequal pair of layers 5 and 4.
 fn compare_leaves(
     p: Parameters,
     prefix: &[u8],
@@ -35,33 +39,32 @@ fn compare_leaves(
     opened: &[u8],
     other_aux: &[u8],
     other_opened: &[u8],
-    out: &mut [u8],
-) -> Extraction
-    requires { ⌜ Openings p hidden (now aux) (now opened) (now «other_aux») (now «other_opened») (now out) ⌝ }
-    ensures { λ r. ⌜ Found (leafComparison p (now (prefix .entry)) (viewOf p (hidden .first) (now (aux .entry)) (now (opened .entry)))
-        (viewOf p (hidden .second) (now («other_aux» .entry)) (now («other_opened» .entry)))) (now (out .entry)) r (now (out .exit)) ⌝ }
+) -> Difference
+    requires { ⌜ Openings p hidden (now aux) (now opened) (now «other_aux») (now «other_opened») ⌝ }
+    ensures { λ r. ⌜ r ≡ differenceOf (leafComparison p (now (prefix .entry)) (viewOf p (hidden .first) (now (aux .entry)) (now (opened .entry)))
+        (viewOf p (hidden .second) (now («other_aux» .entry)) (now («other_opened» .entry)))) ⌝ }
 {
     let n = leaf_count(p);
     if first_commitment(p, prefix, hidden, aux, opened, other_aux, other_opened) < n {
-        return Extraction::Unequal {
+        return Difference {
             layer: 5,
             number: 0,
         };
     }
     let leaf = first_leaf(p, hidden, aux, opened, other_aux, other_opened);
     if leaf < n {
-        return Extraction::Unequal {
+        return Difference {
             layer: 4,
             number: leaf as u8,
         };
     }
-    write_output(p, hidden.first, aux, opened, other_aux, other_opened, out);
-    Extraction::Extracted {
-        axis: first_axis(hidden.first as u8, hidden.second as u8),
+    Difference {
+        layer: 0,
+        number: 0,
     }
 }
 
-// Names the first unequal pair of strings, or fills out with the states and names the axis.
+// The first unequal pair of strings.
 pub fn compare(
     p: Parameters,
     prefix: &[u8],
@@ -70,27 +73,26 @@ pub fn compare(
     opened: &[u8],
     other_aux: &[u8],
     other_opened: &[u8],
-    out: &mut [u8],
-) -> Extraction
-    requires { ⌜ Openings p hidden (now aux) (now opened) (now «other_aux») (now «other_opened») (now out) ⌝ }
-    ensures { λ r. ⌜ Found (comparison p (now (prefix .entry)) (viewOf p (hidden .first) (now (aux .entry)) (now (opened .entry)))
-        (viewOf p (hidden .second) (now («other_aux» .entry)) (now («other_opened» .entry)))) (now (out .entry)) r (now (out .exit)) ⌝ }
+) -> Difference
+    requires { ⌜ Openings p hidden (now aux) (now opened) (now «other_aux») (now «other_opened») ⌝ }
+    ensures { λ r. ⌜ r ≡ differenceOf (comparison p (now (prefix .entry)) (viewOf p (hidden .first) (now (aux .entry)) (now (opened .entry)))
+        (viewOf p (hidden .second) (now («other_aux» .entry)) (now («other_opened» .entry)))) ⌝ }
 {
     let d = p.axes;
     let at = states_length(p);
     let end = rows_end(p);
     if first_digest(p, prefix, &opened[at..end], &other_opened[at..end]) < d {
-        return Extraction::Unequal {
+        return Difference {
             layer: 7,
             number: 0,
         };
     }
     let axis = first_row(p, &opened[at..end], &other_opened[at..end]);
     if axis < d {
-        return Extraction::Unequal {
+        return Difference {
             layer: 6,
             number: axis as u8 + 1,
         };
     }
-    compare_leaves(p, prefix, hidden, aux, opened, other_aux, other_opened, out)
+    compare_leaves(p, prefix, hidden, aux, opened, other_aux, other_opened)
 }

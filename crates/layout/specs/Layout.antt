@@ -31,7 +31,8 @@
 -- statesLength p, rowsLength p   the states of all leaves; the rows of all axes
 -- rowsEnd p, openedLength p      what an opening gives: states, rows, and the hidden leaf's commitment
 -- message2Place, prefixPlace p   what an opening is held to: h, h', message 2, then the prefix
--- statementLength p  the same with a prefix of 32 bytes
+-- prefixLength       the prefix of a run's strings: the salt and the run byte
+-- statementLength p  the same with such a prefix
 -- workLength p       a share for each party of every axis: 'a work area may be longer, never shorter than 2·D·(k+2w+12t)' (`work-is`)
 -- outputLength p     the extractor's 'output has 32n + k + 2w + 4t bytes'
 use mathlib.Core.Bool.{Bool, cond}
@@ -159,8 +160,11 @@ message2Place = 64
 abbrev pub prefixPlace : Parameters → ℕ
 prefixPlace p = message2Place + message2Length p
 
+abbrev pub prefixLength : ℕ
+prefixLength = 33
+
 abbrev pub statementLength : Parameters → ℕ
-statementLength p = prefixPlace p + 32
+statementLength p = prefixPlace p + prefixLength
 
 unfoldable pub workLength : Parameters → ℕ
 workLength p = side p * p .axes * shareLength p

@@ -1,3 +1,4 @@
 pub mod Layout
 pub mod Lent
 pub mod Maxima
+pub mod Runs

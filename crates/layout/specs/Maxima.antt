@@ -6,7 +6,9 @@
 -- longestAux, longestShare, longestSums   aux; a share; the sums that the work area holds
 -- mostValues, longestRow, mostBlocks      α and β; what a party announces; a row for each of these sums
 -- mostStates, mostRows, mostOpened   the states of all leaves, the rows of all axes, and all that an opening gives
--- mostStatement               what an opening is held to, with a prefix of 32 bytes
+-- mostStatement               what an opening is held to
+-- mostRuns                    the runs of an exchange
+-- mostMessage1, mostMessages2, mostMessages3   messages 1, 2 and 3 of that many runs
 -- leafCoefficients, mostCoefficients   the coefficients of S of one share, and of as many as there are sums, and of F
 -- mostEvaluations             the values at a point of Q, S and P of up to fifteen shares, and of F
 -- longestMessage2, longestMessage5, mostWork   the messages; the work area
@@ -61,7 +63,19 @@ abbrev pub mostOpened : ℕ
 mostOpened = 9_760
 
 abbrev pub mostStatement : ℕ
-mostStatement = 160
+mostStatement = 161
+
+abbrev pub mostRuns : ℕ
+mostRuns = 32
+
+abbrev pub mostMessage1 : ℕ
+mostMessage1 = 1_056
+
+abbrev pub mostMessages2 : ℕ
+mostMessages2 = 2_048
+
+abbrev pub mostMessages3 : ℕ
+mostMessages3 = 1_024
 
 abbrev pub leafCoefficients : ℕ
 leafCoefficients = 510

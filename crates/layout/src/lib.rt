@@ -1,5 +1,6 @@
 // How many leaves there are, and every length, offset and maximum (document 01, Leaves, Messages and Sessions).
 pub mod arrays;
+pub mod runs;
 
 use parameters::Parameters;
 ghost use mathlib.Core.Path.{_≡_};
@@ -43,8 +44,20 @@ pub const MOST_BLOCKS: usize = 864;
 // What an opening gives, at D 8, t 8.
 pub const MOST_OPENED: usize = 9760;
 
-// What an opening is held to, at t 8 with a prefix of 32 bytes.
-pub const MOST_STATEMENT: usize = 160;
+// What an opening is held to, at t 8.
+pub const MOST_STATEMENT: usize = 161;
+
+// The runs of an exchange.
+pub const MOST_RUNS: usize = 32;
+
+// Message 1 of 32 runs.
+pub const MOST_MESSAGE1: usize = 1056;
+
+// Message 2 of 32 runs at t 8.
+pub const MOST_MESSAGES2: usize = 2048;
+
+// Message 3 of 32 runs.
+pub const MOST_MESSAGES3: usize = 1024;
 
 // Message 2 at t 8.
 pub const LONGEST_MESSAGE2: usize = 64;
@@ -316,12 +329,12 @@ pub fn prefix_place(p: Parameters) -> usize
     64 + message2_length(p)
 }
 
-// The length of what an opening is held to, with a prefix of 32 bytes.
+// The length of what an opening is held to, with a prefix of salt and run byte.
 pub fn statement_length(p: Parameters) -> usize
     requires { ⌜ Within p ⌝ }
     ensures { λ r. ⌜ r ≡ spec.statementLength p ⌝ }
 {
-    prefix_place(p) + 32
+    prefix_place(p) + 33
 }
 
 // The length of the work area that a call zeroes: a share for each party of every axis.

@@ -4,7 +4,6 @@
 -- FillAsked p x run sums        x alone, a run, and room for the sums
 -- Keyed p message2 matrix y     message 2, matrix and y of the lengths that the parameters say
 -- Disclosing p message2 leaf matrix out              message 2, a leaf, the matrix, and room for message 5
--- FirstAsked p prefix states out                     the states of all leaves, and room for message 1
 -- WayAsked p run leaf siblings states               a run, a leaf, and room for its sibling seeds and for the states of all leaves
 -- DrawAsked p run leaf siblings own sum              a run, a leaf, and room for its sibling seeds, for its state and share, and for a share
 -- HiddenAsked p leaf siblings own aux                a leaf, and room for its sibling seeds, for its state and share, and for aux
@@ -50,11 +49,6 @@ pub record Disclosing (p : Parameters) (message2 : List ℕ) (leaf : ℕ) (matri
   pub is-leaf : leaf < leaves p
   pub matrix-is : length matrix ≡ matrixLength p
   pub out-is : length out ≡ message5Length p leaf
-
-pub record FirstAsked (p : Parameters) (prefix states out : List ℕ) : Type 0 where
-  pub within : Within p
-  pub states-are : length states ≡ statesLength p
-  pub out-is : length out ≡ length prefix + 32
 
 pub record WayAsked (p : Parameters) (run : List ℕ) (leaf : ℕ) (siblings states : List ℕ) : Type 0 where
   pub within : Within p

@@ -1,15 +1,13 @@
 -- The laws of message 1.
 --
--- commitment-made    the prefix and the digest of all commitments, from the prover's states and aux: message 1
--- front-behind       a list written at the front, and another one behind it
-use mathlib.Core.Path.{_≡_, refl, ap, _∙_}
-use mathlib.Core.List.{List, [], _++_}
+-- commitment-made    the digest of all commitments, from the prover's states and aux: what stands behind the prefix in message 1
+use mathlib.Core.Path.{_≡_, refl, sym, ap, ap₂, _∙_}
+use mathlib.Core.List.{List, []}
 use Prim.Native.Nat.{ℕ}
 use native.Mathlib.Nat.{le-refl}
-use lib.ListN.{length, take}
-use lib.Seq.{take-at}
+use lib.ListN.{length, drop}
+use lib.Seq.{drop-at}
 use Rattle.shake256.specs.Fips.{SHAKE256}
-use Rattle.lists.specs.Part.{putAt}
 use Rattle.parameters.specs.declared.Parameters.{Parameters}
 use Rattle.layout.specs.Layout.{leaves}
 use Rattle.exchange.specs.Run.{Run}
@@ -21,13 +19,13 @@ use Rattle.leaves.specs.Commitments.Laws.{commitments-message1}
 use Rattle.messages.specs.Own.{ownStates}
 use Rattle.messages.specs.Own.Laws.{ownStates-at}
 
-pub commitment-made : (p : Parameters) (x : List ℕ) (run : Run) → length (run .root) ≡ 16 → (prefix states aux : List ℕ)
-    → prefix ≡ run .prefix → states ≡ ownStates p run → aux ≡ ownAux SHAKE256 p x run
-    → prefix ++ SHAKE256 (string5 prefix (commitmentsOf p prefix states (leaves p) [] aux) (leaves p)) 32 ≡ message1 SHAKE256 p x run
-commitment-made p x run sixteen prefix states aux ep es ea =
-    ap (λ (q : List ℕ). q ++ SHAKE256 (string5 q (commitmentsOf p q states (leaves p) [] aux) (leaves p)) 32) ep
-    ∙ commitments-message1 p x run states (leaves p) [] aux (λ i h. ap (λ (st : List ℕ). stateAt st i) es ∙ ownStates-at p x run sixteen i h) ea (le-refl (leaves p))
-
-pub front-behind : (d d₁ a b : List ℕ) → d₁ ≡ putAt d 0 a → take (length a) d₁ ++ b ≡ a ++ b
-unfolding putAt
-front-behind d d₁ a b e = ap (λ (z : List ℕ). take (length a) z ++ b) e ∙ ap (λ (z : List ℕ). z ++ b) (take-at a _ (length a) refl)
+pub commitment-made : (p : Parameters) (x : List ℕ) (run : Run) → length (run .root) ≡ 16 → (prefix states aux : List ℕ) (n l : ℕ)
+    → prefix ≡ run .prefix → states ≡ ownStates p run → n ≡ leaves p → aux ≡ ownAux SHAKE256 p x run → l ≡ 32
+    → SHAKE256 (string5 prefix (commitmentsOf p prefix states n [] aux) (leaves p)) l ≡ drop (length (run .prefix)) (message1 SHAKE256 p x run)
+commitment-made p x run sixteen prefix states aux n l ep es en ea el =
+    let digest : List ℕ → ℕ → List ℕ = λ q k. SHAKE256 (string5 q (commitmentsOf p q states k [] aux) (leaves p)) 32 in
+    ap (SHAKE256 (string5 prefix (commitmentsOf p prefix states n [] aux) (leaves p))) el ∙ ap₂ digest ep en
+    ∙ sym (drop-at (run .prefix) (digest (run .prefix) (leaves p)) (length (run .prefix)) refl)
+    ∙ ap (drop (length (run .prefix)))
+    (commitments-message1 p x run states (leaves p) [] aux (λ i h. ap (λ (st : List ℕ). stateAt st i) es ∙ ownStates-at p x run sixteen i h) ea
+    (le-refl (leaves p)))

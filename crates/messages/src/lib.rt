@@ -1,14 +1,14 @@
 // The prover's messages 1, 3 and 5 (document 01, Messages) from the arrays that its session holds, in the front of the work area.
+// What an exchange starts from is one slice of seeds: the salt of 32 bytes, then the root seed of 16.
 // A run is one slice: the root's seed of 16 bytes, then the prefix.
 pub mod auxiliary;
-mod commitment;
+pub mod every_run;
 mod filled;
 mod hidden_leaf;
 mod opening;
 pub mod own_leaves;
 mod response;
 
-use crate::commitment::put_commitment;
 use crate::filled::fill;
 use crate::hidden_leaf::hidden_leaf;
 use crate::opening::put_opening;
@@ -18,50 +18,73 @@ use layout::LONGEST_AUX;
 use layout::LONGEST_SHARE;
 use layout::MOST_STATES;
 use layout::aux_length;
+use layout::leaf_count;
 use layout::share_length;
 use layout::siblings_length;
 use layout::states_length;
 use layout::sums_length;
 use layout::work_length;
+use leaves::commitments::digest_commitments;
 use lists::put_at;
 use lists::zero_front;
 use parameters::Parameters;
+use strings::begin;
+use strings::hash;
 ghost use mathlib.Core.Path.{_≡_};
 ghost use mathlib.Core.List.{List};
-ghost use Prim.Native.Nat.{ℕ, _+_};
-ghost use lib.ListN.{length, take};
+ghost use Prim.Native.Nat.{ℕ, _<_};
+ghost use lib.ListN.{length, take, drop};
 ghost use Rattle.lists.specs.Zeroed.{zeroed};
 ghost use Rattle.shake256.specs.Fips.{SHAKE256};
 ghost use Rattle.layout.specs.Layout.{workLength};
-ghost use Rattle.exchange.specs.Run.{runOf};
 ghost use Rattle.exchange.specs.Messages as spec;
 ghost use Rattle.exchange.specs.Values.{keyOf};
+ghost use Rattle.runs.specs.Run.{runAt};
 ghost use Rattle.messages.specs.Asked.{Arrays, Keyed, Disclosing};
-ghost use Rattle.messages.specs.Run.{runIn};
+ghost use Rattle.messages.specs.Run.{runIn, saltIn, rootIn};
 
-// The run of a prefix and a root's seed.
-pub fn run_of(prefix: &[u8], root: &[u8]) -> [u8; 48]
-    requires { ⌜ (length (now prefix) ≡ 32) × (length (now root) ≡ 16) ⌝ }
-    ensures { λ r. ⌜ (runIn r ≡ runOf (now (prefix .entry)) (now (root .entry))) × (length r ≡ 48) ⌝ }
+// What an exchange of this salt and root starts from.
+pub fn seeds_of(salt: &[u8], root: &[u8]) -> [u8; 48]
+    requires { ⌜ (length (now salt) ≡ 32) × (length (now root) ≡ 16) ⌝ }
+    ensures { λ r. ⌜ (saltIn r ≡ now (salt .entry)) × (rootIn r ≡ now (root .entry)) × (length r ≡ 48) ⌝ }
 {
-    let mut run = [0u8; 48];
-    put_at(&mut run, 0, root);
-    put_at(&mut run, 16, prefix);
+    let mut seeds = [0u8; 48];
+    put_at(&mut seeds, 0, salt);
+    put_at(&mut seeds, 32, root);
+    seeds
+}
+
+// The layer byte of the strings that give the runs' roots.
+const ROOTS: u8 = 8;
+
+// Run e of an exchange that starts from these seeds.
+pub fn run_at(seeds: &[u8], e: usize) -> [u8; 49]
+    requires { ⌜ (length (now seeds) ≡ 48) × (e < 256) ⌝ }
+    ensures { λ r. ⌜ (runIn r ≡ runAt SHAKE256 (saltIn (now (seeds .entry))) (rootIn (now (seeds .entry))) e) × (length r ≡ 49) ⌝ }
+{
+    let mut run = [0u8; 49];
+    let number = [e as u8];
+    put_at(&mut run, 16, &seeds[..32]);
+    put_at(&mut run, 48, &number);
+    let start = begin(ROOTS, &run[16..]);
+    hash(start, &[], &[], &seeds[32..], &mut run[..16]);
     run
 }
 
-// out becomes message 1, and the named length of the work area ends as zeros.
-pub fn message1(p: Parameters, x: &[u8], run: &[u8], work: &mut [u8], out: &mut [u8])
-    requires { ⌜ Arrays p (now x) (now run) (now work) × (length (now out) ≡ length (now run) + 16) ⌝ }
-    ensures { λ _. ⌜ (now (out .exit) ≡ spec.message1 SHAKE256 p (take (p .m) (now (x .entry))) (runIn (now (run .entry))))
+// out becomes h, which stands behind the prefix in message 1, and the named length of the work area ends as zeros.
+pub fn commitment_digest(p: Parameters, x: &[u8], run: &[u8], work: &mut [u8], out: &mut [u8])
+    requires { ⌜ Arrays p (now x) (now run) (now work) × (length (now out) ≡ 32) ⌝ }
+    ensures { λ _. ⌜ (now (out .exit) ≡ drop (length (runIn (now (run .entry)) .prefix))
+        (spec.message1 SHAKE256 p (take (p .m) (now (x .entry))) (runIn (now (run .entry)))))
         × (now (work .exit) ≡ zeroed (workLength p) (now (work .entry))) ⌝ }
 {
     let mut states = [0u8; MOST_STATES];
     let mut aux = [0u8; LONGEST_AUX];
+    let n = leaf_count(p);
     let size = states_length(p);
     let length = aux_length(p);
     own_leaves(p, x, run, work, &mut states[..size], &mut aux[..length]);
-    put_commitment(p, &run[16..], &states[..size], &aux[..length], out);
+    digest_commitments(p, &run[16..], &states[..size], n, &[], &aux[..length], out);
 }
 
 // out becomes message 3, and the named length of the work area ends as zeros.

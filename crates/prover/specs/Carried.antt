@@ -3,10 +3,11 @@
 -- vector-length, begun-with begin carried out, with x at the front of 255 bytes
 -- padded-front              x at the front of 255 bytes, read
 -- starting                  what begin's checks say, of that x
+-- run-count                 how many runs message 3 has room for
 -- begun-made, answered-made, opened-made   a call carried out, from what was made for it
 use mathlib.Core.Path.{_≡_, ap, _∙_}
 use mathlib.Core.List.{List}
-use Prim.Native.Nat.{ℕ, _+_}
+use Prim.Native.Nat.{ℕ, _+_, _*_, _/_}
 use native.Mathlib.Omega.{arith}
 use lib.ListN.{length, replicate, take, drop}
 use lib.Seq.{take-at}
@@ -18,9 +19,8 @@ use Rattle.parameters.specs.declared.Parameters.{Parameters}
 use Rattle.relation.specs.Key.{vectorOf}
 use Rattle.relation.specs.Key.Vector.{length-vector}
 use Rattle.layout.specs.Layout.{workLength}
-use Rattle.exchange.specs.Run.{runOf}
-use Rattle.exchange.specs.Messages.{message1, message3, message5}
 use Rattle.exchange.specs.Values.{Key}
+use Rattle.runs.specs.Messages.{message1, message3, message5}
 use Rattle.prover_phase.specs.declared.Phase.the-variants.{Begun}
 use Rattle.calls.specs.Prover.{Prover, padded, heldX, heldMessage2, begun, answered, opened}
 use Rattle.prover.specs.Facts.{outcomeOf, Begins, Starting}
@@ -33,22 +33,22 @@ pub padded-front : (n : ℕ) (x : List ℕ) → length x ≡ n → take n (padde
 unfolding putAt
 padded-front n x e = take-at x (drop (0 + length x) (replicate 255 0)) n e
 
-module _ (s : Prover) (p : Parameters) (xA salt root : List ℕ) (key : Key) (work out : List ℕ) where
-  pub vector-length : Begins p xA salt root (key .matrix) (key .y) work out → length (vectorOf (key .matrix) (key .y) xA) ≡ p .m
+module _ (s : Prover) (p : Parameters) (runs : ℕ) (xA salt root : List ℕ) (key : Key) (work out : List ℕ) where
+  pub vector-length : Begins p runs xA salt root (key .matrix) (key .y) work out → length (vectorOf (key .matrix) (key .y) xA) ≡ p .m
   vector-length h =
-      length-vector (key .matrix) (key .y) xA ∙ (let a = h .sized .xA-is in let b = h .sized .lent .y-is in omega (arith, h .within))
+      length-vector (key .matrix) (key .y) xA ∙ (let a = h .sized .xA-is in let b = h .sized .lent .y-is in omega (arith, h .limits .within))
 
-  pub begun-with : Begins p xA salt root (key .matrix) (key .y) work out
-      → begunWith p (padded 255 (vectorOf (key .matrix) (key .y) xA)) salt root work ≡ begun SHAKE256 s p xA salt root key work out
+  pub begun-with : Begins p runs xA salt root (key .matrix) (key .y) work out
+      → begunWith p runs (padded 255 (vectorOf (key .matrix) (key .y) xA)) salt root work ≡ begun SHAKE256 s p runs xA salt root key work out
   unfolding begunWith begun
   begun-with h = rw (padded-front (p .m) (vectorOf (key .matrix) (key .y) xA) (vector-length h))
 
-  pub starting : Begins p xA salt root (key .matrix) (key .y) work out
-      → (x : List ℕ) → x ≡ padded 255 (vectorOf (key .matrix) (key .y) xA) → Starting p x salt root work out
+  pub starting : Begins p runs xA salt root (key .matrix) (key .y) work out
+      → (x : List ℕ) → x ≡ padded 255 (vectorOf (key .matrix) (key .y) xA) → Starting p runs x salt root work out
   starting h x e =
       let front = ap (take (p .m)) e ∙ padded-front (p .m) (vectorOf (key .matrix) (key .y) xA) (vector-length h) in
       record {
-        within = h .within;
+        limits = h .limits;
         light = rw front (h .light);
         salt-is = h .sized .salt-is;
         root-is = h .sized .root-is;
@@ -58,20 +58,24 @@ module _ (s : Prover) (p : Parameters) (xA salt root : List ℕ) (key : Key) (wo
 
 -- ---- a call carried out, from what was made for it
 
-pub begun-made : (p : Parameters) (x salt root work : List ℕ) (next : Prover) (out′ work′ : List ℕ) → next ≡ nextBegun Begun p x salt root
-    → out′ ≡ message1 SHAKE256 p (take (p .m) x) (runOf salt root) → work′ ≡ zeroed (workLength p) work → outcomeOf Done next out′ work′ ≡ begunWith p x salt root work
+pub run-count : (n l : ℕ) → l ≡ n * 32 → l / 32 ≡ n
+run-count n l e = omega arith
+
+pub begun-made : (p : Parameters) (runs : ℕ) (x salt root work : List ℕ) (next : Prover) (out′ work′ : List ℕ) → next ≡ nextBegun Begun p runs x salt root
+    → out′ ≡ message1 SHAKE256 p runs (take (p .m) x) salt root → work′ ≡ zeroed (workLength p) work
+    → outcomeOf Done next out′ work′ ≡ begunWith p runs x salt root work
 unfolding begunWith
-begun-made p x salt root work next out′ work′ e f g = rw (e, f, g)
+begun-made p runs x salt root work next out′ work′ e f g = rw (e, f, g)
 
 module _ (s : Prover) (key : Key) (work out : List ℕ) where
-  pub answered-made : (message2 : List ℕ) (next : Prover) (out′ work′ : List ℕ) → next ≡ nextAnswered s (padded 64 message2)
-      → out′ ≡ message3 SHAKE256 (s .parameters) (heldX s) (runOf (s .salt) (s .root)) key message2 → work′ ≡ zeroed (workLength (s .parameters)) work
+  pub answered-made : (message2 : List ℕ) (next : Prover) (out′ work′ : List ℕ) → next ≡ nextAnswered s message2
+      → out′ ≡ message3 SHAKE256 (s .parameters) (s .runs) (heldX s) (s .salt) (s .root) key message2 → work′ ≡ zeroed (workLength (s .parameters)) work
       → outcomeOf Done next out′ work′ ≡ answered SHAKE256 s message2 key work out
   unfolding answered
   answered-made message2 next out′ work′ e f g = rw (e, f, g)
 
-  pub opened-made : (i : ℕ) (next : Prover) (out′ work′ : List ℕ) → next ≡ nextClosed s
-      → out′ ≡ message5 SHAKE256 (s .parameters) (heldX s) (runOf (s .salt) (s .root)) key (heldMessage2 s) i → work′ ≡ zeroed (workLength (s .parameters)) work
-      → outcomeOf Done next out′ work′ ≡ opened SHAKE256 s i key work out
+  pub opened-made : (is : List ℕ) (next : Prover) (out′ work′ : List ℕ) → next ≡ nextClosed s
+      → out′ ≡ message5 SHAKE256 (s .parameters) (s .runs) (heldX s) (s .salt) (s .root) key (heldMessage2 s) is
+      → work′ ≡ zeroed (workLength (s .parameters)) work → outcomeOf Done next out′ work′ ≡ opened SHAKE256 s is key work out
   unfolding opened
-  opened-made i next out′ work′ e f g = rw (e, f, g)
+  opened-made is next out′ work′ e f g = rw (e, f, g)

@@ -1,18 +1,19 @@
 -- The checks of the prover's calls: from the values of the tests to the answer, and from the answer to what the call gives.
 --
 -- begin-told                             the checks of begin, of a session
--- points-row, leaf-row                   the checks of a call from the values of its tests
+-- points-row, leaf-row                   the checks of a call from the phase that counts and the values of its tests
 -- done-is                                a call whose checks passed is carried out
 -- refused-call, done-call                what a call gives where a check failed, and where none did
 -- points-ready, leaf-ready               what a session says in which a call but begin is due
+-- points-limited, leaf-limited           so its parameters and its run count are within their limits
 -- begin-facts, points-facts, leaf-facts  what the checks that passed say
-use mathlib.Core.Path.{_≡_, refl, sym, _∙_}
-use mathlib.Core.Bool.{Bool, true, false, _||_, not, cond, true≢false, false≢true}
+use mathlib.Core.Path.{_≡_, refl, sym, ap, _∙_}
+use mathlib.Core.Bool.{Bool, true, false, _&&_, _||_, not, cond, true≢false, false≢true}
 use mathlib.Core.List.{List}
 use Prim.Native.Nat.{ℕ}
-use lib.Dec.{eqb, leb, ltb}
+use lib.Dec.{eqb, leb}
 use lib.ListN.{length}
-use borrow.Author.Tests.{eqb-true, leb-true, ltb-true}
+use borrow.Author.Tests.{eqb-true, leb-true}
 use Rattle.lists.specs.Checks.{allTrue}
 use Rattle.lists.specs.Checks.Laws.{all-at, and-left, and-right}
 use Rattle.answers.specs.declared.Answer.{Answer}
@@ -24,41 +25,53 @@ use Rattle.parameters.specs.declared.Parameters.{Parameters}
 use Rattle.parameters.specs.Limits.{withinLimits}
 use Rattle.parameters.specs.Limits.Laws.{test-within}
 use Rattle.relation.specs.Key.{weightOf, vectorOf}
-use Rattle.layout.specs.Layout.{leaves, message2Length, message5Length}
+use Rattle.layout.specs.Runs.{runsWithin, messages2Length, messages3Length, messages5Length}
+use Rattle.layout.specs.Runs.Laws.{runs-within}
 use Rattle.exchange.specs.Values.{Key}
 use Rattle.layout.specs.Lent.{lent, Lent}
 use Rattle.layout.specs.Lent.Laws.{test-lent}
-use Rattle.prover.specs.Arguments.{beginTests, beginRow, lengthsOf}
-use Rattle.prover.specs.Arguments.Laws.{begin-sized}
+use Rattle.prover.specs.Arguments.{Limited, beginTests, beginRow, lengthsOf}
+use Rattle.prover.specs.Arguments.Laws.{limited, begin-sized}
 use Rattle.prover_phase.specs.declared.Phase.{Phase}
 use Rattle.prover_phase.specs.declared.Phase.the-variants.{Fresh, Begun, Answered, Closed}
-use Rattle.calls.specs.Lengths.{keyLengths, beginLengths, pointsLengths, leafLengths}
-use Rattle.calls.specs.Prover.{Prover, Outcome, settle, isFresh, isBegun, isAnswered, heldX, intact, standing, closed, pointsDue, leafDue, repeated, beginChecks, pointsChecks, leafChecks}
+use Rattle.calls.specs.Lengths.{keyLengths, beginLengths, pointsLengths, leafLengths, leavesBelow}
+use Rattle.calls.specs.Lengths.Laws.{leaves-below}
+use Rattle.calls.specs.Prover.{Prover, Outcome, settle, isFresh, isBegun, isAnswered, isClosed, heldX, intact, standing, closed, pointsDue, leafDue, repeated, beginChecks, pointsChecks, leafChecks}
 use Rattle.prover.specs.Facts.{isDone, outcomeOf, Ready, Begins, Answering, Opening}
 
 -- ---- the checks as rows
 
 module _ (hash : List ℕ → ℕ → List ℕ) (s : Prover) (work out : List ℕ) where
-  module _ (p : Parameters) (xA salt root : List ℕ) (key : Key) where
-    pub begin-told : (a : Answer) (again : Bool) → a ≡ checks (beginRow p xA (key .matrix) (key .y) (lengthsOf salt root work out) again)
-        → again ≡ repeated s salt root → a ≡ beginChecks hash s p xA salt root key work out
+  module _ (p : Parameters) (runs : ℕ) (xA salt root : List ℕ) (key : Key) where
+    pub begin-told : (a : Answer) (again : Bool) → a ≡ checks (beginRow p runs xA (key .matrix) (key .y) (lengthsOf salt root work out) again)
+        → again ≡ repeated s salt root → a ≡ beginChecks hash s p runs xA salt root key work out
     unfolding beginRow beginTests beginChecks
     begin-told a again e f = e ∙ rw f
 
-  module _ (message2 : List ℕ) (key : Key) where
-    pub points-row : (ended due lengths : Bool) → closed s ≡ ended → pointsDue s ≡ due
-        → allTrue (pointsLengths (s .parameters) message2 key work out) ≡ lengths
+  module _ (counted : Phase) (told : counted ≡ standing s) where
+    ended-is : (b : Bool) → isClosed counted ≡ b → closed s ≡ b
+    unfolding closed
+    ended-is b e = ap isClosed (sym told) ∙ e
+
+    points-is : (b : Bool) → isBegun counted ≡ b → pointsDue s ≡ b
+    unfolding pointsDue
+    points-is b e = ap isBegun (sym told) ∙ e
+
+    leaf-is : (b : Bool) → isAnswered counted ≡ b → leafDue s ≡ b
+    unfolding leafDue
+    leaf-is b e = ap isAnswered (sym told) ∙ e
+
+    pub points-row : (message2 : List ℕ) (key : Key) (ended due lengths : Bool) → isClosed counted ≡ ended → isBegun counted ≡ due
+        → allTrue (pointsLengths (s .parameters) (s .runs) message2 key work out) ≡ lengths
         → check (not ended) ExchangeClosed (check due NotDue (check lengths Length Done)) ≡ pointsChecks hash s message2 key work out
     unfolding pointsChecks
-    points-row ended due lengths e f g = rw (← e, ← f, ← g)
+    points-row message2 key ended due lengths e f g = rw (← ended-is ended e, ← points-is due f, ← g)
 
-  module _ (i : ℕ) (key : Key) where
-    pub leaf-row : (ended due lengths below : Bool) → closed s ≡ ended → leafDue s ≡ due
-        → allTrue (leafLengths (s .parameters) i key work out) ≡ lengths
-        → ltb i (leaves (s .parameters)) ≡ below
-        → check (not ended) ExchangeClosed (check due NotDue (check lengths Length (check below Leaf Done))) ≡ leafChecks hash s i key work out
+    pub leaf-row : (is : List ℕ) (key : Key) (ended due lengths below : Bool) → isClosed counted ≡ ended → isAnswered counted ≡ due
+        → allTrue (leafLengths (s .parameters) (s .runs) is key work out) ≡ lengths → leavesBelow (s .parameters) is ≡ below
+        → check (not ended) ExchangeClosed (check due NotDue (check lengths Length (check below Leaf Done))) ≡ leafChecks hash s is key work out
     unfolding leafChecks
-    leaf-row ended due lengths below e f g h = rw (← e, ← f, ← g, ← h)
+    leaf-row is key ended due lengths below e f g h = rw (← ended-is ended e, ← leaf-is due f, ← g, ← h)
 
 -- ---- refused, or carried out
 
@@ -78,10 +91,16 @@ done-call a b s out work done e h = rw (← e, done-is a h)
 
 intact-ready : (s : Prover) → intact s ≡ true → Ready s
 unfolding intact
-intact-ready s e = record {
-  within = test-within (s .parameters) (and-left (withinLimits (s .parameters)) (leb (weightOf (heldX s)) (s .parameters .w)) e);
-  light = leb-true (weightOf (heldX s)) (s .parameters .w) (and-right (withinLimits (s .parameters)) (leb (weightOf (heldX s)) (s .parameters .w)) e);
-}
+intact-ready s e =
+    let light = leb (weightOf (heldX s)) (s .parameters .w) in
+    let rest = and-right (withinLimits (s .parameters)) (runsWithin (s .runs) && light) e in
+    record {
+      limits = record {
+        within = test-within (s .parameters) (and-left (withinLimits (s .parameters)) (runsWithin (s .runs) && light) e);
+        counted = runs-within (s .runs) (and-left (runsWithin (s .runs)) light rest);
+      };
+      light = leb-true (weightOf (heldX s)) (s .parameters .w) (and-right (runsWithin (s .runs)) light rest);
+    }
 
 -- where a call but begin is due, the session is intact
 due-intact : (due : Phase → Bool) → due Fresh ≡ false → due Closed ≡ false → (f : Phase) (whole : Bool)
@@ -100,54 +119,70 @@ pub leaf-ready : (s : Prover) → leafDue s ≡ true → Ready s
 unfolding leafDue standing
 leaf-ready s e = intact-ready s (due-intact isAnswered refl refl (s .phase) (intact s) e)
 
+-- so the code may ask for the lengths
+pub points-limited : (s : Prover) (counted : Phase) → counted ≡ standing s → isBegun counted ≡ true → Limited (s .parameters) (s .runs)
+unfolding pointsDue
+points-limited s counted told e = points-ready s (ap isBegun (sym told) ∙ e) .limits
+
+pub leaf-limited : (s : Prover) (counted : Phase) → counted ≡ standing s → isAnswered counted ≡ true → Limited (s .parameters) (s .runs)
+unfolding leafDue
+leaf-limited s counted told e = leaf-ready s (ap isAnswered (sym told) ∙ e) .limits
+
 lent-facts : (p : Parameters) (key : Key) (work : List ℕ) → allTrue (keyLengths p key work) ≡ true
     → Lent p (length (key .matrix)) (length (key .y)) (length work)
 unfolding lent
 lent-facts p key work e = test-lent p (length (key .matrix)) (length (key .y)) (length work) e
 
 module _ (hash : List ℕ → ℕ → List ℕ) (s : Prover) (work out : List ℕ) (key : Key) where
-  module _ (p : Parameters) (xA salt root : List ℕ) where
-    pub begin-facts : (a : Answer) → a ≡ beginChecks hash s p xA salt root key work out → isDone a ≡ true → Begins p xA salt root (key .matrix) (key .y) work out
+  module _ (p : Parameters) (runs : ℕ) (xA salt root : List ℕ) where
+    pub begin-facts : (a : Answer) → a ≡ beginChecks hash s p runs xA salt root key work out → isDone a ≡ true
+        → Begins p runs xA salt root (key .matrix) (key .y) work out
     unfolding beginChecks beginTests
     begin-facts a f h =
         let e = sym f ∙ done-is a h in
-        let late = check-rest (withinLimits p) Parameter _ e in
+        let tests = beginLengths p runs xA salt root key work out in
+        let late = check-rest (withinLimits p && runsWithin runs) Parameter _ e in
         record {
-          within = test-within p (check-true (withinLimits p) Parameter _ e);
-          sized = begin-sized p xA (key .matrix) (key .y) (lengthsOf salt root work out) (check-true (allTrue (beginLengths p xA salt root key work out)) Length _ late);
+          limits = limited p runs (check-true (withinLimits p && runsWithin runs) Parameter _ e);
+          sized = begin-sized p runs xA (key .matrix) (key .y) (lengthsOf salt root work out) (check-true (allTrue tests) Length _ late);
           light =
               leb-true _ (p .w)
-              (check-true (leb (weightOf (vectorOf (key .matrix) (key .y) xA)) (p .w)) Weight _
-              (check-rest (allTrue (beginLengths p xA salt root key work out)) Length _ late));
+              (check-true (leb (weightOf (vectorOf (key .matrix) (key .y) xA)) (p .w)) Weight _ (check-rest (allTrue tests) Length _ late));
         }
 
-  pub points-facts : (message2 : List ℕ) (a : Answer) → a ≡ pointsChecks hash s message2 key work out → isDone a ≡ true → Answering s message2 (key .matrix) (key .y) work out
+  pub points-facts : (message2 : List ℕ) (a : Answer) → a ≡ pointsChecks hash s message2 key work out → isDone a ≡ true
+      → Answering s message2 (key .matrix) (key .y) work out
   unfolding pointsChecks
   points-facts message2 a f h =
       let e = sym f ∙ done-is a h in
-      let tests = pointsLengths (s .parameters) message2 key work out in
+      let n : ℕ = messages2Length (s .parameters) (s .runs) in
+      let k : ℕ = messages3Length (s .runs) in
+      let tests = pointsLengths (s .parameters) (s .runs) message2 key work out in
       let due = check-rest (not (closed s)) ExchangeClosed _ e in
       let sized = check-true (allTrue tests) Length Done (check-rest (pointsDue s) NotDue _ due) in
       record {
         ready = points-ready s (check-true (pointsDue s) NotDue _ due);
-        message2-is = eqb-true (length message2) (message2Length (s .parameters)) (all-at tests sized 0);
-        out-is = eqb-true (length out) 32 (all-at tests sized 1);
-        lent =
-            lent-facts (s .parameters) key work
-            (and-right (eqb (length out) 32) _ (and-right (eqb (length message2) (message2Length (s .parameters))) _ sized));
+        message2-is = eqb-true (length message2) n (all-at tests sized 0);
+        out-is = eqb-true (length out) k (all-at tests sized 1);
+        lent = lent-facts (s .parameters) key work (and-right (eqb (length out) k) _ (and-right (eqb (length message2) n) _ sized));
       }
 
-  pub leaf-facts : (i : ℕ) (a : Answer) → a ≡ leafChecks hash s i key work out → isDone a ≡ true → Opening s i (key .matrix) (key .y) work out
+  pub leaf-facts : (is : List ℕ) (a : Answer) → a ≡ leafChecks hash s is key work out → isDone a ≡ true
+      → Opening s is (key .matrix) (key .y) work out
   unfolding leafChecks
-  leaf-facts i a f h =
+  leaf-facts is a f h =
       let e = sym f ∙ done-is a h in
-      let tests = leafLengths (s .parameters) i key work out in
+      let n : ℕ = messages5Length (s .parameters) is in
+      let tests = leafLengths (s .parameters) (s .runs) is key work out in
       let due = check-rest (not (closed s)) ExchangeClosed _ e in
       let late = check-rest (leafDue s) NotDue _ due in
       let sized = check-true (allTrue tests) Length _ late in
       record {
         ready = leaf-ready s (check-true (leafDue s) NotDue _ due);
-        below = ltb-true i (leaves (s .parameters)) (check-true (ltb i (leaves (s .parameters))) Leaf Done (check-rest (allTrue tests) Length _ late));
-        out-is = eqb-true (length out) (message5Length (s .parameters) i) (all-at tests sized 0);
-        lent = lent-facts (s .parameters) key work (and-right (eqb (length out) (message5Length (s .parameters) i)) _ sized);
+        leaves-are = eqb-true (length is) (s .runs) (all-at tests sized 0);
+        below =
+            leaves-below (s .parameters) is
+            (check-true (leavesBelow (s .parameters) is) Leaf Done (check-rest (allTrue tests) Length _ late));
+        out-is = eqb-true (length out) n (all-at tests sized 1);
+        lent = lent-facts (s .parameters) key work (and-right (eqb (length out) n) _ (and-right (eqb (length is) (s .runs)) _ sized));
       }

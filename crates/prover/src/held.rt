@@ -1,9 +1,11 @@
-// What a session holds, and what the checks of a call answer. A contract over a phase, parameters and x says the same of every session
-// that holds these.
+// What a session holds, and what the checks of a call answer. A contract over a phase, parameters, run count and x says the same of every
+// session that holds these.
+use crate::Prover;
 use answers::Answer;
+use layout::MOST_MESSAGES2;
+use layout::runs::runs_within;
 use parameters::Parameters;
 use prover_phase::Phase;
-use prover_phase::due::is_closed;
 use prover_phase::is_fresh;
 ghost use mathlib.Core.Path.{_≡_};
 ghost use mathlib.Core.List.{List};
@@ -11,7 +13,30 @@ ghost use Prim.Native.Nat.{ℕ};
 ghost use Rattle.prover_phase.specs.declared.Phase.{Phase};
 ghost use Rattle.calls.specs.Prover as spec;
 ghost use Rattle.prover.specs.Facts.{isDone};
-ghost use Rattle.prover.specs.Held.{HeldVector, session};
+ghost use Rattle.prover.specs.Held.{HeldVector, session, held};
+
+// The session that holds these.
+pub fn holding(
+    phase: Phase,
+    p: Parameters,
+    runs: usize,
+    x: [u8; 255],
+    salt: [u8; 32],
+    root: [u8; 16],
+    message2: [u8; MOST_MESSAGES2],
+) -> Prover
+    ensures { λ r. ⌜ held r ≡ session phase p runs x salt root message2 ⌝ }
+{
+    Prover {
+        phase,
+        parameters: p,
+        runs,
+        x,
+        salt,
+        root,
+        message2,
+    }
+}
 
 // Did the checks pass?
 pub fn is_done(a: Answer) -> bool
@@ -23,12 +48,15 @@ pub fn is_done(a: Answer) -> bool
     }
 }
 
-// Are the parameters within their limits, and has x at most w nonzero entries, as after every begin?
-fn intact(p: Parameters, x: &[u8]) -> bool
+// Are parameters and run count within their limits, and has x at most w nonzero entries, as after every begin?
+fn intact(p: Parameters, runs: usize, x: &[u8]) -> bool
     requires { ⌜ HeldVector (now x) ⌝ }
-    ensures { λ r. ⌜ ((f : Phase) (salt root message2 : List ℕ) → r ≡ spec.intact (session f p (now (x .entry)) salt root message2)) ⌝ }
+    ensures { λ r. ⌜ ((f : Phase) (salt root message2 : List ℕ) → r ≡ spec.intact (session f p runs (now (x .entry)) salt root message2)) ⌝ }
 {
     if !parameters::within_limits(p) {
+        return false;
+    }
+    if !runs_within(runs) {
         return false;
     }
     let m = p.m;
@@ -36,24 +64,15 @@ fn intact(p: Parameters, x: &[u8]) -> bool
 }
 
 // The phase that counts: a session that is not fresh and not intact, so one that no call made, counts as closed.
-pub fn standing(phase: Phase, p: Parameters, x: &[u8]) -> Phase
+pub fn standing(phase: Phase, p: Parameters, runs: usize, x: &[u8]) -> Phase
     requires { ⌜ HeldVector (now x) ⌝ }
-    ensures { λ r. ⌜ ((salt root message2 : List ℕ) → r ≡ spec.standing (session phase p (now (x .entry)) salt root message2)) ⌝ }
+    ensures { λ r. ⌜ ((salt root message2 : List ℕ) → r ≡ spec.standing (session phase p runs (now (x .entry)) salt root message2)) ⌝ }
 {
     if is_fresh(phase) {
         return phase;
     }
-    if intact(p, x) {
+    if intact(p, runs, x) {
         return phase;
     }
     Phase::Closed
-}
-
-// Is the exchange closed, so that only begin is due?
-pub fn closed(phase: Phase, p: Parameters, x: &[u8]) -> bool
-    requires { ⌜ HeldVector (now x) ⌝ }
-    ensures { λ r. ⌜ ((salt root message2 : List ℕ) → r ≡ spec.closed (session phase p (now (x .entry)) salt root message2)) ⌝ }
-{
-    let counted = standing(phase, p, x);
-    is_closed(counted)
 }

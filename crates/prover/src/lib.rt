@@ -1,4 +1,4 @@
-// The prover's session. It holds what later calls need and nothing derived: parameters, x, salt, root, message 2 and its phase.
+// The prover's session. It holds what later calls need and nothing derived: parameters, run count, x, salt, root, message 2 and its phase.
 pub mod arguments;
 mod held;
 mod on_begin;
@@ -8,6 +8,10 @@ mod vector;
 
 use crate::arguments::Lengths;
 use answers::Answer;
+use layout::MOST_MESSAGES2;
+use layout::runs::messages2_length;
+use messages::every_run;
+use messages::seeds_of;
 use parameters::Parameters;
 use prover_phase::Phase;
 ghost use mathlib.Core.Path.{_≡_};
@@ -17,14 +21,15 @@ ghost use Rattle.exchange.specs.Values.{keyOf};
 ghost use Rattle.calls.specs.Prover as spec;
 ghost use Rattle.prover.specs.Held.{held, given};
 
-// A session. Of x the first m entries count, of message 2 the first 8t bytes.
+// A session. Of x the first m entries count, of message 2 the first 8t bytes a run.
 pub struct Prover {
     pub phase: Phase,
     pub parameters: Parameters,
+    pub runs: usize,
     pub x: [u8; 255],
     pub salt: [u8; 32],
     pub root: [u8; 16],
-    pub message2: [u8; 64],
+    pub message2: [u8; MOST_MESSAGES2],
 }
 
 // A session after a call, with what the call answers.
@@ -47,10 +52,11 @@ pub fn fresh() -> Prover
     Prover {
         phase: Phase::Fresh,
         parameters,
+        runs: 0,
         x: [0u8; 255],
         salt: [0u8; 32],
         root: [0u8; 16],
-        message2: [0u8; 64],
+        message2: [0u8; MOST_MESSAGES2],
     }
 }
 
@@ -62,10 +68,11 @@ fn room() -> [u8; 255]
 }
 
 impl Prover {
-    // Begins an exchange with a key, a salt and a root seed: message 1 is written to out.
+    // Begins an exchange of this many runs with a key, a salt and a root seed: message 1 is written to out.
     pub fn begin(
         self,
         p: Parameters,
+        runs: usize,
         x_a: &[u8],
         salt: &[u8],
         root: &[u8],
@@ -74,7 +81,7 @@ impl Prover {
         work: &mut [u8],
         out: &mut [u8],
     ) -> Called
-        ensures { λ r. ⌜ given r (now (out .exit)) (now (work .exit)) ≡ spec.begin SHAKE256 (held self) p (now («x_a» .entry)) (now (salt .entry))
+        ensures { λ r. ⌜ given r (now (out .exit)) (now (work .exit)) ≡ spec.begin SHAKE256 (held self) p runs (now («x_a» .entry)) (now (salt .entry))
             (now (root .entry)) (keyOf (now (matrix .entry)) (now (y .entry))) (now (work .entry)) (now (out .entry)) ⌝ }
     {
         let mut x = room();
@@ -88,17 +95,17 @@ impl Prover {
             work: work.len(),
             out: out.len(),
         };
-        let answer = on_begin::begin_checks(p, x_a, matrix, y, others, again, &mut x);
+        let answer = on_begin::begin_checks(p, runs, x_a, matrix, y, others, again, &mut x);
         if !held::is_done(answer) {
             return Called {
                 prover: self,
                 answer,
             };
         }
-        on_begin::begun(self, p, x, salt, root, work, out)
+        on_begin::begun(p, runs, x, salt, root, work, out)
     }
 
-    // Takes message 2, the points and multipliers: message 3 is written to out.
+    // Takes message 2, the points and multipliers of each run: message 3 is written to out.
     pub fn points(
         self,
         message2: &[u8],
@@ -112,33 +119,65 @@ impl Prover {
     {
         let phase = self.phase;
         let p = self.parameters;
+        let runs = self.runs;
         let x = self.x;
-        let answer = on_points::points_checks(phase, p, &x, message2, matrix, y, work, out);
+        let counted = held::standing(phase, p, runs, &x);
+        let answer = on_points::points_checks(counted, p, runs, message2, matrix, y, work, out);
         if !held::is_done(answer) {
             return Called {
                 prover: self,
                 answer,
             };
         }
-        on_points::answered(self, message2, matrix, y, work, out)
+        let salt = self.salt;
+        let root = self.root;
+        let mut held_message2 = self.message2;
+        let seeds = seeds_of(&salt, &root);
+        every_run::message3(p, &x, &seeds, message2, matrix, y, work, out);
+        lists::put_at(&mut held_message2, 0, message2);
+        let next = prover_phase::after::points();
+        let prover = held::holding(next, p, runs, x, salt, root, held_message2);
+        Called {
+            prover,
+            answer: Answer::Done,
+        }
     }
 
-    // Takes the leaf that stays hidden: message 5 is written to out, and the exchange is closed.
-    pub fn leaf(self, leaf: u8, matrix: &[u8], y: &[u8], work: &mut [u8], out: &mut [u8]) -> Called
-        ensures { λ r. ⌜ given r (now (out .exit)) (now (work .exit)) ≡ spec.leaf SHAKE256 (held self) leaf
+    // Takes the leaf of each run that stays hidden: message 5 is written to out, and the exchange is closed.
+    pub fn leaf(
+        self,
+        leaves: &[u8],
+        matrix: &[u8],
+        y: &[u8],
+        work: &mut [u8],
+        out: &mut [u8],
+    ) -> Called
+        ensures { λ r. ⌜ given r (now (out .exit)) (now (work .exit)) ≡ spec.leaf SHAKE256 (held self) (now (leaves .entry))
             (keyOf (now (matrix .entry)) (now (y .entry))) (now (work .entry)) (now (out .entry)) ⌝ }
     {
-        let hidden = leaf as usize;
         let phase = self.phase;
         let p = self.parameters;
+        let runs = self.runs;
         let x = self.x;
-        let answer = on_leaf::leaf_checks(phase, p, &x, hidden, matrix, y, work, out);
+        let counted = held::standing(phase, p, runs, &x);
+        let answer = on_leaf::leaf_checks(counted, p, runs, leaves, matrix, y, work, out);
         if !held::is_done(answer) {
             return Called {
                 prover: self,
                 answer,
             };
         }
-        on_leaf::opened(self, hidden, matrix, y, work, out)
+        let salt = self.salt;
+        let root = self.root;
+        let message2 = self.message2;
+        let seeds = seeds_of(&salt, &root);
+        let n = messages2_length(p, runs);
+        every_run::message5(p, &x, &seeds, &message2[..n], leaves, matrix, work, out);
+        let next = prover_phase::after::leaf();
+        let prover = held::holding(next, p, runs, x, salt, root, message2);
+        Called {
+            prover,
+            answer: Answer::Done,
+        }
     }
 }

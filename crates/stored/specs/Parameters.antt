@@ -3,18 +3,19 @@
 -- parameterBytes p      the bytes
 -- parametersFrom b      the parameters in a session's bytes b
 -- Bytes ns              each of the numbers ns is a byte
--- Small p               each number of the parameters is
--- within-small          those of parameters within their limits are
+-- Small p runs          each number of the parameters and the run count is
+-- within-small          those within their limits are
 -- parameters-read       the parameters from their bytes one by one
 use mathlib.Core.Path.{_≡_}
 use Prim.Native.Nat.{ℕ, _<_}
-use mathlib.Core.List.{List, [], _∷_}
+use mathlib.Core.List.{List, [], _∷_, _++_}
 use native.Mathlib.Omega.{arith}
 use lib.ListN.{getD}
 use Rattle.lists.specs.Part.{part}
 use Rattle.lists.specs.Part.Laws.{getD-part}
 use Rattle.parameters.specs.declared.Parameters.{Parameters}
 use Rattle.parameters.specs.Limits.{Within}
+use Rattle.layout.specs.Runs.Laws.{RunsWithin}
 use Rattle.parameters.specs.Set.{setLength, numbersOf, parametersOf}
 
 abbrev pub parameterBytes : Parameters → List ℕ
@@ -27,11 +28,11 @@ abbrev pub Bytes : List ℕ → Type 0
 Bytes [] = Unit {0}
 Bytes (n ∷ ns) = (n < 256) × Bytes ns
 
-abbrev pub Small : Parameters → Type 0
-Small p = Bytes (numbersOf p)
+abbrev pub Small : Parameters → ℕ → Type 0
+Small p runs = Bytes (numbersOf p ++ (runs ∷ []))
 
-pub within-small : (p : Parameters) → Within p → Small p
-within-small p h = (omega arith, (omega arith, (omega arith, (omega arith, (omega arith, tt)))))
+pub within-small : (p : Parameters) (runs : ℕ) → Within p → RunsWithin runs → Small p runs
+within-small p runs h r = (omega arith, (omega arith, (omega arith, (omega arith, (omega arith, (omega (arith, r .most), tt))))))
 
 pub parameters-read : (b : List ℕ) → parametersOf (getD b 1 0 ∷ getD b 2 0 ∷ getD b 3 0 ∷ getD b 4 0 ∷ getD b 5 0 ∷ []) ≡ parametersFrom b
 parameters-read b =

@@ -4,7 +4,6 @@ mod parts;
 
 use layout::arrays::array16;
 use layout::arrays::array32;
-use layout::arrays::array64;
 use prover::Prover;
 use verifier::Verifier;
 ghost use mathlib.Core.Path.{_≡_};
@@ -15,11 +14,11 @@ ghost use Rattle.stored.specs.Parameters.{Small};
 ghost use Rattle.stored.specs.Prover.{proverSize, proverBytes, proverFrom};
 ghost use Rattle.stored.specs.Verifier.{verifierSize, verifierBytes, verifierFrom};
 
-// The bytes of a prover's session: phase, parameters, x, salt, root, message 2.
-pub const PROVER_SIZE: usize = 373;
+// The bytes of a prover's session: phase, parameters, run count, x, salt, root, message 2.
+pub const PROVER_SIZE: usize = 2358;
 
-// The bytes of a verifier's session: phase, parameters, messages 1, 2 and 3, leaf.
-pub const VERIFIER_SIZE: usize = 167;
+// The bytes of a verifier's session: phase, parameters, run count, messages 1, 2 and 3, leaves.
+pub const VERIFIER_SIZE: usize = 4167;
 
 // The prover's session that the bytes are.
 pub fn read_prover(b: &[u8]) -> Prover
@@ -28,13 +27,15 @@ pub fn read_prover(b: &[u8]) -> Prover
 {
     let phase = prover_phase::bytes::phase_from(b[0]);
     let parameters = parts::read_parameters(b);
-    let x = parts::array255(&b[6..261]);
-    let salt = array32(&b[261..293]);
-    let root = array16(&b[293..309]);
-    let message2 = array64(&b[309..373]);
+    let runs = parts::wide(b[6]);
+    let x = parts::array255(&b[7..262]);
+    let salt = array32(&b[262..294]);
+    let root = array16(&b[294..310]);
+    let message2 = parts::messages2(&b[310..2358]);
     Prover {
         phase,
         parameters,
+        runs,
         x,
         salt,
         root,
@@ -44,12 +45,12 @@ pub fn read_prover(b: &[u8]) -> Prover
 
 // The bytes of a prover's session.
 pub fn write_prover(s: Prover, out: &mut [u8])
-    requires { ⌜ (length (now out) ≡ proverSize) × Small (s .parameters) ⌝ }
+    requires { ⌜ (length (now out) ≡ proverSize) × Small (s .parameters) (s .runs) ⌝ }
     ensures { λ _. ⌜ now (out .exit) ≡ proverBytes (heldProver s) ⌝ }
 {
     let phase = s.phase;
     let p = s.parameters;
-    let start = parts::head(prover_phase::bytes::phase_byte(phase), p);
+    let start = parts::head(prover_phase::bytes::phase_byte(phase), p, s.runs);
     let x = s.x;
     let salt = s.salt;
     let root = s.root;
@@ -64,31 +65,29 @@ pub fn read_verifier(b: &[u8]) -> Verifier
 {
     let phase = verifier_phase::bytes::phase_from(b[0]);
     let parameters = parts::read_parameters(b);
-    let message1 = array64(&b[6..70]);
-    let message2 = array64(&b[70..134]);
-    let message3 = array32(&b[134..166]);
-    let leaf = b[166];
+    let runs = parts::wide(b[6]);
+    let messages = parts::messages(&b[7..4135]);
+    let leaves = array32(&b[4135..4167]);
     Verifier {
         phase,
         parameters,
-        message1,
-        message2,
-        message3,
-        leaf,
+        runs,
+        messages,
+        leaves,
     }
 }
 
 // The bytes of a verifier's session.
 pub fn write_verifier(s: Verifier, out: &mut [u8])
-    requires { ⌜ (length (now out) ≡ verifierSize) × Small (s .parameters) ⌝ }
+    requires { ⌜ (length (now out) ≡ verifierSize) × Small (s .parameters) (s .runs) ⌝ }
     ensures { λ _. ⌜ now (out .exit) ≡ verifierBytes (heldVerifier s) ⌝ }
 {
     let phase = s.phase;
     let p = s.parameters;
-    let start = parts::head(verifier_phase::bytes::phase_byte(phase), p);
-    let message1 = s.message1;
-    let message2 = s.message2;
-    let message3 = s.message3;
-    let leaf = [s.leaf];
-    parts::write_parts(&start, &message1, &message2, &message3, &leaf, out);
+    let start = parts::head(verifier_phase::bytes::phase_byte(phase), p, s.runs);
+    let messages = s.messages;
+    let leaves = s.leaves;
+    lists::put_at(out, 0, &start);
+    lists::put_at(out, 7, &messages);
+    lists::put_at(out, 4135, &leaves);
 }

@@ -1,11 +1,15 @@
 // What the bytes of both sessions share: the parameters, and parts one behind the other.
+use layout::MOST_MESSAGES2;
 use parameters::Parameters;
 use parameters::set::numbers_of;
 use parameters::set::parameters_of;
+use verifier::HELD;
 ghost use mathlib.Core.Path.{_≡_};
 ghost use Prim.Native.Nat.{_+_, _≤_};
-ghost use mathlib.Core.List.{_∷_, _++_};
+ghost use mathlib.Core.List.{[], _∷_, _++_};
 ghost use lib.ListN.{length};
+ghost use Rattle.layout.specs.Maxima.{mostMessages2};
+ghost use Rattle.verifier.specs.Held.{heldLength};
 ghost use Rattle.stored.specs.Parameters.{Small, parameterBytes, parametersFrom};
 
 // A slice of 255 bytes as an array.
@@ -18,10 +22,31 @@ pub fn array255(s: &[u8]) -> [u8; 255]
     a
 }
 
-fn wide(b: u8) -> usize
+// A byte as a number.
+pub fn wide(b: u8) -> usize
     ensures { λ r. ⌜ r ≡ b ⌝ }
 {
     b as usize
+}
+
+// A slice of 2,048 bytes as an array: room for message 2.
+pub fn messages2(s: &[u8]) -> [u8; MOST_MESSAGES2]
+    requires { ⌜ length (now s) ≡ mostMessages2 ⌝ }
+    ensures { λ r. ⌜ r ≡ now (s .entry) ⌝ }
+{
+    let mut a = [0u8; MOST_MESSAGES2];
+    lists::copy(&mut a, s);
+    a
+}
+
+// A slice of 4,128 bytes as an array: room for messages 1 to 3.
+pub fn messages(s: &[u8]) -> [u8; HELD]
+    requires { ⌜ length (now s) ≡ heldLength ⌝ }
+    ensures { λ r. ⌜ r ≡ now (s .entry) ⌝ }
+{
+    let mut a = [0u8; HELD];
+    lists::copy(&mut a, s);
+    a
 }
 
 // The parameters, which stand behind the phase.
@@ -33,10 +58,10 @@ pub fn read_parameters(b: &[u8]) -> Parameters
     parameters_of(&numbers)
 }
 
-// Phase and parameters, with which a session's bytes start.
-pub fn head(phase: u8, p: Parameters) -> [u8; 6]
-    requires { ⌜ Small p ⌝ }
-    ensures { λ r. ⌜ r ≡ phase ∷ parameterBytes p ⌝ }
+// Phase, parameters and run count, with which a session's bytes start.
+pub fn head(phase: u8, p: Parameters, runs: usize) -> [u8; 7]
+    requires { ⌜ Small p runs ⌝ }
+    ensures { λ r. ⌜ r ≡ phase ∷ (parameterBytes p ++ (runs ∷ [])) ⌝ }
 {
     let n = numbers_of(p);
     [
@@ -46,6 +71,7 @@ pub fn head(phase: u8, p: Parameters) -> [u8; 6]
         n[2] as u8,
         n[3] as u8,
         n[4] as u8,
+        runs as u8,
     ]
 }
 

@@ -4,21 +4,22 @@
 -- Gives, given o       what a call of the extractor gives: the answer, output and work area
 use mathlib.Core.List.{List}
 use Prim.Native.Nat.{ℕ}
+use Rattle.calls.specs.Lengths.{leavesBelow}
 use Rattle.calls.specs.Prover as prover
 use Rattle.calls.specs.Verifier as verifier
 use Rattle.calls.specs.Extractor as extractor
 use Rattle.test_standin.specs.Definitions as exchanges
 
 unfoldable pub definitions : ℕ
-unfolding exchanges.definitions
+unfolding exchanges.definitions leavesBelow
     prover.fresh prover.heldX prover.heldMessage2 prover.intact prover.standing prover.closed prover.pointsDue prover.leafDue
     prover.repeated prover.beginChecks prover.begun prover.begin prover.pointsChecks prover.answered prover.points
     prover.leafChecks prover.opened prover.leaf
-    verifier.fresh verifier.intact verifier.standing verifier.closed verifier.due verifier.heldExchange verifier.beginChecks
+    verifier.fresh verifier.intact verifier.standing verifier.closed verifier.due verifier.heldTranscript verifier.beginChecks
     verifier.begun verifier.begin verifier.pointsChecks verifier.pointed verifier.points verifier.responseChecks
     verifier.responded verifier.response verifier.leafChecks verifier.chosen verifier.leaf verifier.ended
     verifier.openingChecks verifier.judge verifier.opening
-    extractor.exchangeOf extractor.extractLengths extractor.sameStatement extractor.earlyChecks extractor.found
+    extractor.extractLengths extractor.sameStatement extractor.earlyChecks extractor.found
     extractor.second extractor.first extractor.early extractor.extraction
 definitions = 0
 

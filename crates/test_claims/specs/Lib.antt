@@ -6,4 +6,5 @@ pub mod Pairs
 pub mod Rows
 pub mod StandIn
 pub mod TwoAxes
+pub mod TwoCommitments
 pub mod Wrong

@@ -3,7 +3,9 @@
 -- shipped, cube, leafNumbers     the shipped set; a set with D 3, and its leaves
 -- hiding i                       an exchange that hides leaf i, its messages empty
 -- pairs                          the pairs of two leaves
--- lengths-are                    message 2; message 5 for leaf 0, n−1 and n; work area; the extractor's output
+-- lengths-are                    of a run: message 2; message 5 for leaf 0 and n−1; work area; the extractor's output
+-- exchange1-lengths-are, ..      of one, two and three runs that hide leaf 0, n−1 and n: messages 1, 2, 3 and 5, the
+--                                extractor's output
 -- coordinates-are                of each leaf, on axes 1 to 3
 -- siblings-are                   of each leaf: the nodes, from the root side down
 -- compared-are                   layers and numbers in the order in which the extractor compares, leaves 2 and 5 hidden
@@ -17,18 +19,37 @@ use Rattle.exchange.specs.Tree.{siblings}
 use Rattle.exchange.specs.Opening.{Exchange}
 use Rattle.exchange.specs.Extractor.{compared, axis}
 use Rattle.test_standin.specs.Definitions.{definitions}
+use Rattle.test_exchange.specs.Definitions.{exchangeLengths}
 
 abbrev shipped : Parameters
 shipped = record { m = 230; k = 126; w = 79; axes = 8; t = 3 }
 
 lengths-are :
-    message2Length shipped ∷ message5Length shipped 0 ∷ message5Length shipped 255 ∷ message5Length shipped 256 ∷ workLength shipped ∷ outputLength shipped ∷ []
-    ≡ 24 ∷ 480 ∷ 184 ∷ 480 ∷ 5120 ∷ 8488 ∷ []
+    message2Length shipped ∷ message5Length shipped 0 ∷ message5Length shipped 255 ∷ workLength shipped ∷ outputLength shipped ∷ []
+    ≡ 24 ∷ 480 ∷ 184 ∷ 5120 ∷ 8488 ∷ []
 unfolding definitions
 lengths-are = refl
 
 abbrev cube : Parameters
 cube = record { m = 2; k = 1; w = 1; axes = 3; t = 1 }
+
+exchange1-lengths-are :
+    exchangeLengths cube 1 (0 ∷ [])
+    ≡ 64 ∷ 8 ∷ 32 ∷ 95 ∷ 263 ∷ []
+unfolding definitions
+exchange1-lengths-are = refl
+
+exchange2-lengths-are :
+    exchangeLengths cube 2 (0 ∷ 7 ∷ [])
+    ≡ 96 ∷ 16 ∷ 64 ∷ 183 ∷ 526 ∷ []
+unfolding definitions
+exchange2-lengths-are = refl
+
+exchange3-lengths-are :
+    exchangeLengths cube 3 (0 ∷ 7 ∷ 8 ∷ [])
+    ≡ 128 ∷ 24 ∷ 96 ∷ 278 ∷ 789 ∷ []
+unfolding definitions
+exchange3-lengths-are = refl
 
 abbrev leafNumbers : List ℕ
 leafNumbers = 0 ∷ 1 ∷ 2 ∷ 3 ∷ 4 ∷ 5 ∷ 6 ∷ 7 ∷ []

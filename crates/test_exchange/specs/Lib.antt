@@ -1,8 +1,10 @@
 pub mod Definitions
 pub mod Layouts
+pub mod Runs
 pub mod OneAxis
 pub mod OneAxisFindings
 pub mod TwoPositions
 pub mod TwoAxes
 pub mod TwoAxesFindings
+pub mod TwoRuns
 pub mod Sums

@@ -1,8 +1,8 @@
--- m 3, k 1, w 2, D 1, t 1.
+-- m 3, k 1, w 2, D 1, t 1, one run.
 --
 -- sample         a key, an exchange of it, and what follows from them
 -- computed       the definitions compute it
--- ..-judged      verdicts: of the exchange that hides its leaf, and with a part of message 5 changed
+-- ..-judged      verdicts: of the exchange that hides its leaves, and with parts of message 5 changed
 use mathlib.Core.Path.{_≡_, refl}
 use Rattle.test_standin.specs.StandIn.{hex}
 use Rattle.test_standin.specs.Definitions.{definitions}
@@ -11,22 +11,23 @@ use Rattle.test_exchange.specs.Definitions.{Sample, judged, Computed}
 abbrev sample : Sample
 sample = record {
   p = record { m = 3; k = 1; w = 2; axes = 1; t = 1 };
+  runs = 1;
   key = record { matrix = hex 2 0xb980; y = hex 2 0x5336 };
   xA = hex 1 0x51;
   salt = hex 32 0xa83b63f1ee08469ccdac9ff735ab278a84ba6d1c170cf5c1183c860763b28138;
   root = hex 16 0x5e96737a74e5f8908fafafcc5252147f;
   message2 = hex 8 0xa575a89661fec08a;
-  leaf = 0;
-  last = 1;
+  leaves = hex 1 0x00;
+  lasts = hex 1 0x01;
   x = hex 3 0x510023;
   S = hex 3 0x72dcff;
   Q = hex 3 0x030201;
   P = hex 2 0x39ff;
   F = hex 4 0x06070001;
-  message1 = hex 64 0xa83b63f1ee08469ccdac9ff735ab278a84ba6d1c170cf5c1183c860763b2813804846b7ca3d904a405cd5deb6904e1eaabb176b97f6042dd4ae179440230cbe4;
-  message3 = hex 32 0x85ef3858c893438c4e05c24d2db64d0b586104e83967e855a70ba9dc0efda224;
-  message5 = hex 65 0x44c8e6c5ef7d75f73c086bbd4f6dd2e7a724e2a6472b2e33108e4345e326602e46a00505b26a78ce2a543e74f66f20681cfeee7b1d0aec253258426cce01078452;
-  last5 = hex 56 0x208bfee042d81e977767cae5163b9c5f1f8572adac2ecd4d1cf3be4d4a60438d08ae238c2fe6051e76f2561ff435abadc4833bf25df1fedf;
+  message1 = hex 64 0xa83b63f1ee08469ccdac9ff735ab278a84ba6d1c170cf5c1183c860763b281388fcd332a81b6e0beb30dd201140c892377e8ec5d009d2de87a6da6f7cbd0a734;
+  message3 = hex 32 0x6a388b5fc8be0ccdb70dd41c1ac843b21e8b123f1663e13eae534749cb1e0ab7;
+  message5 = hex 65 0x0d05f173c95849c86718d0ad1adef81a9f031d1e4c1d2e2f64845189303e97185896a2e4cf8071de3b93439f8ea750d2675b57c9f18145416515184f230159181c;
+  last5 = hex 56 0xd3e0829a1781d64b23b0039928b915d3688596cf95a407d42305020fb9a1abef432bf1b4c5c14bf3ce4aabd1615e1ee59e3c72e1807ac3b3;
 }
 
 computed : Computed sample
@@ -45,31 +46,31 @@ computed = record {
 }
 
 hidden-judged :
-    judged sample 0 (hex 65 0x44c8e6c5ef7d75f73c086bbd4f6dd2e7a724e2a6472b2e33108e4345e326602e46a00505b26a78ce2a543e74f66f20681cfeee7b1d0aec253258426cce01078452)
+    judged sample (hex 1 0x00) (hex 65 0x0d05f173c95849c86718d0ad1adef81a9f031d1e4c1d2e2f64845189303e97185896a2e4cf8071de3b93439f8ea750d2675b57c9f18145416515184f230159181c)
     ≡ 0
 unfolding definitions
 hidden-judged = refl
 
 siblingChanged-judged :
-    judged sample 0 (hex 65 0x45c8e6c5ef7d75f73c086bbd4f6dd2e7a724e2a6472b2e33108e4345e326602e46a00505b26a78ce2a543e74f66f20681cfeee7b1d0aec253258426cce01078452)
+    judged sample (hex 1 0x00) (hex 65 0x0c05f173c95849c86718d0ad1adef81a9f031d1e4c1d2e2f64845189303e97185896a2e4cf8071de3b93439f8ea750d2675b57c9f18145416515184f230159181c)
     ≡ 5
 unfolding definitions
 siblingChanged-judged = refl
 
 commitmentChanged-judged :
-    judged sample 0 (hex 65 0x44c8e6c5ef7d75f73c086bbd4f6dd2e7a624e2a6472b2e33108e4345e326602e46a00505b26a78ce2a543e74f66f20681cfeee7b1d0aec253258426cce01078452)
+    judged sample (hex 1 0x00) (hex 65 0x0d05f173c95849c86718d0ad1adef81a9e031d1e4c1d2e2f64845189303e97185896a2e4cf8071de3b93439f8ea750d2675b57c9f18145416515184f230159181c)
     ≡ 5
 unfolding definitions
 commitmentChanged-judged = refl
 
 auxChanged-judged :
-    judged sample 0 (hex 65 0x44c8e6c5ef7d75f73c086bbd4f6dd2e7a724e2a6472b2e33108e4345e326602e46a00505b26a78ce2a543e74f66f20681cfeee7b1d0aec253358426cce01078452)
+    judged sample (hex 1 0x00) (hex 65 0x0d05f173c95849c86718d0ad1adef81a9f031d1e4c1d2e2f64845189303e97185896a2e4cf8071de3b93439f8ea750d2675b57c9f18145416415184f230159181c)
     ≡ 5
 unfolding definitions
 auxChanged-judged = refl
 
 alphaChanged-judged :
-    judged sample 0 (hex 65 0x44c8e6c5ef7d75f73c086bbd4f6dd2e7a724e2a6472b2e33108e4345e326602e46a00505b26a78ce2a543e74f66f20681dfeee7b1d0aec253258426cce01078452)
+    judged sample (hex 1 0x00) (hex 65 0x0d05f173c95849c86718d0ad1adef81a9f031d1e4c1d2e2f64845189303e97185896a2e4cf8071de3b93439f8ea750d2665b57c9f18145416515184f230159181c)
     ≡ 7
 unfolding definitions
 alphaChanged-judged = refl

@@ -1,4 +1,4 @@
-// A prover's session at the shipped set, through right and wrong calls. Of each call it prints the name, document 01's number of the answer
+// A prover's session of two runs at the shipped set, through right and wrong calls. Of each call it prints the name, document 01's number of the answer
 // and SHAKE256 of the output after the call. Keys, seeds and messages are SHAKE256 of a label; the work area comes as bytes a5, the output as
 // bytes 5a.
 use answers::Answer;
@@ -57,25 +57,38 @@ fn syndrome(x_a: &[u8; 126], matrix: &[u8; 13104]) -> [u8; 104] {
     y
 }
 
-// The call begin with the salt, and with the root seed of a label.
-fn begin(s: Prover, p: Parameters, x_a: &[u8], seed: &[u8], matrix: &[u8], y: &[u8]) -> Prover {
+// The call begin of this many runs with the salt, and with the root seed of a label.
+fn begin_runs(
+    s: Prover,
+    p: Parameters,
+    runs: usize,
+    x_a: &[u8],
+    seed: &[u8],
+    matrix: &[u8],
+    y: &[u8],
+) -> Prover {
     let mut salt = [0u8; 32];
     let mut root = [0u8; 16];
     let mut work = [0xa5u8; 5120];
-    let mut out = [0x5au8; 64];
+    let mut out = [0x5au8; 96];
     shake256(b"salt", &mut salt);
     shake256(seed, &mut root);
-    let called = s.begin(p, x_a, &salt, &root, matrix, y, &mut work, &mut out);
+    let called = s.begin(p, runs, x_a, &salt, &root, matrix, y, &mut work, &mut out);
     let answer = called.answer;
     let next = called.prover;
     show(b"begin", answer, &out);
     next
 }
 
+// The call begin of two runs.
+fn begin(s: Prover, p: Parameters, x_a: &[u8], seed: &[u8], matrix: &[u8], y: &[u8]) -> Prover {
+    begin_runs(s, p, 2, x_a, seed, matrix, y)
+}
+
 // The call points with a message 2.
 fn points_with(s: Prover, message2: &[u8], matrix: &[u8], y: &[u8]) -> Prover {
     let mut work = [0xa5u8; 5120];
-    let mut out = [0x5au8; 32];
+    let mut out = [0x5au8; 64];
     let called = s.points(message2, matrix, y, &mut work, &mut out);
     let answer = called.answer;
     let next = called.prover;
@@ -85,62 +98,65 @@ fn points_with(s: Prover, message2: &[u8], matrix: &[u8], y: &[u8]) -> Prover {
 
 // The call points.
 fn points(s: Prover, matrix: &[u8], y: &[u8]) -> Prover {
-    let mut message2 = [0u8; 24];
+    let mut message2 = [0u8; 48];
     shake256(b"points", &mut message2);
     points_with(s, &message2, matrix, y)
 }
 
-// The call points with the first 23 bytes of message 2.
+// The call points with the first 47 bytes of message 2.
 fn points_short(s: Prover, matrix: &[u8], y: &[u8]) -> Prover {
-    let mut message2 = [0u8; 23];
+    let mut message2 = [0u8; 47];
     shake256(b"points", &mut message2);
     points_with(s, &message2, matrix, y)
 }
 
 // The call leaf with an output.
-fn leaf_with(s: Prover, hidden: u8, matrix: &[u8], y: &[u8], out: &mut [u8]) -> Prover {
+fn leaf_with(s: Prover, leaves: &[u8], matrix: &[u8], y: &[u8], out: &mut [u8]) -> Prover {
     let mut work = [0xa5u8; 5120];
-    let called = s.leaf(hidden, matrix, y, &mut work, out);
+    let called = s.leaf(leaves, matrix, y, &mut work, out);
     let answer = called.answer;
     let next = called.prover;
     show(b"leaf", answer, out);
     next
 }
 
-// The call leaf with an output of 480 bytes, the length of message 5 where leaf 77 is hidden.
-fn leaf_480(s: Prover, hidden: u8, matrix: &[u8], y: &[u8]) -> Prover {
-    let mut out = [0x5au8; 480];
-    leaf_with(s, hidden, matrix, y, &mut out)
+// The call leaf with an output of 664 bytes, the length of message 5 where leaves 77 and 255 are hidden.
+fn leaf_664(s: Prover, leaves: &[u8], matrix: &[u8], y: &[u8]) -> Prover {
+    let mut out = [0x5au8; 664];
+    leaf_with(s, leaves, matrix, y, &mut out)
 }
 
-// The call leaf with an output of 184 bytes, the length of message 5 where leaf 255 is hidden.
-fn leaf_184(s: Prover, hidden: u8, matrix: &[u8], y: &[u8]) -> Prover {
-    let mut out = [0x5au8; 184];
-    leaf_with(s, hidden, matrix, y, &mut out)
+// The call leaf with an output of 368 bytes, the length of message 5 where leaf 255 is hidden twice.
+fn leaf_368(s: Prover, leaves: &[u8], matrix: &[u8], y: &[u8]) -> Prover {
+    let mut out = [0x5au8; 368];
+    leaf_with(s, leaves, matrix, y, &mut out)
 }
 
-// Calls that a fresh session refuses: points, which is not due; m out of its limits; y one byte short; x of too many nonzero entries.
+// Calls that a fresh session refuses: points, which is not due; m and the run count out of their limits; y one byte short; x of too
+// many nonzero entries.
 fn refusals(s: Prover, x_a: &[u8], matrix: &[u8], y: &[u8]) -> Prover
     requires { ⌜ 103 ≤ length (now y) ⌝ }
 {
     let heavy = [0xffu8; 126];
     let a = points(s, matrix, y);
     let b = begin(a, set_of(256), x_a, b"root", matrix, y);
-    let c = begin(b, set_of(230), x_a, b"root", matrix, &y[..103]);
-    begin(c, set_of(230), &heavy, b"root", matrix, y)
+    let c = begin_runs(b, set_of(230), 33, x_a, b"root", matrix, y);
+    let d = begin(c, set_of(230), x_a, b"root", matrix, &y[..103]);
+    begin(d, set_of(230), &heavy, b"root", matrix, y)
 }
 
 // A first exchange, with calls that are not due, of wrong lengths, and after its end.
 fn first(s: Prover, x_a: &[u8], matrix: &[u8], y: &[u8]) -> Prover {
     let a = begin(s, set_of(230), x_a, b"root", matrix, y);
-    let b = leaf_480(a, 77, matrix, y);
+    let b = leaf_664(a, &[77, 255], matrix, y);
     let c = points_short(b, matrix, y);
     let d = points(c, matrix, y);
     let e = points(d, matrix, y);
-    let f = leaf_184(e, 77, matrix, y);
-    let g = leaf_480(f, 77, matrix, y);
-    let h = leaf_480(g, 77, matrix, y);
-    points(h, matrix, y)
+    let f = leaf_368(e, &[77, 255], matrix, y);
+    let g = leaf_664(f, &[77], matrix, y);
+    let h = leaf_664(g, &[77, 255], matrix, y);
+    let i = leaf_664(h, &[77, 255], matrix, y);
+    points(i, matrix, y)
 }
 
 // A second exchange: refused with the first one's salt and root, carried out with another root.
@@ -148,7 +164,7 @@ fn second(s: Prover, x_a: &[u8], matrix: &[u8], y: &[u8]) -> Prover {
     let a = begin(s, set_of(230), x_a, b"root", matrix, y);
     let b = begin(a, set_of(230), x_a, b"other root", matrix, y);
     let c = points(b, matrix, y);
-    leaf_184(c, 255, matrix, y)
+    leaf_368(c, &[255, 255], matrix, y)
 }
 
 // All calls, on one session.

@@ -3,10 +3,9 @@
 -- title                the ASCII text 'Risvatey unlock: ', with which every label starts
 -- matrixLabel to leafLabel    the ASCII words matrix, salt, root, points, leaf
 -- expanded label n     n bytes of SHAKE256 of the title and the label
--- leafOf p             the low D bits of one such byte
-use mathlib.Core.List.{List, [], _∷_, _++_}
+-- leavesOf p runs      message 4: of one such byte a run the low D bits
+use mathlib.Core.List.{List, [], _∷_, _++_, map}
 use Prim.Native.Nat.{ℕ, _%_, _^_}
-use lib.ListN.{getD}
 use Rattle.parameters.specs.declared.Parameters.{Parameters}
 use Rattle.shake256.specs.Fips.{SHAKE256}
 pub mod Laws
@@ -32,5 +31,5 @@ leafLabel = 108 ∷ 101 ∷ 97 ∷ 102 ∷ []
 unfoldable pub expanded : List ℕ → ℕ → List ℕ
 expanded label n = SHAKE256 (title ++ label) n
 
-abbrev pub leafOf : Parameters → ℕ
-leafOf p = getD (expanded leafLabel 1) 0 0 % 2 ^ p .axes
+abbrev pub leavesOf : Parameters → ℕ → List ℕ
+leavesOf p runs = map (λ b. b % 2 ^ p .axes) (expanded leafLabel runs)

@@ -1,3 +1,4 @@
+pub mod Count
 pub mod Expanded
 pub mod Key
 pub mod Lines

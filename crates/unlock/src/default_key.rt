@@ -1,4 +1,4 @@
-// The default key of the program `unlock`, and what that demonstration fixes where a probe draws: salt, root, points and leaf.
+// The default key of the program `unlock`, and what that demonstration fixes where a probe draws: salt, root, points and leaves.
 use parameters::Parameters;
 use parameters::set::parameters_of;
 use shake256::Sponge;
@@ -7,7 +7,7 @@ ghost use Prim.Native.Nat.{_%_, _<_};
 ghost use lib.ListN.{length};
 ghost use Rattle.parameters.specs.Limits.{Within};
 ghost use Rattle.unlock.specs.Key.{shippedSet, defaultY, defaultXA};
-ghost use Rattle.unlock.specs.Expanded.{matrixLabel, saltLabel, rootLabel, pointsLabel, expanded, leafOf};
+ghost use Rattle.unlock.specs.Expanded.{matrixLabel, saltLabel, rootLabel, pointsLabel, expanded, leavesOf};
 
 // The default key's y.
 const Y: [u8; 104] = [
@@ -304,7 +304,7 @@ pub fn root() -> [u8; 16]
     out
 }
 
-// Fills out with message 2: points and multipliers.
+// Fills out with message 2: points and multipliers of all runs.
 pub fn points(out: &mut [u8])
     ensures { λ _. ⌜ now (out .exit) ≡ expanded pointsLabel (length (now (out .entry))) ⌝ }
 {
@@ -319,12 +319,16 @@ fn remainder(b: u8, n: usize) -> u8
     (b as usize % n) as u8
 }
 
-// The leaf that stays hidden.
-pub fn leaf(p: Parameters) -> u8
+// Fills out with message 4: the leaf of each run that stays hidden.
+pub fn leaves(p: Parameters, out: &mut [u8])
     requires { ⌜ Within p ⌝ }
-    ensures { λ r. ⌜ r ≡ leafOf p ⌝ }
+    ensures { λ _. ⌜ now (out .exit) ≡ leavesOf p (length (now (out .entry))) ⌝ }
 {
-    let mut out = [0u8; 1];
-    expand(b"leaf", &mut out);
-    remainder(out[0], layout::leaf_count(p))
+    expand(b"leaf", out);
+    let n = layout::leaf_count(p);
+    let mut i = 0;
+    while i < out.len() {
+        out[i] = remainder(out[i], n);
+        i += 1;
+    }
 }

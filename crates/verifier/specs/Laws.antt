@@ -5,38 +5,43 @@
 -- rest-done                         where all checks pass, those behind 12 and 11 do
 -- Inner here                        a phase between the first begin and the closing
 -- due-intact                        a call that is due in such a phase finds an intact session
--- held-within, held-leaf            its parameters are within their limits, its leaf is below n
--- begin-passed, response-passed     the length of the message taken
--- Pointing, points-passed           what is known where the checks of points pass
+-- held-within, held-runs, held-leaves   its parameters and its run count are within their limits, its leaves are below n
+-- begin-passed, points-passed, response-passed, leaf-passed   the message taken has room in the session
 -- Opened, opening-passed            what is known where the checks of the opening pass
 -- refused-opening, judged-opening   what the opening gives, from what its checks answered
 use mathlib.Core.Path.{_≡_, refl, sym, ap, _∙_}
 use mathlib.Core.Bool.{Bool, true, false, _&&_, _||_, not, cond, false≢true}
 use mathlib.Core.List.{List}
-use Prim.Native.Nat.{ℕ, _<_}
-use lib.Dec.{eqb, ltb}
-use lib.ListN.{length}
-use borrow.Author.Tests.{eqb-true, ltb-true}
+use Prim.Native.Nat.{ℕ, _≤_, _<_}
+use native.Mathlib.Omega.{arith}
+use lib.Dec.{eqb}
+use lib.ListN.{length, getD}
+use borrow.Author.Tests.{eqb-true}
 use Rattle.lists.specs.Zeroed.{zeroed}
 use Rattle.lists.specs.Checks.Laws.{and-left, and-right}
 use Rattle.answers.specs.declared.Answer.{Answer}
 use Rattle.answers.specs.declared.Answer.the-variants.{Done, Refused}
 use Rattle.answers.specs.declared.Refusal.{Refusal}
-use Rattle.answers.specs.declared.Refusal.the-variants.{Parameter, Length, NotDue, Closed as ExchangeClosed}
+use Rattle.answers.specs.declared.Refusal.the-variants.{Parameter, Length, Leaf, NotDue, Closed as ExchangeClosed}
 use Rattle.answers.specs.Number.{answerNumber}
 use Rattle.answers.specs.Checks.{check}
 use Rattle.answers.specs.Checks.Laws.{Done≢Refused, check-true, check-rest, check-passed}
 use Rattle.parameters.specs.declared.Parameters.{Parameters}
 use Rattle.parameters.specs.Limits.{withinLimits, Within}
 use Rattle.parameters.specs.Limits.Laws.{test-within}
-use Rattle.layout.specs.Layout.{leaves, message2Length, message5Length, workLength}
-use Rattle.exchange.specs.Opening.{verdict}
+use Rattle.layout.specs.Layout.{leaves, workLength}
+use Rattle.layout.specs.Maxima.{mostRuns, mostMessage1, mostMessages2, mostMessages3}
+use Rattle.layout.specs.Runs.{runsWithin, message1Length, messages2Length, messages3Length, messages5Length}
+use Rattle.layout.specs.Runs.Laws.{RunsWithin, runs-within, messages2-most}
+use Rattle.runs.specs.Opening.{verdict}
 use Rattle.exchange.specs.Values.{Key}
 use Rattle.layout.specs.Lent.{lent, Lent}
 use Rattle.layout.specs.Lent.Laws.{test-lent}
 use Rattle.verifier_phase.specs.declared.Phase.{Phase}
-use Rattle.verifier_phase.specs.declared.Phase.the-variants.{Fresh, Begun, Pointed, Chosen, Closed}
-use Rattle.calls.specs.Verifier.{Verifier, heldExchange, ended, judge, opening, step, intact, standing, closed, due, settle, beginChecks, pointsChecks, responseChecks, openingChecks}
+use Rattle.verifier_phase.specs.declared.Phase.the-variants.{Fresh, Begun, Pointed, Responded, Chosen, Closed}
+use Rattle.calls.specs.Lengths.{leavesBelow}
+use Rattle.calls.specs.Lengths.Laws.{leaves-below}
+use Rattle.calls.specs.Verifier.{Verifier, heldLeaves, heldTranscript, ended, judge, opening, step, intact, standing, closed, due, settle, beginChecks, pointsChecks, responseChecks, leafChecks, openingChecks}
 
 -- ---- what a call gives
 
@@ -94,58 +99,87 @@ module _ (s : Verifier) (here : Phase) where
         go false false e f q = absurd (false≢true (sym (inner .still) ∙ ap (λ (n : ℕ). eqb n (step Closed)) (sym (eqb-true (step Closed) (step here) q))))
 
 module _ (s : Verifier) (h : intact s ≡ true) where
-  limits : (withinLimits (s .parameters) && ltb (s .leaf) (leaves (s .parameters))) ≡ true
+  abbrev inside : Bool
+  inside = withinLimits (s .parameters)
+
+  abbrev counted : Bool
+  counted = runsWithin (s .runs)
+
+  abbrev below : Bool
+  below = leavesBelow (s .parameters) (heldLeaves s)
+
+  limits : (inside && (counted && below)) ≡ true
   unfolding intact
   limits = h
 
   pub held-within : Within (s .parameters)
-  held-within = test-within (s .parameters) (and-left (withinLimits (s .parameters)) (ltb (s .leaf) (leaves (s .parameters))) limits)
+  held-within = test-within (s .parameters) (and-left inside (counted && below) limits)
 
-  pub held-leaf : s .leaf < leaves (s .parameters)
-  held-leaf = ltb-true (s .leaf) (leaves (s .parameters)) (and-right (withinLimits (s .parameters)) (ltb (s .leaf) (leaves (s .parameters))) limits)
+  pub held-runs : RunsWithin (s .runs)
+  held-runs = runs-within (s .runs) (and-left counted below (and-right inside (counted && below) limits))
+
+  pub held-leaves : (e : ℕ) → e < length (heldLeaves s) → getD (heldLeaves s) e 0 < leaves (s .parameters)
+  held-leaves = leaves-below (s .parameters) (heldLeaves s) (and-right counted below (and-right inside (counted && below) limits))
 
 -- ---- the checks of each call
 
 length-passed : (n m : ℕ) → check (eqb n m) Length Done ≡ Done → n ≡ m
 length-passed n m e = eqb-true n m (check-true (eqb n m) Length Done e)
 
-pub begin-passed : (p : Parameters) (m1 : List ℕ) → beginChecks p m1 ≡ Done → length m1 ≡ 64
+pub begin-passed : (p : Parameters) (runs : ℕ) (m1 : List ℕ) → beginChecks p runs m1 ≡ Done → length m1 ≤ mostMessage1
 unfolding beginChecks
-begin-passed p m1 e = length-passed (length m1) 64 (check-rest (withinLimits p) Parameter (check (eqb (length m1) 64) Length Done) e)
+begin-passed p runs m1 e =
+    let first : Bool = withinLimits p && runsWithin runs in
+    let rest : Answer = check (eqb (length m1) (message1Length runs)) Length Done in
+    let size = length-passed (length m1) (message1Length runs) (check-rest first Parameter rest e) in
+    let few = runs-within runs (and-right (withinLimits p) (runsWithin runs) (check-true first Parameter rest e)) in
+    omega (arith, size, few .most)
 
-pub record Pointing (s : Verifier) (m2 : List ℕ) : Type 0 where
-  pub within : Within (s .parameters)
-  pub size : length m2 ≡ message2Length (s .parameters)
-
-pub points-passed : (s : Verifier) (m2 : List ℕ) → pointsChecks s m2 ≡ Done → Pointing s m2
+pub points-passed : (s : Verifier) (m2 : List ℕ) → pointsChecks s m2 ≡ Done → length m2 ≤ mostMessages2
 unfolding pointsChecks
-points-passed s m2 e = record {
-  within = held-within s (due-intact s Begun (check (eqb (length m2) (message2Length (s .parameters))) Length Done) e record { begun = refl; still = refl });
-  size = length-passed (length m2) (message2Length (s .parameters)) (rest-done s Begun (check (eqb (length m2) (message2Length (s .parameters))) Length Done) e);
-}
+points-passed s m2 e =
+    let rest : Answer = check (eqb (length m2) (messages2Length (s .parameters) (s .runs))) Length Done in
+    let size = length-passed (length m2) (messages2Length (s .parameters) (s .runs)) (rest-done s Begun rest e) in
+    let whole = due-intact s Begun rest e record { begun = refl; still = refl } in
+    omega (arith, size, messages2-most (s .parameters) (held-within s whole) (s .runs) (held-runs s whole .most))
 
-pub response-passed : (s : Verifier) (m3 : List ℕ) → responseChecks s m3 ≡ Done → length m3 ≡ 32
+pub response-passed : (s : Verifier) (m3 : List ℕ) → responseChecks s m3 ≡ Done → length m3 ≤ mostMessages3
 unfolding responseChecks
-response-passed s m3 e = length-passed (length m3) 32 (rest-done s Pointed (check (eqb (length m3) 32) Length Done) e)
+response-passed s m3 e =
+    let rest : Answer = check (eqb (length m3) (messages3Length (s .runs))) Length Done in
+    let size = length-passed (length m3) (messages3Length (s .runs)) (rest-done s Pointed rest e) in
+    let few = held-runs s (due-intact s Pointed rest e record { begun = refl; still = refl }) .most in
+    omega (arith, size, few)
+
+pub leaf-passed : (s : Verifier) (is : List ℕ) → leafChecks s is ≡ Done → length is ≤ mostRuns
+unfolding leafChecks
+leaf-passed s is e =
+    let behind : Answer = check (leavesBelow (s .parameters) is) Leaf Done in
+    let rest : Answer = check (eqb (length is) (s .runs)) Length behind in
+    let size = eqb-true (length is) (s .runs) (check-true (eqb (length is) (s .runs)) Length behind (rest-done s Responded rest e)) in
+    let few = held-runs s (due-intact s Responded rest e record { begun = refl; still = refl }) .most in
+    omega (arith, size, few)
 
 pub record Opened (s : Verifier) (m5 matrix y work : ℕ) : Type 0 where
   pub within : Within (s .parameters)
-  pub leaf : s .leaf < leaves (s .parameters)
-  pub size : m5 ≡ message5Length (s .parameters) (s .leaf)
+  pub counted : RunsWithin (s .runs)
+  pub below : (e : ℕ) → e < length (heldLeaves s) → getD (heldLeaves s) e 0 < leaves (s .parameters)
+  pub size : m5 ≡ messages5Length (s .parameters) (heldLeaves s)
   pub lent : Lent (s .parameters) matrix y work
 
 module _ (hash : List ℕ → ℕ → List ℕ) (s : Verifier) (m5 : List ℕ) (key : Key) (work : List ℕ) where
   pub opening-passed : openingChecks hash s m5 key work ≡ Done → Opened s (length m5) (length (key .matrix)) (length (key .y)) (length work)
   unfolding openingChecks lent
   opening-passed e =
-      let five : Bool = eqb (length m5) (message5Length (s .parameters) (s .leaf)) in
+      let five : Bool = eqb (length m5) (messages5Length (s .parameters) (heldLeaves s)) in
       let others : Bool = lent (s .parameters) (length (key .matrix)) (length (key .y)) (length work) in
       let both = check-true (five && others) Length Done (rest-done s Chosen (check (five && others) Length Done) e) in
       let held = due-intact s Chosen (check (five && others) Length Done) e record { begun = refl; still = refl } in
       record {
         within = held-within s held;
-        leaf = held-leaf s held;
-        size = eqb-true (length m5) (message5Length (s .parameters) (s .leaf)) (and-left five others both);
+        counted = held-runs s held;
+        below = held-leaves s held;
+        size = eqb-true (length m5) (messages5Length (s .parameters) (heldLeaves s)) (and-left five others both);
         lent = test-lent (s .parameters) (length (key .matrix)) (length (key .y)) (length work) (and-right five others both);
       }
 
@@ -154,7 +188,7 @@ module _ (hash : List ℕ → ℕ → List ℕ) (s : Verifier) (m5 : List ℕ) (
   unfolding opening judge
   refused-opening r q = rw (← e, q)
 
-  pub judged-opening : (a : Answer) (next : Verifier) (w : List ℕ) → a ≡ verdict hash (s .parameters) (heldExchange s m5) key → next ≡ ended s
+  pub judged-opening : (a : Answer) (next : Verifier) (w : List ℕ) → a ≡ verdict hash (s .parameters) (s .runs) (heldTranscript s m5) key → next ≡ ended s
       → w ≡ zeroed (workLength (s .parameters)) work → b ≡ Done → record { answer = answerNumber a; verifier = next; work = w } ≡ opening hash s m5 key work
   unfolding opening judge
   judged-opening a next w x y z q = rw (← e, q, x, y, z)

@@ -1,4 +1,4 @@
-// The verifier's session. It holds the messages received so far, the hidden leaf that it chose, and its phase.
+// The verifier's session. It holds the messages received so far, the hidden leaves that it chose, and its phase.
 mod checks;
 mod judge;
 
@@ -8,11 +8,9 @@ use checks::leaf_checks;
 use checks::opening_checks;
 use checks::points_checks;
 use checks::response_checks;
-use judge::ended;
 use judge::judge;
-use layout::arrays::array32;
-use layout::arrays::array64;
-use layout::arrays::padded64;
+use layout::MOST_RUNS;
+use lists::put_at;
 use parameters::Parameters;
 use verifier_phase::Phase;
 ghost use mathlib.Core.Path.{_≡_};
@@ -21,14 +19,20 @@ ghost use Rattle.exchange.specs.Values.{keyOf};
 ghost use Rattle.calls.specs.Verifier as spec;
 ghost use Rattle.verifier.specs.Held.{held, given, judged};
 
-// A session. Of message 2 the first 8t bytes count.
+// The bytes of messages 1, 2 and 3, each in as many as it can have, and where messages 2 and 3 start among them.
+pub const HELD: usize = 4128;
+
+pub const MESSAGE2_PLACE: usize = 1056;
+
+pub const MESSAGE3_PLACE: usize = 3104;
+
+// A session. Each message stands at the front of its place; so do the leaves, one of each run.
 pub struct Verifier {
     pub phase: Phase,
     pub parameters: Parameters,
-    pub message1: [u8; 64],
-    pub message2: [u8; 64],
-    pub message3: [u8; 32],
-    pub leaf: u8,
+    pub runs: usize,
+    pub messages: [u8; HELD],
+    pub leaves: [u8; MOST_RUNS],
 }
 
 // A session after a call, with what the call answers.
@@ -51,33 +55,32 @@ pub fn fresh() -> Verifier
     Verifier {
         phase: Phase::Fresh,
         parameters,
-        message1: [0u8; 64],
-        message2: [0u8; 64],
-        message3: [0u8; 32],
-        leaf: 0,
+        runs: 0,
+        messages: [0u8; HELD],
+        leaves: [0u8; MOST_RUNS],
     }
 }
 
 impl Verifier {
-    // Begins an exchange with its parameters and message 1; the exchange held is dropped.
-    pub fn begin(self, p: Parameters, message1: &[u8]) -> Called
-        ensures { λ r. ⌜ given r ≡ spec.begin (held self) p (now (message1 .entry)) ⌝ }
+    // Begins an exchange of so many runs with its parameters and message 1; the exchange held is dropped.
+    pub fn begin(self, p: Parameters, runs: usize, message1: &[u8]) -> Called
+        ensures { λ r. ⌜ given r ≡ spec.begin (held self) p runs (now (message1 .entry)) ⌝ }
     {
-        let checked = begin_checks(p, message1);
+        let checked = begin_checks(p, runs, message1);
         let Answer::Done = checked else {
             return Called {
                 verifier: self,
                 answer: checked,
             };
         };
-        let message1 = array64(message1);
+        let mut messages = [0u8; HELD];
+        put_at(&mut messages, 0, message1);
         let next = Verifier {
             phase: Phase::Begun,
             parameters: p,
-            message1,
-            message2: [0u8; 64],
-            message3: [0u8; 32],
-            leaf: 0,
+            runs,
+            messages,
+            leaves: [0u8; MOST_RUNS],
         };
         Called {
             verifier: next,
@@ -85,29 +88,29 @@ impl Verifier {
         }
     }
 
-    // Takes message 2, which the verifier sends: points and multipliers.
+    // Takes message 2, which the verifier sends: points and multipliers of each run.
     pub fn points(self, message2: &[u8]) -> Called
         ensures { λ r. ⌜ given r ≡ spec.points (held self) (now (message2 .entry)) ⌝ }
     {
         let phase = self.phase;
         let parameters = self.parameters;
-        let checked = points_checks(phase, parameters, self.leaf, message2);
+        let runs = self.runs;
+        let leaves = self.leaves;
+        let checked = points_checks(phase, parameters, runs, &leaves, message2);
         let Answer::Done = checked else {
             return Called {
                 verifier: self,
                 answer: checked,
             };
         };
-        let message1 = self.message1;
-        let message2 = padded64(message2);
-        let message3 = self.message3;
+        let mut messages = self.messages;
+        put_at(&mut messages, MESSAGE2_PLACE, message2);
         let next = Verifier {
             phase: Phase::Pointed,
             parameters,
-            message1,
-            message2,
-            message3,
-            leaf: self.leaf,
+            runs,
+            messages,
+            leaves,
         };
         Called {
             verifier: next,
@@ -115,29 +118,29 @@ impl Verifier {
         }
     }
 
-    // Takes message 3, the response digest.
+    // Takes message 3, the response digest of each run.
     pub fn response(self, message3: &[u8]) -> Called
         ensures { λ r. ⌜ given r ≡ spec.response (held self) (now (message3 .entry)) ⌝ }
     {
         let phase = self.phase;
         let parameters = self.parameters;
-        let checked = response_checks(phase, parameters, self.leaf, message3);
+        let runs = self.runs;
+        let leaves = self.leaves;
+        let checked = response_checks(phase, parameters, runs, &leaves, message3);
         let Answer::Done = checked else {
             return Called {
                 verifier: self,
                 answer: checked,
             };
         };
-        let message1 = self.message1;
-        let message2 = self.message2;
-        let message3 = array32(message3);
+        let mut messages = self.messages;
+        put_at(&mut messages, MESSAGE3_PLACE, message3);
         let next = Verifier {
             phase: Phase::Responded,
             parameters,
-            message1,
-            message2,
-            message3,
-            leaf: self.leaf,
+            runs,
+            messages,
+            leaves,
         };
         Called {
             verifier: next,
@@ -145,29 +148,29 @@ impl Verifier {
         }
     }
 
-    // Takes message 4, the leaf that is to stay hidden.
-    pub fn leaf(self, leaf: u8) -> Called
-        ensures { λ r. ⌜ given r ≡ spec.leaf (held self) leaf ⌝ }
+    // Takes message 4, the leaf that is to stay hidden in each run.
+    pub fn leaf(self, leaves: &[u8]) -> Called
+        ensures { λ r. ⌜ given r ≡ spec.leaf (held self) (now (leaves .entry)) ⌝ }
     {
         let phase = self.phase;
         let parameters = self.parameters;
-        let checked = leaf_checks(phase, parameters, self.leaf, leaf);
+        let runs = self.runs;
+        let mut chosen = self.leaves;
+        let checked = leaf_checks(phase, parameters, runs, &chosen, leaves);
         let Answer::Done = checked else {
             return Called {
                 verifier: self,
                 answer: checked,
             };
         };
-        let message1 = self.message1;
-        let message2 = self.message2;
-        let message3 = self.message3;
+        let messages = self.messages;
+        put_at(&mut chosen, 0, leaves);
         let next = Verifier {
             phase: Phase::Chosen,
             parameters,
-            message1,
-            message2,
-            message3,
-            leaf,
+            runs,
+            messages,
+            leaves: chosen,
         };
         Called {
             verifier: next,
@@ -175,22 +178,31 @@ impl Verifier {
         }
     }
 
-    // Judges message 5, which opens all leaves but the hidden one, and closes the exchange with the answer.
+    // Judges message 5, which opens all leaves of each run but the hidden one, and closes the exchange with the answer.
     pub fn opening(self, message5: &[u8], matrix: &[u8], y: &[u8], work: &mut [u8]) -> Called
         ensures { λ r. ⌜ judged r (now (work .exit)) ≡ spec.opening SHAKE256 (held self) (now (message5 .entry))
             (keyOf (now (matrix .entry)) (now (y .entry))) (now (work .entry)) ⌝ }
     {
         let phase = self.phase;
-        let parameters = self.parameters;
-        let checked = opening_checks(phase, parameters, self.leaf, message5, matrix, y, work);
+        let p = self.parameters;
+        let runs = self.runs;
+        let leaves = self.leaves;
+        let checked = opening_checks(phase, p, runs, &leaves, message5, matrix, y, work);
         let Answer::Done = checked else {
             return Called {
                 verifier: self,
                 answer: checked,
             };
         };
-        let answer = judge(self, message5, matrix, y, work);
-        let next = ended(self);
+        let messages = self.messages;
+        let answer = judge(p, &messages, &leaves[..runs], message5, matrix, y, work);
+        let next = Verifier {
+            phase: Phase::Closed,
+            parameters: p,
+            runs,
+            messages,
+            leaves,
+        };
         Called {
             verifier: next,
             answer,

@@ -35,11 +35,11 @@ pub struct Effect {
 #[allow(missing_docs)]
 pub enum ProverInput {
     /// begin
-    Begin { parameters: Parameters, x_a: Vec<u8>, salt: Vec<u8>, root: Vec<u8> },
+    Begin { parameters: Parameters, runs: usize, x_a: Vec<u8>, salt: Vec<u8>, root: Vec<u8> },
     /// points
     Points { message_2: Vec<u8> },
     /// leaf
-    Leaf { leaf: u8 },
+    Leaf { leaves: Vec<u8> },
 }
 
 /// A call of the prover.
@@ -58,13 +58,13 @@ pub struct ProverCall {
 #[allow(missing_docs)]
 pub enum VerifierCall {
     /// begin
-    Begin { parameters: Parameters, message_1: Vec<u8> },
+    Begin { parameters: Parameters, runs: usize, message_1: Vec<u8> },
     /// points
     Points { message_2: Vec<u8> },
     /// response
     Response { message_3: Vec<u8> },
     /// leaf
-    Leaf { leaf: u8 },
+    Leaf { leaves: Vec<u8> },
     /// opening
     Opening { message_5: Vec<u8>, lent: LentBytes },
 }
@@ -74,6 +74,8 @@ pub enum VerifierCall {
 pub struct ExtractorCall {
     /// The parameters.
     pub parameters: Parameters,
+    /// The run count.
+    pub runs: usize,
     /// The first exchange.
     pub first: Exchange,
     /// The second exchange.
@@ -97,11 +99,11 @@ impl ProverCall {
         let (mut work, mut output) = (self.lent.work.clone(), self.output.clone());
         let lent = self.lent.lend(&mut work);
         let number = match &self.input {
-            ProverInput::Begin { parameters, x_a, salt, root } => {
-                prover.begin(*parameters, x_a, salt, root, lent, &mut output)
+            ProverInput::Begin { parameters, runs, x_a, salt, root } => {
+                prover.begin(*parameters, *runs, x_a, salt, root, lent, &mut output)
             }
             ProverInput::Points { message_2 } => prover.points(message_2, lent, &mut output),
-            ProverInput::Leaf { leaf } => prover.leaf(*leaf, lent, &mut output),
+            ProverInput::Leaf { leaves } => prover.leaf(leaves, lent, &mut output),
         };
         Effect { number, work, output }
     }
@@ -112,10 +114,10 @@ impl VerifierCall {
     pub fn make(&self, verifier: &mut Verifier) -> Effect {
         let mut work = Vec::new();
         let number = match self {
-            VerifierCall::Begin { parameters, message_1 } => verifier.begin(*parameters, message_1),
+            VerifierCall::Begin { parameters, runs, message_1 } => verifier.begin(*parameters, *runs, message_1),
             VerifierCall::Points { message_2 } => verifier.points(message_2),
             VerifierCall::Response { message_3 } => verifier.response(message_3),
-            VerifierCall::Leaf { leaf } => verifier.leaf(*leaf),
+            VerifierCall::Leaf { leaves } => verifier.leaf(leaves),
             VerifierCall::Opening { message_5, lent } => {
                 work.clone_from(&lent.work);
                 verifier.opening(message_5, lent.lend(&mut work))
@@ -130,7 +132,7 @@ impl ExtractorCall {
     pub fn make(&self) -> (Answer, Vec<u8>, Vec<u8>) {
         let (mut work, mut output) = (self.lent.work.clone(), self.output.clone());
         let (first, second) = (self.first.messages(), self.second.messages());
-        let answer = extract(self.parameters, first, second, self.lent.lend(&mut work), &mut output);
+        let answer = extract(self.parameters, self.runs, first, second, self.lent.lend(&mut work), &mut output);
         (answer, work, output)
     }
 }

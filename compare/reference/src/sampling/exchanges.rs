@@ -9,7 +9,7 @@ use crate::parameters::Parameters;
 use crate::prover::Prover;
 use crate::sampling::keys::Key;
 use crate::sampling::Random;
-use crate::strings::{Salt, Seed};
+use crate::strings::{Salt, Seed, DIGEST_BYTES, SALT_BYTES};
 use crate::verifier::Verifier;
 
 /// Messages 1 to 5 of one exchange.
@@ -22,7 +22,7 @@ pub struct Exchange {
     /// Message 3.
     pub message_3: Vec<u8>,
     /// Message 4.
-    pub leaf: u8,
+    pub leaves: Vec<u8>,
     /// Message 5.
     pub message_5: Vec<u8>,
 }
@@ -34,9 +34,37 @@ impl Exchange {
             message_1: &self.message_1,
             message_2: &self.message_2,
             message_3: &self.message_3,
-            leaf: self.leaf,
+            leaves: &self.leaves,
             message_5: &self.message_5,
         }
+    }
+
+    /// The run count of an exchange whose message 4 has its length.
+    pub fn runs(&self) -> usize {
+        self.leaves.len()
+    }
+
+    /// h of a run.
+    pub fn h_mut(&mut self, run: usize) -> &mut [u8] {
+        let place = SALT_BYTES + run * DIGEST_BYTES;
+        &mut self.message_1[place..place + DIGEST_BYTES]
+    }
+
+    /// Points and multipliers of a run.
+    pub fn challenge_mut(&mut self, parameters: &Parameters, run: usize) -> &mut [u8] {
+        let length = parameters.challenge_bytes();
+        &mut self.message_2[run * length..(run + 1) * length]
+    }
+
+    /// h' of a run.
+    pub fn response_mut(&mut self, run: usize) -> &mut [u8] {
+        &mut self.message_3[run * DIGEST_BYTES..(run + 1) * DIGEST_BYTES]
+    }
+
+    /// The opening of a run.
+    pub fn opening_mut(&mut self, parameters: &Parameters, run: usize) -> &mut [u8] {
+        let place = parameters.message_5_bytes(&self.leaves[..run]);
+        &mut self.message_5[place..place + parameters.opening_bytes(self.leaves[run])]
     }
 }
 
@@ -52,16 +80,16 @@ pub struct Start {
 }
 
 impl Start {
-    /// A random start.
-    pub fn random(random: &mut Random, parameters: &Parameters) -> Start {
-        let message_2 = random_message_2(random, parameters);
+    /// A random start of so many runs.
+    pub fn random(random: &mut Random, parameters: &Parameters, runs: usize) -> Start {
+        let message_2 = random_message_2(random, parameters, runs);
         Start { salt: random.array(), root: random.array(), message_2 }
     }
 }
 
 /// A message 2, sometimes with points or multipliers that are zero, bytes or repeated.
-pub fn random_message_2(random: &mut Random, parameters: &Parameters) -> Vec<u8> {
-    let mut message = random.bytes(parameters.message_2_bytes());
+pub fn random_message_2(random: &mut Random, parameters: &Parameters, runs: usize) -> Vec<u8> {
+    let mut message = random.bytes(parameters.message_2_bytes(runs));
     for point in message.chunks_exact_mut(4) {
         match random.below(8) {
             0 => point.fill(0),
@@ -73,39 +101,40 @@ pub fn random_message_2(random: &mut Random, parameters: &Parameters) -> Vec<u8>
     message
 }
 
-/// The messages that an honest prover gives.
-pub fn honest_exchange(key: &Key, start: &Start, leaf: u8) -> Exchange {
-    let parameters = key.parameters;
+/// The messages that an honest prover gives where these leaves are hidden, one a run.
+pub fn honest_exchange(key: &Key, start: &Start, leaves: &[u8]) -> Exchange {
+    let (parameters, runs) = (key.parameters, leaves.len());
     let mut work = vec![0xa5; parameters.work_bytes()];
     let mut prover = Prover::default();
-    let mut message_1 = vec![0; Parameters::MESSAGE_1_BYTES];
-    let mut message_3 = vec![0; Parameters::MESSAGE_3_BYTES];
-    let mut message_5 = vec![0; parameters.message_5_bytes(usize::from(leaf))];
+    let mut message_1 = vec![0; Parameters::message_1_bytes(runs)];
+    let mut message_3 = vec![0; Parameters::message_3_bytes(runs)];
+    let mut message_5 = vec![0; parameters.message_5_bytes(leaves)];
     let lent = Lent { matrix: &key.matrix, y: &key.y, work: &mut work };
-    assert_eq!(prover.begin(parameters, &key.x_a, &start.salt, &start.root, lent, &mut message_1), CARRIED_OUT);
+    assert_eq!(prover.begin(parameters, runs, &key.x_a, &start.salt, &start.root, lent, &mut message_1), CARRIED_OUT);
     let lent = Lent { matrix: &key.matrix, y: &key.y, work: &mut work };
     assert_eq!(prover.points(&start.message_2, lent, &mut message_3), CARRIED_OUT);
     let lent = Lent { matrix: &key.matrix, y: &key.y, work: &mut work };
-    assert_eq!(prover.leaf(leaf, lent, &mut message_5), CARRIED_OUT);
-    Exchange { message_1, message_2: start.message_2.clone(), message_3, leaf, message_5 }
+    assert_eq!(prover.leaf(leaves, lent, &mut message_5), CARRIED_OUT);
+    Exchange { message_1, message_2: start.message_2.clone(), message_3, leaves: leaves.to_vec(), message_5 }
 }
 
 /// What a fresh verifier answers to the opening of an exchange whose other calls are carried out.
 pub fn verdict(parameters: &Parameters, key: PublicKey, exchange: &Exchange) -> Number {
     let mut work = vec![0xa5; parameters.work_bytes()];
     let mut verifier = Verifier::default();
-    assert_eq!(verifier.begin(*parameters, &exchange.message_1), CARRIED_OUT);
+    assert_eq!(verifier.begin(*parameters, exchange.runs(), &exchange.message_1), CARRIED_OUT);
     assert_eq!(verifier.points(&exchange.message_2), CARRIED_OUT);
     assert_eq!(verifier.response(&exchange.message_3), CARRIED_OUT);
-    assert_eq!(verifier.leaf(exchange.leaf), CARRIED_OUT);
+    assert_eq!(verifier.leaf(&exchange.leaves), CARRIED_OUT);
     verifier.opening(&exchange.message_5, Lent { matrix: key.matrix, y: key.y, work: &mut work })
 }
 
 /// What the extractor answers to two exchanges, and its output, which starts as bytes a5.
 pub fn extraction(parameters: &Parameters, key: PublicKey, first: &Exchange, second: &Exchange) -> (Answer, Vec<u8>) {
+    let runs = first.runs();
     let mut work = vec![0xa5; parameters.work_bytes()];
-    let mut output = vec![0xa5; parameters.extractor_bytes()];
+    let mut output = vec![0xa5; parameters.extractor_bytes(runs)];
     let lent = Lent { matrix: key.matrix, y: key.y, work: &mut work };
-    let answer = extract(*parameters, first.messages(), second.messages(), lent, &mut output);
+    let answer = extract(*parameters, runs, first.messages(), second.messages(), lent, &mut output);
     (answer, output)
 }

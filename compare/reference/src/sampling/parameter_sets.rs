@@ -1,6 +1,7 @@
-//! Parameter sets: the extremes of document 01's limits, sets within them, and sets outside.
+//! Parameter sets: the extremes of document 01's limits, sets within them, and sets outside. Run counts likewise.
 
 use crate::parameters::Parameters;
+use crate::runs::GREATEST_RUNS;
 use crate::sampling::Random;
 
 /// Every combination of extreme values: m 2, 3 and 255; k 1 and m−1; w 1 and m; D 1 and 8; t 1 and 8.
@@ -58,4 +59,23 @@ pub fn outside_set(random: &mut Random) -> Parameters {
         _ => set.t = 0,
     }
     set
+}
+
+/// A run count within the limits, mostly 1 to 3 and sometimes the greatest.
+pub fn random_runs(random: &mut Random) -> usize {
+    match random.below(40) {
+        0 => GREATEST_RUNS,
+        1 => random.between(4, GREATEST_RUNS - 1),
+        _ => random.between(1, 3),
+    }
+}
+
+/// A run count outside the limits.
+pub fn outside_runs(random: &mut Random) -> usize {
+    let beyond = random.choose(&[0, 1, 2, 222, 223, 224, usize::MAX >> 32, usize::MAX]);
+    if random.once_in(2) {
+        0
+    } else {
+        (GREATEST_RUNS + 1).saturating_add(beyond)
+    }
 }

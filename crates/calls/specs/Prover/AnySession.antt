@@ -21,6 +21,7 @@ use Rattle.answers.specs.declared.Answer.the-variants.{Done}
 use Rattle.answers.specs.Order.{holds, firstOf, answerOf}
 use Rattle.parameters.specs.Limits.Laws.{within-test}
 use Rattle.relation.specs.Key.{weightOf}
+use Rattle.layout.specs.Runs.Laws.{within-runs}
 use Rattle.exchange.specs.Values.{Key}
 use Rattle.prover_phase.specs.declared.Phase.{Phase}
 use Rattle.prover_phase.specs.declared.Phase.the-variants.{Fresh, Begun, Answered, Closed}
@@ -66,7 +67,7 @@ module _ (hash : List ℕ → ℕ → List ℕ) where
   unfolding outcome points pointsChecks leaf leafChecks
   damaged-closed s f i (beginCall b work out) e = absurd (true≢false e)
   damaged-closed s f i (pointsCall m2 key work out) e = rw (damaged s f i)
-  damaged-closed s f i (leafCall j key work out) e = rw (damaged s f i)
+  damaged-closed s f i (leafCall is key work out) e = rw (damaged s f i)
 
   pub held-repeats : (s : Prover) → isFresh (s .phase) ≡ false → (b : Begin) (work out : List ℕ) → Allowed b work out
       → b .salt ≡ s .salt → b .root ≡ s .root → outcome hash s (beginCall b work out) .answer ≡ 13
@@ -74,6 +75,7 @@ module _ (hash : List ℕ → ℕ → List ℕ) where
   held-repeats s f b work out ok salts roots =
       simp (
         within-test (b .parameters) (ok .within),
+        within-runs (b .runs) (ok .counted),
         ok .sized,
         le-leb (weightOf (secretOf b)) (b .parameters .w) (ok .light),
         f,
@@ -161,9 +163,9 @@ module _ (hash : List ℕ → ℕ → List ℕ) where
   unfolding pointsDue
   points-begun s m2 key work out e = begun-phase (standing s) (points-passed hash s work out key m2 e .0)
 
-  leaf-answered : (s : Prover) (i : ℕ) (key : Key) (work out : List ℕ) → leafChecks hash s i key work out ≡ Done → standing s ≡ Answered
+  leaf-answered : (s : Prover) (is : List ℕ) (key : Key) (work out : List ℕ) → leafChecks hash s is key work out ≡ Done → standing s ≡ Answered
   unfolding leafDue
-  leaf-answered s i key work out e = answered-phase (standing s) (leaf-passed hash s work out key i e)
+  leaf-answered s is key work out e = answered-phase (standing s) (leaf-passed hash s work out key is e)
 
   -- ---- a call takes from what is left
 
@@ -188,13 +190,13 @@ module _ (hash : List ℕ → ℕ → List ℕ) where
           let c = carried hash s (pointsCall m2 key work out) e in
           rw (c .1, points-begun s m2 key work out (c .0)) (takes (intact (answered hash s m2 key work out .prover)))
 
-    module _ (i : ℕ) (key : Key) (work out : List ℕ) where
-      leaf-spent : (n : ℕ) → Takes left n Answered Closed → (s : Prover) → outcome hash s (leafCall i key work out) .answer ≡ 0
-          → n + left (standing (outcome hash s (leafCall i key work out) .prover)) ≤ left (standing s)
+    module _ (is : List ℕ) (key : Key) (work out : List ℕ) where
+      leaf-spent : (n : ℕ) → Takes left n Answered Closed → (s : Prover) → outcome hash s (leafCall is key work out) .answer ≡ 0
+          → n + left (standing (outcome hash s (leafCall is key work out) .prover)) ≤ left (standing s)
       unfolding standing opened
       leaf-spent n takes s e =
-          let c = carried hash s (leafCall i key work out) e in
-          rw (c .1, leaf-answered s i key work out (c .0)) (takes (intact (opened hash s i key work out .prover)))
+          let c = carried hash s (leafCall is key work out) e in
+          rw (c .1, leaf-answered s is key work out (c .0)) (takes (intact (opened hash s is key work out .prover)))
 
     spent-all : ((s : Prover) (c : Call) → (isBegin c && eqb (outcome hash s c .answer) 0) ≡ false → Spent s c)
         → (s : Prover) (cs : List Call) → carriedIn isBegin s cs ≡ 0 → carriedIn kind s cs ≤ left (standing s)
@@ -209,12 +211,12 @@ module _ (hash : List ℕ → ℕ → List ℕ) where
   spent-points : (s : Prover) (c : Call) → (isBegin c && eqb (outcome hash s c .answer) 0) ≡ false → Spent pointsLeft isPoints s c
   spent-points s (beginCall b work out) h = spent pointsLeft isPoints s (beginCall b work out) (begin-refused _ h)
   spent-points s (pointsCall m2 key work out) h = spent pointsLeft isPoints s (pointsCall m2 key work out) (points-spent pointsLeft isPoints m2 key work out 1 points-take s)
-  spent-points s (leafCall i key work out) h = spent pointsLeft isPoints s (leafCall i key work out) (leaf-spent pointsLeft isPoints i key work out 0 points-stay s)
+  spent-points s (leafCall is key work out) h = spent pointsLeft isPoints s (leafCall is key work out) (leaf-spent pointsLeft isPoints is key work out 0 points-stay s)
 
   spent-leaves : (s : Prover) (c : Call) → (isBegin c && eqb (outcome hash s c .answer) 0) ≡ false → Spent leavesLeft isLeaf s c
   spent-leaves s (beginCall b work out) h = spent leavesLeft isLeaf s (beginCall b work out) (begin-refused _ h)
   spent-leaves s (pointsCall m2 key work out) h = spent leavesLeft isLeaf s (pointsCall m2 key work out) (points-spent leavesLeft isLeaf m2 key work out 0 leaves-stay s)
-  spent-leaves s (leafCall i key work out) h = spent leavesLeft isLeaf s (leafCall i key work out) (leaf-spent leavesLeft isLeaf i key work out 1 leaves-take s)
+  spent-leaves s (leafCall is key work out) h = spent leavesLeft isLeaf s (leafCall is key work out) (leaf-spent leavesLeft isLeaf is key work out 1 leaves-take s)
 
   pub at-most-one : (s : Prover) (cs : List Call) → carriedIn isBegin s cs ≡ 0 → (carriedIn isPoints s cs ≤ 1) × (carriedIn isLeaf s cs ≤ 1)
   at-most-one s cs h =

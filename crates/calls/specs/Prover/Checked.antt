@@ -1,17 +1,18 @@
 -- The checks of the prover's calls, in every session, by document 01's order.
 --
--- Allowed b work out       a begin's arguments pass their checks: parameters, lengths, weight
+-- Allowed b work out       a begin's arguments pass their checks: parameters and run count, lengths, weight
 -- begin-ordered, points-ordered, leaf-ordered   the number is the first of the order whose condition holds
 -- begin-by, points-by, leaf-by                  what a number says of the conditions
 -- begin-allowed, points-passed, leaf-passed     what checks that pass say
 use mathlib.Core.Path.{_≡_, refl, sym, ap, _∙_}
-use mathlib.Core.Bool.{Bool, true, false, not, cond, Bool·not-not}
+use mathlib.Core.Bool.{Bool, true, false, _&&_, not, cond, Bool·not-not}
 use mathlib.Core.List.{List, [], _∷_}
 use Prim.Native.Nat.{ℕ, _≤_}
 use native.Mathlib.Omega.{arith}
-use lib.Dec.{leb, ltb}
+use lib.Dec.{leb}
 use borrow.Author.Tests.{not-false, leb-true}
 use Rattle.lists.specs.Checks.{allTrue}
+use Rattle.lists.specs.Checks.Laws.{and-left, and-right}
 use Rattle.answers.specs.declared.Answer.the-variants.{Done}
 use Rattle.answers.specs.declared.Refusal.the-variants.{Parameter, Length, Weight, Leaf, NotDue, Closed as ExchangeClosed, Repeated}
 use Rattle.answers.specs.Number.{answerNumber}
@@ -21,15 +22,17 @@ use Rattle.answers.specs.Order.Laws.{told, picked, absent, picked-order}
 use Rattle.parameters.specs.Limits.{withinLimits, Within}
 use Rattle.parameters.specs.Limits.Laws.{test-within}
 use Rattle.relation.specs.Key.{weightOf}
-use Rattle.layout.specs.Layout.{leaves}
+use Rattle.layout.specs.Runs.{runsWithin}
+use Rattle.layout.specs.Runs.Laws.{RunsWithin, runs-within}
 use Rattle.exchange.specs.Values.{Key}
-use Rattle.calls.specs.Lengths.{beginLengths, pointsLengths, leafLengths}
+use Rattle.calls.specs.Lengths.{beginLengths, pointsLengths, leafLengths, leavesBelow}
 use Rattle.calls.specs.Prover.{Prover, closed, pointsDue, leafDue, repeated, beginChecks, pointsChecks, leafChecks}
 use Rattle.calls.specs.Prover.History.{Begin, secretOf}
 
 pub record Allowed (b : Begin) (work out : List ℕ) : Type 0 where
   pub within : Within (b .parameters)
-  pub sized : allTrue (beginLengths (b .parameters) (b .xA) (b .salt) (b .root) (b .key) work out) ≡ true
+  pub counted : RunsWithin (b .runs)
+  pub sized : allTrue (beginLengths (b .parameters) (b .runs) (b .xA) (b .salt) (b .root) (b .key) work out) ≡ true
   pub light : weightOf (secretOf b) ≤ b .parameters .w
 
 -- ---- the order
@@ -51,30 +54,31 @@ leaf-row a b c d = picked-order ((a, ExchangeClosed) ∷ (b, NotDue) ∷ (c, Len
 
 module _ (hash : List ℕ → ℕ → List ℕ) (s : Prover) (work out : List ℕ) where
   module _ (b : Begin) where
-    pub begin-ordered : answerNumber (beginChecks hash s (b .parameters) (b .xA) (b .salt) (b .root) (b .key) work out)
-        ≡ answerOf ((1, not (withinLimits (b .parameters)))
-        ∷ (2, not (allTrue (beginLengths (b .parameters) (b .xA) (b .salt) (b .root) (b .key) work out)))
+    pub begin-ordered : answerNumber (beginChecks hash s (b .parameters) (b .runs) (b .xA) (b .salt) (b .root) (b .key) work out)
+        ≡ answerOf ((1, not (withinLimits (b .parameters) && runsWithin (b .runs)))
+        ∷ (2, not (allTrue (beginLengths (b .parameters) (b .runs) (b .xA) (b .salt) (b .root) (b .key) work out)))
         ∷ (3, not (leb (weightOf (secretOf b)) (b .parameters .w)))
         ∷ (13, repeated s (b .salt) (b .root)) ∷ [])
     unfolding beginChecks
     begin-ordered =
-        begin-row (withinLimits (b .parameters)) (allTrue (beginLengths (b .parameters) (b .xA) (b .salt) (b .root) (b .key) work out))
+        begin-row (withinLimits (b .parameters) && runsWithin (b .runs))
+        (allTrue (beginLengths (b .parameters) (b .runs) (b .xA) (b .salt) (b .root) (b .key) work out))
         (leb (weightOf (secretOf b)) (b .parameters .w)) (not (repeated s (b .salt) (b .root)))
         ∙ rw (Bool·not-not (repeated s (b .salt) (b .root)))
 
   module _ (key : Key) where
     pub points-ordered : (m2 : List ℕ) → answerNumber (pointsChecks hash s m2 key work out)
-        ≡ answerOf ((12, closed s) ∷ (11, not (pointsDue s)) ∷ (2, not (allTrue (pointsLengths (s .parameters) m2 key work out))) ∷ [])
+        ≡ answerOf ((12, closed s) ∷ (11, not (pointsDue s)) ∷ (2, not (allTrue (pointsLengths (s .parameters) (s .runs) m2 key work out))) ∷ [])
     unfolding pointsChecks
     points-ordered m2 =
-        points-row (not (closed s)) (pointsDue s) (allTrue (pointsLengths (s .parameters) m2 key work out)) ∙ rw (Bool·not-not (closed s))
+        points-row (not (closed s)) (pointsDue s) (allTrue (pointsLengths (s .parameters) (s .runs) m2 key work out)) ∙ rw (Bool·not-not (closed s))
 
-    pub leaf-ordered : (i : ℕ) → answerNumber (leafChecks hash s i key work out)
-        ≡ answerOf ((12, closed s) ∷ (11, not (leafDue s)) ∷ (2, not (allTrue (leafLengths (s .parameters) i key work out)))
-        ∷ (4, not (ltb i (leaves (s .parameters)))) ∷ [])
+    pub leaf-ordered : (is : List ℕ) → answerNumber (leafChecks hash s is key work out)
+        ≡ answerOf ((12, closed s) ∷ (11, not (leafDue s)) ∷ (2, not (allTrue (leafLengths (s .parameters) (s .runs) is key work out)))
+        ∷ (4, not (leavesBelow (s .parameters) is)) ∷ [])
     unfolding leafChecks
-    leaf-ordered i =
-        leaf-row (not (closed s)) (leafDue s) (allTrue (leafLengths (s .parameters) i key work out)) (ltb i (leaves (s .parameters)))
+    leaf-ordered is =
+        leaf-row (not (closed s)) (leafDue s) (allTrue (leafLengths (s .parameters) (s .runs) is key work out)) (leavesBelow (s .parameters) is)
         ∙ rw (Bool·not-not (closed s))
 
 -- ---- what a number says
@@ -111,27 +115,28 @@ leaf-by false false false true q = absurd (omega arith)
 leaf-by false false false false q = (refl, refl, refl, refl)
 
 -- the tests of a begin's arguments
-pub allowed-by : (b : Begin) (work out : List ℕ) → not (withinLimits (b .parameters)) ≡ false
-    → not (allTrue (beginLengths (b .parameters) (b .xA) (b .salt) (b .root) (b .key) work out)) ≡ false
+pub allowed-by : (b : Begin) (work out : List ℕ) → not (withinLimits (b .parameters) && runsWithin (b .runs)) ≡ false
+    → not (allTrue (beginLengths (b .parameters) (b .runs) (b .xA) (b .salt) (b .root) (b .key) work out)) ≡ false
     → not (leb (weightOf (secretOf b)) (b .parameters .w)) ≡ false → Allowed b work out
 allowed-by b work out within sized light = record {
-  within = test-within (b .parameters) (not-false _ within);
+  within = test-within (b .parameters) (and-left (withinLimits (b .parameters)) (runsWithin (b .runs)) (not-false _ within));
+  counted = runs-within (b .runs) (and-right (withinLimits (b .parameters)) (runsWithin (b .runs)) (not-false _ within));
   sized = not-false _ sized;
   light = leb-true _ _ (not-false _ light);
 }
 
 module _ (hash : List ℕ → ℕ → List ℕ) (s : Prover) (work out : List ℕ) where
-  pub begin-allowed : (b : Begin) → beginChecks hash s (b .parameters) (b .xA) (b .salt) (b .root) (b .key) work out ≡ Done → Allowed b work out
+  pub begin-allowed : (b : Begin) → beginChecks hash s (b .parameters) (b .runs) (b .xA) (b .salt) (b .root) (b .key) work out ≡ Done → Allowed b work out
   begin-allowed b e =
       let t = begin-by _ _ _ _ false (sym (begin-ordered hash s work out b) ∙ ap answerNumber e) in
       allowed-by b work out (t .0) (t .1) (t .2)
 
   module _ (key : Key) where
     pub points-passed : (m2 : List ℕ) → pointsChecks hash s m2 key work out ≡ Done
-        → (pointsDue s ≡ true) × (allTrue (pointsLengths (s .parameters) m2 key work out) ≡ true)
+        → (pointsDue s ≡ true) × (allTrue (pointsLengths (s .parameters) (s .runs) m2 key work out) ≡ true)
     points-passed m2 e =
         let t = points-by _ _ _ (sym (points-ordered hash s work out key m2) ∙ ap answerNumber e) in
         (not-false _ (t .1), not-false _ (t .2))
 
-    pub leaf-passed : (i : ℕ) → leafChecks hash s i key work out ≡ Done → leafDue s ≡ true
-    leaf-passed i e = not-false _ (leaf-by _ _ _ _ (sym (leaf-ordered hash s work out key i) ∙ ap answerNumber e) .1)
+    pub leaf-passed : (is : List ℕ) → leafChecks hash s is key work out ≡ Done → leafDue s ≡ true
+    leaf-passed is e = not-false _ (leaf-by _ _ _ _ (sym (leaf-ordered hash s work out key is) ∙ ap answerNumber e) .1)

@@ -20,7 +20,7 @@ use mathlib.Core.Bool.{Bool, true, false, _&&_, _||_, not, cond}
 use mathlib.Core.List.{List, [], _∷_}
 use mathlib.Core.Option.{Option, none, some}
 use Prim.Native.Nat.{ℕ}
-use lib.Dec.{eqb, leb, ltb}
+use lib.Dec.{eqb, leb}
 use Rattle.lists.specs.Zeroed.{zeroed}
 use Rattle.lists.specs.Equal.{eqList}
 use Rattle.lists.specs.Checks.{allTrue}
@@ -28,11 +28,11 @@ use Rattle.answers.specs.Order.{Conditions, answerOf}
 use Rattle.parameters.specs.declared.Parameters.{Parameters}
 use Rattle.parameters.specs.Limits.{withinLimits}
 use Rattle.relation.specs.Key.{weightOf, vectorOf}
-use Rattle.layout.specs.Layout.{leaves, workLength}
-use Rattle.exchange.specs.Run.{runOf}
+use Rattle.layout.specs.Layout.{workLength}
+use Rattle.layout.specs.Runs.{runsWithin}
 use Rattle.exchange.specs.Values.{Key}
-use Rattle.exchange.specs.Messages.{message1, message3, message5}
-use Rattle.calls.specs.Lengths.{beginLengths, pointsLengths, leafLengths}
+use Rattle.runs.specs.Messages.{message1, message3, message5}
+use Rattle.calls.specs.Lengths.{beginLengths, pointsLengths, leafLengths, leavesBelow}
 use Rattle.calls.specs.Held.{isSome, orElse, told}
 use Rattle.calls.specs.Prover.{Prover, Outcome, fresh, begin, points, leaf}
 
@@ -40,6 +40,7 @@ use Rattle.calls.specs.Prover.{Prover, Outcome, fresh, begin, points, le
 
 pub record Begin : Type 0 where
   pub parameters : Parameters
+  pub runs : ℕ
   pub xA : List ℕ
   pub salt : List ℕ
   pub root : List ℕ
@@ -49,17 +50,17 @@ pub record Begin : Type 0 where
 pub data Call : Type 0 where
   beginCall : Begin → List ℕ → List ℕ → Call
   pointsCall : List ℕ → Key → List ℕ → List ℕ → Call
-  leafCall : ℕ → Key → List ℕ → List ℕ → Call
+  leafCall : List ℕ → Key → List ℕ → List ℕ → Call
 
 abbrev pub lentWork : Call → List ℕ
 lentWork (beginCall b work out) = work
 lentWork (pointsCall m2 key work out) = work
-lentWork (leafCall i key work out) = work
+lentWork (leafCall is key work out) = work
 
 abbrev pub lentOut : Call → List ℕ
 lentOut (beginCall b work out) = out
 lentOut (pointsCall m2 key work out) = out
-lentOut (leafCall i key work out) = out
+lentOut (leafCall is key work out) = out
 
 pub record Made : Type 0 where
   pub call : Call
@@ -67,9 +68,9 @@ pub record Made : Type 0 where
 
 module _ (hash : List ℕ → ℕ → List ℕ) where
   unfoldable pub outcome : Prover → Call → Outcome
-  outcome s (beginCall b work out) = begin hash s (b .parameters) (b .xA) (b .salt) (b .root) (b .key) work out
+  outcome s (beginCall b work out) = begin hash s (b .parameters) (b .runs) (b .xA) (b .salt) (b .root) (b .key) work out
   outcome s (pointsCall m2 key work out) = points hash s m2 key work out
-  outcome s (leafCall i key work out) = leaf hash s i key work out
+  outcome s (leafCall is key work out) = leaf hash s is key work out
 
   unfoldable pub after : List Call → Prover
   after [] = fresh
@@ -84,17 +85,17 @@ module _ (hash : List ℕ → ℕ → List ℕ) where
 abbrev pub beginIn : Call → Option Begin
 beginIn (beginCall b work out) = some b
 beginIn (pointsCall m2 key work out) = none
-beginIn (leafCall i key work out) = none
+beginIn (leafCall is key work out) = none
 
 abbrev pub pointsIn : Call → Option (List ℕ)
 pointsIn (beginCall b work out) = none
 pointsIn (pointsCall m2 key work out) = some m2
-pointsIn (leafCall i key work out) = none
+pointsIn (leafCall is key work out) = none
 
 abbrev pub leafIn : Call → Bool
 leafIn (beginCall b work out) = false
 leafIn (pointsCall m2 key work out) = false
-leafIn (leafCall i key work out) = true
+leafIn (leafCall is key work out) = true
 
 abbrev pub carriedOut : Made → Bool
 carriedOut m = eqb (m .number) 0
@@ -132,34 +133,34 @@ repeats (some b) salt root = eqList salt (b .salt) && eqList root (b .root)
 
 unfoldable pub conditions : List Made → Call → Conditions
 conditions h (beginCall b work out) =
-    (1, not (withinLimits (b .parameters)))
-    ∷ (2, not (allTrue (beginLengths (b .parameters) (b .xA) (b .salt) (b .root) (b .key) work out)))
+    (1, not (withinLimits (b .parameters) && runsWithin (b .runs)))
+    ∷ (2, not (allTrue (beginLengths (b .parameters) (b .runs) (b .xA) (b .salt) (b .root) (b .key) work out)))
     ∷ (3, not (leb (weightOf (secretOf b)) (b .parameters .w)))
     ∷ (13, repeats (lastBegin h) (b .salt) (b .root))
     ∷ []
 conditions h (pointsCall m2 key work out) =
     (12, leafSince h)
     ∷ (11, not (isSome (lastBegin h)) || isSome (pointsSince h))
-    ∷ told (lastBegin h) [] (λ b. (2, not (allTrue (pointsLengths (b .parameters) m2 key work out))) ∷ [])
-conditions h (leafCall i key work out) =
+    ∷ told (lastBegin h) [] (λ b. (2, not (allTrue (pointsLengths (b .parameters) (b .runs) m2 key work out))) ∷ [])
+conditions h (leafCall is key work out) =
     (12, leafSince h)
     ∷ (11, not (isSome (lastBegin h)) || not (isSome (pointsSince h)))
     ∷ told (lastBegin h) []
-    (λ b. (2, not (allTrue (leafLengths (b .parameters) i key work out))) ∷ (4, not (ltb i (leaves (b .parameters)))) ∷ [])
+    (λ b. (2, not (allTrue (leafLengths (b .parameters) (b .runs) is key work out))) ∷ (4, not (leavesBelow (b .parameters) is)) ∷ [])
 
 -- ---- what the call gives
 
 module _ (hash : List ℕ → ℕ → List ℕ) (h : List Made) where
   unfoldable pub message : Call → List ℕ
-  message (beginCall b work out) = message1 hash (b .parameters) (secretOf b) (runOf (b .salt) (b .root))
-  message (pointsCall m2 key work out) = told (lastBegin h) [] (λ b. message3 hash (b .parameters) (secretOf b) (runOf (b .salt) (b .root)) key m2)
-  message (leafCall i key work out) =
-      told (lastBegin h) [] (λ b. told (pointsSince h) [] (λ m2. message5 hash (b .parameters) (secretOf b) (runOf (b .salt) (b .root)) key m2 i))
+  message (beginCall b work out) = message1 hash (b .parameters) (b .runs) (secretOf b) (b .salt) (b .root)
+  message (pointsCall m2 key work out) = told (lastBegin h) [] (λ b. message3 hash (b .parameters) (b .runs) (secretOf b) (b .salt) (b .root) key m2)
+  message (leafCall is key work out) =
+      told (lastBegin h) [] (λ b. told (pointsSince h) [] (λ m2. message5 hash (b .parameters) (b .runs) (secretOf b) (b .salt) (b .root) key m2 is))
 
 unfoldable pub area : List Made → Call → ℕ
 area h (beginCall b work out) = workLength (b .parameters)
 area h (pointsCall m2 key work out) = told (lastBegin h) 0 (λ b. workLength (b .parameters))
-area h (leafCall i key work out) = told (lastBegin h) 0 (λ b. workLength (b .parameters))
+area h (leafCall is key work out) = told (lastBegin h) 0 (λ b. workLength (b .parameters))
 
 pub record Seen : Type 0 where
   pub number : ℕ

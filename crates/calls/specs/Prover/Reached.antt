@@ -24,7 +24,10 @@ use Rattle.answers.specs.declared.Answer.the-variants.{Done}
 use Rattle.parameters.specs.Limits.Laws.{within-test}
 use Rattle.relation.specs.Key.{weightOf}
 use Rattle.relation.specs.Key.Vector.{length-vector}
-use Rattle.layout.specs.Layout.{message2Length, yLength}
+use Rattle.layout.specs.Layout.{yLength}
+use Rattle.layout.specs.Maxima.{mostMessages2}
+use Rattle.layout.specs.Runs.{messages2Length}
+use Rattle.layout.specs.Runs.Laws.{within-runs}
 use Rattle.exchange.specs.Values.{Key}
 use Rattle.prover_phase.specs.declared.Phase.{Phase}
 use Rattle.prover_phase.specs.declared.Phase.the-variants.{Begun, Answered, Closed}
@@ -53,16 +56,17 @@ sessionTold none q l = fresh
 sessionTold (some b) q l = record {
   phase = phaseTold q l;
   parameters = b .parameters;
+  runs = b .runs;
   x = padded 255 (secretOf b);
   salt = b .salt;
   root = b .root;
-  message2 = told q (replicate 64 0) (padded 64);
+  message2 = told q (replicate mostMessages2 0) (padded mostMessages2);
 }
 
 pub data Orderly : Option Begin → Option (List ℕ) → Bool → Type 0 where
   unstarted : Orderly none none false
   started : (b : Begin) → Passed b → Orderly (some b) none false
-  challenged : (b : Begin) (m2 : List ℕ) (l : Bool) → Passed b → length m2 ≡ message2Length (b .parameters) → Orderly (some b) (some m2) l
+  challenged : (b : Begin) (m2 : List ℕ) (l : Bool) → Passed b → length m2 ≡ messages2Length (b .parameters) (b .runs) → Orderly (some b) (some m2) l
 
 pub record Reached (h : List Made) (s : Prover) : Type 0 where
   pub session : s ≡ sessionTold (lastBegin h) (pointsSince h) (leafSince h)
@@ -73,7 +77,7 @@ pub record Reached (h : List Made) (s : Prover) : Type 0 where
 module _ (b : Begin) (passed : Passed b) where
   secret-length : length (secretOf b) ≡ b .parameters .m
   secret-length =
-      let tests = beginLengths (b .parameters) (b .xA) (b .salt) (b .root) (b .key) (passed .work) (passed .out) in
+      let tests = beginLengths (b .parameters) (b .runs) (b .xA) (b .salt) (b .root) (b .key) (passed .work) (passed .out) in
       let xA-is = eqb-true (length (b .xA)) (b .parameters .k) (all-at tests (passed .allowed .sized) 0) in
       let y-is = eqb-true (length (b .key .y)) (yLength (b .parameters)) (all-at tests (passed .allowed .sized) 5) in
       length-vector (b .key .matrix) (b .key .y) (b .xA) ∙ omega (arith, passed .allowed .within)
@@ -90,7 +94,12 @@ module _ (b : Begin) (passed : Passed b) where
   unfolding intact
   intact-told q l =
       let ok = passed .allowed in
-      rw (secret-held q l, within-test (b .parameters) (ok .within), le-leb (weightOf (secretOf b)) (b .parameters .w) (ok .light))
+      rw (
+        secret-held q l,
+        within-test (b .parameters) (ok .within),
+        within-runs (b .runs) (ok .counted),
+        le-leb (weightOf (secretOf b)) (b .parameters .w) (ok .light),
+      )
 
 stands : (s : Prover) → intact s ≡ true → standing s ≡ s .phase
 unfolding standing
@@ -112,25 +121,25 @@ module _ (hash : List ℕ → ℕ → List ℕ) where
     points-begun m2 key work out e = ap isBegun (sym (standing-told o q l ok)) ∙ points-passed hash (sessionTold o q l) work out key m2 e .0
 
     points-sized : (m2 : List ℕ) (key : Key) (work out : List ℕ) → pointsChecks hash (sessionTold o q l) m2 key work out ≡ Done
-        → length m2 ≡ message2Length (sessionTold o q l .parameters)
+        → length m2 ≡ messages2Length (sessionTold o q l .parameters) (sessionTold o q l .runs)
     points-sized m2 key work out e =
         let s = sessionTold o q l in
-        let tests = pointsLengths (s .parameters) m2 key work out in
-        eqb-true (length m2) (message2Length (s .parameters)) (all-at tests (points-passed hash s work out key m2 e .1) 0)
+        let tests = pointsLengths (s .parameters) (s .runs) m2 key work out in
+        eqb-true (length m2) (messages2Length (s .parameters) (s .runs)) (all-at tests (points-passed hash s work out key m2 e .1) 0)
 
-    pub leaf-answered : (i : ℕ) (key : Key) (work out : List ℕ) → leafChecks hash (sessionTold o q l) i key work out ≡ Done
+    pub leaf-answered : (is : List ℕ) (key : Key) (work out : List ℕ) → leafChecks hash (sessionTold o q l) is key work out ≡ Done
         → isAnswered (sessionTold o q l .phase) ≡ true
     unfolding leafDue
-    leaf-answered i key work out e = ap isAnswered (sym (standing-told o q l ok)) ∙ leaf-passed hash (sessionTold o q l) work out key i e
+    leaf-answered is key work out e = ap isAnswered (sym (standing-told o q l ok)) ∙ leaf-passed hash (sessionTold o q l) work out key is e
 
   begin-next : (s : Prover) (b : Begin) (work out : List ℕ)
-      → prover.begun hash s (b .parameters) (b .xA) (b .salt) (b .root) (b .key) work out .prover ≡ sessionTold (some b) none false
+      → prover.begun hash s (b .parameters) (b .runs) (b .xA) (b .salt) (b .root) (b .key) work out .prover ≡ sessionTold (some b) none false
   unfolding prover.begun
   begin-next s b work out = refl
 
   module _ (m2 : List ℕ) (key : Key) (work out : List ℕ) where
     points-next : (o : Option Begin) (q : Option (List ℕ)) (l : Bool) → Orderly o q l → isBegun (sessionTold o q l .phase) ≡ true
-        → length m2 ≡ message2Length (sessionTold o q l .parameters)
+        → length m2 ≡ messages2Length (sessionTold o q l .parameters) (sessionTold o q l .runs)
         → (answered hash (sessionTold o q l) m2 key work out .prover ≡ sessionTold o (some m2) l) × Orderly o (some m2) l
     unfolding answered fresh
     points-next o q l unstarted due sized = absurd (false≢true due)
@@ -138,9 +147,9 @@ module _ (hash : List ℕ → ℕ → List ℕ) where
     points-next o q l (challenged b m true ok e) due sized = absurd (false≢true due)
     points-next o q l (challenged b m false ok e) due sized = absurd (false≢true due)
 
-  module _ (i : ℕ) (key : Key) (work out : List ℕ) where
+  module _ (is : List ℕ) (key : Key) (work out : List ℕ) where
     leaf-next : (o : Option Begin) (q : Option (List ℕ)) (l : Bool) → Orderly o q l → isAnswered (sessionTold o q l .phase) ≡ true
-        → (opened hash (sessionTold o q l) i key work out .prover ≡ sessionTold o q true) × Orderly o q true
+        → (opened hash (sessionTold o q l) is key work out .prover ≡ sessionTold o q true) × Orderly o q true
     unfolding opened fresh
     leaf-next o q l unstarted due = absurd (false≢true due)
     leaf-next o q l (started b ok) due = absurd (false≢true due)
@@ -163,10 +172,10 @@ module _ (h : List Made) (s : Prover) where
   unfolding begun pointed history.opened lastBegin pointsSince leafSince
   points-tells m2 key work out n e session ok = record { session = rw (eq-eqb n 0 e) session; orderly = rw (eq-eqb n 0 e) ok }
 
-  leaf-tells : (i : ℕ) (key : Key) (work out : List ℕ) (n : ℕ) → n ≡ 0 → s ≡ sessionTold (lastBegin h) (pointsSince h) true
-      → Orderly (lastBegin h) (pointsSince h) true → Reached (record { call = leafCall i key work out; number = n } ∷ h) s
+  leaf-tells : (is : List ℕ) (key : Key) (work out : List ℕ) (n : ℕ) → n ≡ 0 → s ≡ sessionTold (lastBegin h) (pointsSince h) true
+      → Orderly (lastBegin h) (pointsSince h) true → Reached (record { call = leafCall is key work out; number = n } ∷ h) s
   unfolding begun pointed history.opened lastBegin pointsSince leafSince
-  leaf-tells i key work out n e session ok = record { session = rw (eq-eqb n 0 e) session; orderly = rw (eq-eqb n 0 e) ok }
+  leaf-tells is key work out n e session ok = record { session = rw (eq-eqb n 0 e) session; orderly = rw (eq-eqb n 0 e) ok }
 
 -- ---- after any calls
 
@@ -189,11 +198,11 @@ module _ (hash : List ℕ → ℕ → List ℕ) where
         let sized = points-sized hash (lastBegin h) (pointsSince h) (leafSince h) ok m2 key work out (c .0) in
         let next = points-next hash m2 key work out (lastBegin h) (pointsSince h) (leafSince h) ok due sized in
         points-tells h _ m2 key work out _ e (ap (λ (o : Outcome). o .prover) (c .1) ∙ next .0) (next .1)
-    carried-next (leafCall i key work out) e =
-        let c = carried hash s (leafCall i key work out) e in
-        let due = leaf-answered hash (lastBegin h) (pointsSince h) (leafSince h) ok i key work out (c .0) in
-        let next = leaf-next hash i key work out (lastBegin h) (pointsSince h) (leafSince h) ok due in
-        leaf-tells h _ i key work out _ e (ap (λ (o : Outcome). o .prover) (c .1) ∙ next .0) (next .1)
+    carried-next (leafCall is key work out) e =
+        let c = carried hash s (leafCall is key work out) e in
+        let due = leaf-answered hash (lastBegin h) (pointsSince h) (leafSince h) ok is key work out (c .0) in
+        let next = leaf-next hash is key work out (lastBegin h) (pointsSince h) (leafSince h) ok due in
+        leaf-tells h _ is key work out _ e (ap (λ (o : Outcome). o .prover) (c .1) ∙ next .0) (next .1)
 
   next : (h : List Made) (c : Call) (s : Prover) → Reached h s → Next h c s
   next h c s r = go (ℕ-discrete (outcome hash s c .answer) 0)

@@ -8,15 +8,15 @@
 -- Repeats, repeated-exactly      13 exactly where all other checks pass, and salt and root are those of the last begin carried out
 -- Between, begin-between         between two openings there is a begin with another salt or root
 use mathlib.Core.Path.{_≡_, refl, sym, ap, _∙_}
-use mathlib.Core.Bool.{Bool, true, false, _||_, not, cond, true≢false, false≢true, or-true}
+use mathlib.Core.Bool.{Bool, true, false, _&&_, _||_, not, cond, true≢false, false≢true, or-true}
 use mathlib.Core.List.{List, [], _∷_, _++_}
 use mathlib.Core.Option.{Option, none, some}
 use mathlib.Core.Logic.{_↔_, _⊎_, inl, inr}
-use Prim.Native.Nat.{ℕ, _<_}
+use Prim.Native.Nat.{ℕ}
 use native.Mathlib.Omega.{arith}
 use native.Mathlib.Decide.{ℕ-discrete}
-use lib.Dec.{eqb, leb, ltb}
-use borrow.Author.Tests.{not-false, le-leb, ltb-true, lt-ltb, eq-eqb, ne-eqb}
+use lib.Dec.{eqb, leb}
+use borrow.Author.Tests.{not-false, le-leb, eq-eqb, ne-eqb}
 use Rattle.lists.specs.Checks.{allTrue}
 use Rattle.lists.specs.Checks.Laws.{and-left, and-right}
 use Rattle.lists.specs.Equal.{eqList}
@@ -25,9 +25,10 @@ use Rattle.answers.specs.Order.{holds, firstOf, answerOf}
 use Rattle.parameters.specs.Limits.{withinLimits}
 use Rattle.parameters.specs.Limits.Laws.{within-test}
 use Rattle.relation.specs.Key.{weightOf}
-use Rattle.layout.specs.Layout.{leaves}
+use Rattle.layout.specs.Runs.{runsWithin}
+use Rattle.layout.specs.Runs.Laws.{within-runs}
 use Rattle.exchange.specs.Values.{Key}
-use Rattle.calls.specs.Lengths.{beginLengths, pointsLengths, leafLengths}
+use Rattle.calls.specs.Lengths.{beginLengths, pointsLengths, leafLengths, leavesBelow}
 use Rattle.calls.specs.Held.{isSome, told}
 use Rattle.calls.specs.Prover.History.{Begin, Call, beginCall, pointsCall, leafCall, Made, outcome, after, made, beginIn, begun, pointed, opened, lastBegin, pointsSince, leafSince, secretOf, repeats, conditions}
 use Rattle.calls.specs.Prover.Checked.{Allowed, allowed-by, begin-by, points-by, leaf-by}
@@ -53,16 +54,16 @@ pub record PointsDue (h : List Made) (m2 : List ℕ) (key : Key) (work out : Lis
   pub is-held : lastBegin h ≡ some held
   pub first : pointsSince h ≡ none
   pub unopened : leafSince h ≡ false
-  pub sized : allTrue (pointsLengths (held .parameters) m2 key work out) ≡ true
+  pub sized : allTrue (pointsLengths (held .parameters) (held .runs) m2 key work out) ≡ true
 
-pub record LeafDue (h : List Made) (i : ℕ) (key : Key) (work out : List ℕ) : Type 0 where
+pub record LeafDue (h : List Made) (is : List ℕ) (key : Key) (work out : List ℕ) : Type 0 where
   pub held : Begin
   pub is-held : lastBegin h ≡ some held
   pub message2 : List ℕ
   pub pointed : pointsSince h ≡ some message2
   pub unopened : leafSince h ≡ false
-  pub sized : allTrue (leafLengths (held .parameters) i key work out) ≡ true
-  pub below : i < leaves (held .parameters)
+  pub sized : allTrue (leafLengths (held .parameters) (held .runs) is key work out) ≡ true
+  pub below : leavesBelow (held .parameters) is ≡ true
 
 -- ---- by the order
 
@@ -114,8 +115,8 @@ module _ (hash : List ℕ → ℕ → List ℕ) (cs : List Call) where
     o = lastBegin (made hash cs)
 
     begin-tests : (e : Bool) → outcome hash (after hash cs) c .answer ≡ cond e 13 0
-        → (not (withinLimits (b .parameters)) ≡ false)
-        × (not (allTrue (beginLengths (b .parameters) (b .xA) (b .salt) (b .root) (b .key) work out)) ≡ false)
+        → (not (withinLimits (b .parameters) && runsWithin (b .runs)) ≡ false)
+        × (not (allTrue (beginLengths (b .parameters) (b .runs) (b .xA) (b .salt) (b .root) (b .key) work out)) ≡ false)
         × (not (leb (weightOf (secretOf b)) (b .parameters .w)) ≡ false)
         × (repeats o (b .salt) (b .root) ≡ e)
     unfolding conditions
@@ -128,7 +129,13 @@ module _ (hash : List ℕ → ℕ → List ℕ) (cs : List Call) where
     unfolding conditions
     begin-number e ok q =
         number-told hash cs c
-        ∙ rw (within-test (b .parameters) (ok .within), ok .sized, le-leb (weightOf (secretOf b)) (b .parameters .w) (ok .light), q) (begin-of e)
+        ∙ rw (
+          within-test (b .parameters) (ok .within),
+          within-runs (b .runs) (ok .counted),
+          ok .sized,
+          le-leb (weightOf (secretOf b)) (b .parameters .w) (ok .light),
+          q,
+        ) (begin-of e)
 
     pub repeated-exactly : (outcome hash (after hash cs) (beginCall b work out) .answer ≡ 13) ↔ Repeats (made hash cs) b work out
     repeated-exactly = (to, λ r. begin-number true (r .allowed) (repeats-of o b (r .held) (r .is-held) (r .same)))
@@ -168,46 +175,46 @@ module _ (hash : List ℕ → ℕ → List ℕ) (cs : List Call) where
       where
         go : (o : Option Begin) → lastBegin h ≡ o
             → answerOf ((12, leafSince h) ∷ (11, not (isSome o) || isSome (pointsSince h))
-            ∷ told o [] (λ b. (2, not (allTrue (pointsLengths (b .parameters) m2 key work out))) ∷ [])) ≡ 0 → PointsDue h m2 key work out
-        go none is q = absurd (unstarted-not-0 (leafSince h) q)
-        go (some b) is q =
+            ∷ told o [] (λ b. (2, not (allTrue (pointsLengths (b .parameters) (b .runs) m2 key work out))) ∷ [])) ≡ 0 → PointsDue h m2 key work out
+        go none same q = absurd (unstarted-not-0 (leafSince h) q)
+        go (some b) same q =
             let t = points-by _ _ _ q in
-            record { held = b; is-held = is; first = is-none _ (t .1); unopened = t .0; sized = not-false _ (t .2) }
+            record { held = b; is-held = same; first = is-none _ (t .1); unopened = t .0; sized = not-false _ (t .2) }
 
     pub points-due-after-begin : PointsDue (made hash cs) m2 key work out → outcome hash (after hash cs) (pointsCall m2 key work out) .answer ≡ 0
     unfolding conditions
     points-due-after-begin d =
         number-told hash cs (pointsCall m2 key work out) ∙ rw (d .unopened, d .is-held, d .first, d .sized) points-of
 
-  module _ (i : ℕ) (key : Key) (work out : List ℕ) where
-    pub leaf-carried : outcome hash (after hash cs) (leafCall i key work out) .answer ≡ 0 → LeafDue (made hash cs) i key work out
+  module _ (is : List ℕ) (key : Key) (work out : List ℕ) where
+    pub leaf-carried : outcome hash (after hash cs) (leafCall is key work out) .answer ≡ 0 → LeafDue (made hash cs) is key work out
     unfolding conditions
-    leaf-carried e = go (lastBegin h) refl (sym (number-told hash cs (leafCall i key work out)) ∙ e)
+    leaf-carried e = go (lastBegin h) refl (sym (number-told hash cs (leafCall is key work out)) ∙ e)
       where
         go : (o : Option Begin) → lastBegin h ≡ o
             → answerOf ((12, leafSince h) ∷ (11, not (isSome o) || not (isSome (pointsSince h)))
             ∷ told o []
-            (λ b. (2, not (allTrue (leafLengths (b .parameters) i key work out))) ∷ (4, not (ltb i (leaves (b .parameters)))) ∷ [])) ≡ 0
-            → LeafDue h i key work out
-        go none is q = absurd (unstarted-not-0 (leafSince h) q)
-        go (some b) is q =
+            (λ b. (2, not (allTrue (leafLengths (b .parameters) (b .runs) is key work out))) ∷ (4, not (leavesBelow (b .parameters) is)) ∷ [])) ≡ 0
+            → LeafDue h is key work out
+        go none same q = absurd (unstarted-not-0 (leafSince h) q)
+        go (some b) same q =
             let t = leaf-by _ _ _ _ q in
             let m = is-some (pointsSince h) (t .1) in
             record {
               held = b;
-              is-held = is;
+              is-held = same;
               message2 = m .0;
               pointed = m .1;
               unopened = t .0;
               sized = not-false _ (t .2);
-              below = ltb-true i (leaves (b .parameters)) (not-false _ (t .3));
+              below = not-false _ (t .3);
             }
 
-    pub leaf-due-after-points : LeafDue (made hash cs) i key work out → outcome hash (after hash cs) (leafCall i key work out) .answer ≡ 0
+    pub leaf-due-after-points : LeafDue (made hash cs) is key work out → outcome hash (after hash cs) (leafCall is key work out) .answer ≡ 0
     unfolding conditions
     leaf-due-after-points d =
-        number-told hash cs (leafCall i key work out)
-        ∙ rw (d .unopened, d .is-held, d .pointed, d .sized, lt-ltb i (leaves (d .held .parameters)) (d .below)) leaf-of
+        number-told hash cs (leafCall is key work out)
+        ∙ rw (d .unopened, d .is-held, d .pointed, d .sized, d .below) leaf-of
 
 -- ---- one after the other
 
@@ -223,14 +230,14 @@ points-adds : (h : List Made) (m2 : List ℕ) (key : Key) (work out : List ℕ) 
 unfolding begun pointed opened lastBegin pointsSince leafSince
 points-adds h m2 key work out n e = rw (eq-eqb n 0 e) (refl, refl, refl)
 
-leaf-adds : (h : List Made) (i : ℕ) (key : Key) (work out : List ℕ) (n : ℕ) → n ≡ 0
-    → let h′ : List Made = record { call = leafCall i key work out; number = n } ∷ h in (lastBegin h′ ≡ lastBegin h) × (leafSince h′ ≡ true)
+leaf-adds : (h : List Made) (is : List ℕ) (key : Key) (work out : List ℕ) (n : ℕ) → n ≡ 0
+    → let h′ : List Made = record { call = leafCall is key work out; number = n } ∷ h in (lastBegin h′ ≡ lastBegin h) × (leafSince h′ ≡ true)
 unfolding begun pointed opened lastBegin leafSince
-leaf-adds h i key work out n e = rw (eq-eqb n 0 e) (refl, refl)
+leaf-adds h is key work out n e = rw (eq-eqb n 0 e) (refl, refl)
 
 module _ (hash : List ℕ → ℕ → List ℕ) (cs : List Call) where
   pub points-after-begin : (b : Begin) (work out : List ℕ) → outcome hash (after hash cs) (beginCall b work out) .answer ≡ 0
-      → (m2 : List ℕ) (key : Key) (work′ out′ : List ℕ) → allTrue (pointsLengths (b .parameters) m2 key work′ out′) ≡ true
+      → (m2 : List ℕ) (key : Key) (work′ out′ : List ℕ) → allTrue (pointsLengths (b .parameters) (b .runs) m2 key work′ out′) ≡ true
       → outcome hash (after hash (beginCall b work out ∷ cs)) (pointsCall m2 key work′ out′) .answer ≡ 0
   unfolding made
   points-after-begin b work out e m2 key work′ out′ sized =
@@ -240,15 +247,16 @@ module _ (hash : List ℕ → ℕ → List ℕ) (cs : List Call) where
 
   pub leaf-after-points : (m2 : List ℕ) (key : Key) (work out : List ℕ) → outcome hash (after hash cs) (pointsCall m2 key work out) .answer ≡ 0
       → (b : Begin) → lastBegin (made hash cs) ≡ some b
-      → (i : ℕ) (key′ : Key) (work′ out′ : List ℕ) → allTrue (leafLengths (b .parameters) i key′ work′ out′) ≡ true → i < leaves (b .parameters)
-      → outcome hash (after hash (pointsCall m2 key work out ∷ cs)) (leafCall i key′ work′ out′) .answer ≡ 0
+      → (is : List ℕ) (key′ : Key) (work′ out′ : List ℕ) → allTrue (leafLengths (b .parameters) (b .runs) is key′ work′ out′) ≡ true
+      → leavesBelow (b .parameters) is ≡ true
+      → outcome hash (after hash (pointsCall m2 key work out ∷ cs)) (leafCall is key′ work′ out′) .answer ≡ 0
   unfolding made
-  leaf-after-points m2 key work out e b is i key′ work′ out′ sized below =
+  leaf-after-points m2 key work out e b last is key′ work′ out′ sized below =
       let told = points-adds (made hash cs) m2 key work out _ e in
-      leaf-due-after-points hash (pointsCall m2 key work out ∷ cs) i key′ work′ out′
+      leaf-due-after-points hash (pointsCall m2 key work out ∷ cs) is key′ work′ out′
       (record {
         held = b;
-        is-held = told .0 ∙ is;
+        is-held = told .0 ∙ last;
         message2 = m2;
         pointed = told .1;
         unopened = told .2 ∙ points-carried hash cs m2 key work out e .unopened;
@@ -288,9 +296,9 @@ no-begin c n e = go (eqb n 0)
     go true = e
     go false = refl
 
-module _ (hash : List ℕ → ℕ → List ℕ) (earlier : List Call) (i : ℕ) (key : Key) (work out : List ℕ) where
+module _ (hash : List ℕ → ℕ → List ℕ) (earlier : List Call) (is : List ℕ) (key : Key) (work out : List ℕ) where
   abbrev opening : Call
-  opening = leafCall i key work out
+  opening = leafCall is key work out
 
   module _ (e : outcome hash (after hash earlier) opening .answer ≡ 0) where
     -- no begin was carried out since the opening: it is still the last begin's, and it was opened
@@ -309,7 +317,7 @@ module _ (hash : List ℕ → ℕ → List ℕ) (earlier : List Call) (i : ℕ) 
         go : Dec (outcome hash (after hash (later ++ (opening ∷ earlier))) (beginCall b work′ out′) .answer ≡ 0)
             → Between hash earlier opening (beginCall b work′ out′ ∷ later) ⊎ Still (beginCall b work′ out′ ∷ later)
         go (yes z) =
-            let was = leaf-carried hash earlier i key work out e in
+            let was = leaf-carried hash earlier is key work out e in
             inl (record {
               held = was .held;
               is-held = was .is-held;
@@ -324,11 +332,11 @@ module _ (hash : List ℕ → ℕ → List ℕ) (earlier : List Call) (i : ℕ) 
             })
         go (no z) = inr (keeps (beginCall b work′ out′) later still (not-begun (beginCall b work′ out′) _ z))
     further (pointsCall m2 key′ work′ out′) later still = inr (keeps (pointsCall m2 key′ work′ out′) later still (no-begin (pointsCall m2 key′ work′ out′) _ refl))
-    further (leafCall i′ key′ work′ out′) later still = inr (keeps (leafCall i′ key′ work′ out′) later still (no-begin (leafCall i′ key′ work′ out′) _ refl))
+    further (leafCall is′ key′ work′ out′) later still = inr (keeps (leafCall is′ key′ work′ out′) later still (no-begin (leafCall is′ key′ work′ out′) _ refl))
 
     so-far : (later : List Call) → Between hash earlier opening later ⊎ Still later
     unfolding made
-    so-far [] = inr (leaf-adds (made hash earlier) i key work out _ e)
+    so-far [] = inr (leaf-adds (made hash earlier) is key work out _ e)
     so-far (c ∷ later) = go (so-far later)
       where
         go : Between hash earlier opening later ⊎ Still later → Between hash earlier opening (c ∷ later) ⊎ Still (c ∷ later)
@@ -346,11 +354,11 @@ module _ (hash : List ℕ → ℕ → List ℕ) (earlier : List Call) (i : ℕ) 
         })
         go (inr still) = further c later still
 
-    pub begin-between : (later : List Call) (i′ : ℕ) (key′ : Key) (work′ out′ : List ℕ)
-        → outcome hash (after hash (later ++ (opening ∷ earlier))) (leafCall i′ key′ work′ out′) .answer ≡ 0 → Between hash earlier opening later
-    begin-between later i′ key′ work′ out′ e′ = go (so-far later)
+    pub begin-between : (later : List Call) (is′ : List ℕ) (key′ : Key) (work′ out′ : List ℕ)
+        → outcome hash (after hash (later ++ (opening ∷ earlier))) (leafCall is′ key′ work′ out′) .answer ≡ 0 → Between hash earlier opening later
+    begin-between later is′ key′ work′ out′ e′ = go (so-far later)
       where
         go : Between hash earlier opening later ⊎ Still later → Between hash earlier opening later
         go (inl b) = b
         go (inr still) =
-            absurd (true≢false (sym (still .1) ∙ leaf-carried hash (later ++ (opening ∷ earlier)) i′ key′ work′ out′ e′ .unopened))
+            absurd (true≢false (sym (still .1) ∙ leaf-carried hash (later ++ (opening ∷ earlier)) is′ key′ work′ out′ e′ .unopened))

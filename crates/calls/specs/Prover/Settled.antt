@@ -49,26 +49,26 @@ settle-seen (Refused r) s out work done message zeros d gives = rw (ne-eqb (refu
 
 module _ (hash : List ℕ → ℕ → List ℕ) (s : Prover) where
   abbrev pub checksOf : Call → Answer
-  checksOf (beginCall b work out) = beginChecks hash s (b .parameters) (b .xA) (b .salt) (b .root) (b .key) work out
+  checksOf (beginCall b work out) = beginChecks hash s (b .parameters) (b .runs) (b .xA) (b .salt) (b .root) (b .key) work out
   checksOf (pointsCall m2 key work out) = pointsChecks hash s m2 key work out
-  checksOf (leafCall i key work out) = leafChecks hash s i key work out
+  checksOf (leafCall is key work out) = leafChecks hash s is key work out
 
   abbrev pub doneOf : Call → Outcome
-  doneOf (beginCall b work out) = begun hash s (b .parameters) (b .xA) (b .salt) (b .root) (b .key) work out
+  doneOf (beginCall b work out) = begun hash s (b .parameters) (b .runs) (b .xA) (b .salt) (b .root) (b .key) work out
   doneOf (pointsCall m2 key work out) = answered hash s m2 key work out
-  doneOf (leafCall i key work out) = opened hash s i key work out
+  doneOf (leafCall is key work out) = opened hash s is key work out
 
   done-number : (c : Call) → doneOf c .answer ≡ 0
   unfolding begun answered opened
   done-number (beginCall b work out) = refl
   done-number (pointsCall m2 key work out) = refl
-  done-number (leafCall i key work out) = refl
+  done-number (leafCall is key work out) = refl
 
   pub settles : (c : Call) → outcome hash s c ≡ settle (checksOf c) s (lentOut c) (lentWork c) (doneOf c)
   unfolding outcome begin points leaf
   settles (beginCall b work out) = refl
   settles (pointsCall m2 key work out) = refl
-  settles (leafCall i key work out) = refl
+  settles (leafCall is key work out) = refl
 
   pub number-of : (c : Call) → outcome hash s c .answer ≡ answerNumber (checksOf c)
   number-of c = ap (λ (o : Outcome). o .answer) (settles c) ∙ settle-number (checksOf c) s (lentOut c) (lentWork c) (doneOf c) (done-number c)

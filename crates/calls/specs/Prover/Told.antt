@@ -8,11 +8,11 @@
 -- number-told                              the number alone
 -- repeated-after                           13 is decided by the last begin carried out
 use mathlib.Core.Path.{_≡_, refl, sym, ap, subst, _∙_}
-use mathlib.Core.Bool.{Bool, true, false, _||_, not, false≢true}
+use mathlib.Core.Bool.{Bool, true, false, _&&_, _||_, not, false≢true}
 use mathlib.Core.List.{List, [], _∷_}
 use mathlib.Core.Option.{Option, none, some}
 use Prim.Native.Nat.{ℕ, _+_}
-use lib.Dec.{leb, ltb}
+use lib.Dec.{leb}
 use lib.ListN.{length, replicate, take, drop}
 use lib.Seq.{take-at}
 use Rattle.lists.specs.Part.{putAt}
@@ -23,12 +23,13 @@ use Rattle.answers.specs.Number.{answerNumber}
 use Rattle.answers.specs.Order.{Conditions, holds, firstOf, answerOf}
 use Rattle.parameters.specs.Limits.{withinLimits}
 use Rattle.relation.specs.Key.{weightOf}
-use Rattle.layout.specs.Layout.{leaves, workLength, message2Length}
-use Rattle.exchange.specs.Run.{runOf}
+use Rattle.layout.specs.Layout.{workLength}
+use Rattle.layout.specs.Maxima.{mostMessages2}
+use Rattle.layout.specs.Runs.{runsWithin, messages2Length}
 use Rattle.exchange.specs.Values.{Key}
-use Rattle.exchange.specs.Messages.{message3, message5}
+use Rattle.runs.specs.Messages.{message3, message5}
 use Rattle.prover_phase.specs.declared.Phase.{Phase}
-use Rattle.calls.specs.Lengths.{beginLengths, pointsLengths, leafLengths}
+use Rattle.calls.specs.Lengths.{beginLengths, pointsLengths, leafLengths, leavesBelow}
 use Rattle.calls.specs.Held.{isSome, told}
 use Rattle.calls.specs.Prover.{Prover, fresh, heldMessage2, closed, pointsDue, leafDue, repeated, isBegun, isAnswered, isClosed, padded, beginChecks, pointsChecks, leafChecks, answered, opened}
 use Rattle.calls.specs.Prover as prover
@@ -95,9 +96,9 @@ module _ (hash : List ℕ → ℕ → List ℕ) (o : Option Begin) (q : Option (
   s = sessionTold o q l
 
   begin-number : (b : Begin) (work out : List ℕ)
-      → answerNumber (beginChecks hash s (b .parameters) (b .xA) (b .salt) (b .root) (b .key) work out)
-      ≡ answerOf ((1, not (withinLimits (b .parameters)))
-      ∷ (2, not (allTrue (beginLengths (b .parameters) (b .xA) (b .salt) (b .root) (b .key) work out)))
+      → answerNumber (beginChecks hash s (b .parameters) (b .runs) (b .xA) (b .salt) (b .root) (b .key) work out)
+      ≡ answerOf ((1, not (withinLimits (b .parameters) && runsWithin (b .runs)))
+      ∷ (2, not (allTrue (beginLengths (b .parameters) (b .runs) (b .xA) (b .salt) (b .root) (b .key) work out)))
       ∷ (3, not (leb (weightOf (secretOf b)) (b .parameters .w)))
       ∷ (13, repeats o (b .salt) (b .root)) ∷ [])
   begin-number b work out = begin-ordered hash s work out b ∙ rw (repeated-told o q l ok (b .salt) (b .root))
@@ -107,11 +108,11 @@ module _ (hash : List ℕ → ℕ → List ℕ) (o : Option Begin) (q : Option (
     pointsBy o q l =
         (12, l)
         ∷ (11, not (isSome o) || isSome q)
-        ∷ told o [] (λ b. (2, not (allTrue (pointsLengths (b .parameters) m2 key work out))) ∷ [])
+        ∷ told o [] (λ b. (2, not (allTrue (pointsLengths (b .parameters) (b .runs) m2 key work out))) ∷ [])
 
     points-due : (o : Option Begin) (q : Option (List ℕ)) (l : Bool) → Orderly o q l
         → answerOf ((12, l) ∷ (11, not (isSome o) || isSome q)
-        ∷ (2, not (allTrue (pointsLengths (sessionTold o q l .parameters) m2 key work out))) ∷ []) ≡ answerOf (pointsBy o q l)
+        ∷ (2, not (allTrue (pointsLengths (sessionTold o q l .parameters) (sessionTold o q l .runs) m2 key work out))) ∷ []) ≡ answerOf (pointsBy o q l)
     points-due o q l unstarted = unstarted-points _
     points-due o q l (started b ok) = refl
     points-due o q l (challenged b m l′ ok e) = refl
@@ -119,40 +120,40 @@ module _ (hash : List ℕ → ℕ → List ℕ) (o : Option Begin) (q : Option (
     points-number : answerNumber (pointsChecks hash s m2 key work out) ≡ answerOf (pointsBy o q l)
     points-number = points-ordered hash s work out key m2 ∙ rw (closed-told o q l ok, points-told o q l ok) (points-due o q l ok)
 
-  module _ (i : ℕ) (key : Key) (work out : List ℕ) where
+  module _ (is : List ℕ) (key : Key) (work out : List ℕ) where
     abbrev leafBy : Option Begin → Option (List ℕ) → Bool → Conditions
     leafBy o q l =
         (12, l)
         ∷ (11, not (isSome o) || not (isSome q))
         ∷ told o []
-        (λ b. (2, not (allTrue (leafLengths (b .parameters) i key work out))) ∷ (4, not (ltb i (leaves (b .parameters)))) ∷ [])
+        (λ b. (2, not (allTrue (leafLengths (b .parameters) (b .runs) is key work out))) ∷ (4, not (leavesBelow (b .parameters) is)) ∷ [])
 
     leaf-due : (o : Option Begin) (q : Option (List ℕ)) (l : Bool) → Orderly o q l
         → answerOf ((12, l) ∷ (11, not (isSome o) || not (isSome q))
-        ∷ (2, not (allTrue (leafLengths (sessionTold o q l .parameters) i key work out)))
-        ∷ (4, not (ltb i (leaves (sessionTold o q l .parameters)))) ∷ []) ≡ answerOf (leafBy o q l)
+        ∷ (2, not (allTrue (leafLengths (sessionTold o q l .parameters) (sessionTold o q l .runs) is key work out)))
+        ∷ (4, not (leavesBelow (sessionTold o q l .parameters) is)) ∷ []) ≡ answerOf (leafBy o q l)
     leaf-due o q l unstarted = unstarted-leaf _ _
     leaf-due o q l (started b ok) = refl
     leaf-due o q l (challenged b m l′ ok e) = refl
 
-    leaf-number : answerNumber (leafChecks hash s i key work out) ≡ answerOf (leafBy o q l)
+    leaf-number : answerNumber (leafChecks hash s is key work out) ≡ answerOf (leafBy o q l)
     leaf-number =
-        leaf-ordered hash s work out key i ∙ rw (closed-told o q l ok, leaf-told o q l ok) (closed-first l _ _ _ ∙ leaf-due o q l ok)
+        leaf-ordered hash s work out key is ∙ rw (closed-told o q l ok, leaf-told o q l ok) (closed-first l _ _ _ ∙ leaf-due o q l ok)
 
 -- ---- what a call that is carried out gives
 
-front : (n : ℕ) (m2 : List ℕ) → length m2 ≡ n → take n (padded 64 m2) ≡ m2
+front : (n : ℕ) (m2 : List ℕ) → length m2 ≡ n → take n (padded mostMessages2 m2) ≡ m2
 unfolding putAt
-front n m2 e = take-at m2 (drop (0 + length m2) (replicate 64 0)) n e
+front n m2 e = take-at m2 (drop (0 + length m2) (replicate mostMessages2 0)) n e
 
 module _ (hash : List ℕ → ℕ → List ℕ) where
   module _ (m2 : List ℕ) (key : Key) (work out : List ℕ) where
     abbrev message3By : Option Begin → List ℕ
-    message3By o = told o [] (λ b. message3 hash (b .parameters) (secretOf b) (runOf (b .salt) (b .root)) key m2)
+    message3By o = told o [] (λ b. message3 hash (b .parameters) (b .runs) (secretOf b) (b .salt) (b .root) key m2)
 
     message3-of : (b : Begin) {x : List ℕ} → x ≡ secretOf b
-        → message3 hash (b .parameters) x (runOf (b .salt) (b .root)) key m2 ≡ message3By (some b)
-    message3-of b e = ap (λ (x : List ℕ). message3 hash (b .parameters) x (runOf (b .salt) (b .root)) key m2) e
+        → message3 hash (b .parameters) (b .runs) x (b .salt) (b .root) key m2 ≡ message3By (some b)
+    message3-of b e = ap (λ (x : List ℕ). message3 hash (b .parameters) (b .runs) x (b .salt) (b .root) key m2) e
 
     points-gives : (o : Option Begin) (q : Option (List ℕ)) (l : Bool) → Orderly o q l → pointsChecks hash (sessionTold o q l) m2 key work out ≡ Done
         → (answered hash (sessionTold o q l) m2 key work out .out ≡ message3By o)
@@ -162,18 +163,18 @@ module _ (hash : List ℕ → ℕ → List ℕ) where
     points-gives o q l (started b ok) e = (message3-of b (secret-held b ok none false), refl)
     points-gives o q l (challenged b m l′ ok s) e = (message3-of b (secret-held b ok (some m) l′), refl)
 
-  module _ (i : ℕ) (key : Key) (work out : List ℕ) where
+  module _ (is : List ℕ) (key : Key) (work out : List ℕ) where
     abbrev message5By : Option Begin → Option (List ℕ) → List ℕ
     message5By o q =
-        told o [] (λ b. told q [] (λ m2. message5 hash (b .parameters) (secretOf b) (runOf (b .salt) (b .root)) key m2 i))
+        told o [] (λ b. told q [] (λ m2. message5 hash (b .parameters) (b .runs) (secretOf b) (b .salt) (b .root) key m2 is))
 
-    leaf-gives : (o : Option Begin) (q : Option (List ℕ)) (l : Bool) → Orderly o q l → leafChecks hash (sessionTold o q l) i key work out ≡ Done
-        → (opened hash (sessionTold o q l) i key work out .out ≡ message5By o q)
-        × (opened hash (sessionTold o q l) i key work out .work ≡ zeroed (told o 0 (λ b. workLength (b .parameters))) work)
+    leaf-gives : (o : Option Begin) (q : Option (List ℕ)) (l : Bool) → Orderly o q l → leafChecks hash (sessionTold o q l) is key work out ≡ Done
+        → (opened hash (sessionTold o q l) is key work out .out ≡ message5By o q)
+        × (opened hash (sessionTold o q l) is key work out .work ≡ zeroed (told o 0 (λ b. workLength (b .parameters))) work)
     unfolding opened heldMessage2 fresh
-    leaf-gives o q l unstarted e = absurd (false≢true (leaf-answered hash none none false unstarted i key work out e))
-    leaf-gives o q l (started b ok) e = absurd (false≢true (leaf-answered hash (some b) none false (started b ok) i key work out e))
-    leaf-gives o q l (challenged b m l′ ok s) e = (rw (secret-held b ok (some m) l′, front (message2Length (b .parameters)) m s), refl)
+    leaf-gives o q l unstarted e = absurd (false≢true (leaf-answered hash none none false unstarted is key work out e))
+    leaf-gives o q l (started b ok) e = absurd (false≢true (leaf-answered hash (some b) none false (started b ok) is key work out e))
+    leaf-gives o q l (challenged b m l′ ok s) e = (rw (secret-held b ok (some m) l′, front (messages2Length (b .parameters) (b .runs)) m s), refl)
 
 -- ---- number, output and work area
 
@@ -186,9 +187,9 @@ module _ (hash : List ℕ → ℕ → List ℕ) where
   as-expected h ok (pointsCall m2 key work out) =
       seen-as hash _ (pointsCall m2 key work out) _ _ _ (points-number hash (lastBegin h) (pointsSince h) (leafSince h) ok m2 key work out)
       (points-gives hash m2 key work out (lastBegin h) (pointsSince h) (leafSince h) ok)
-  as-expected h ok (leafCall i key work out) =
-      seen-as hash _ (leafCall i key work out) _ _ _ (leaf-number hash (lastBegin h) (pointsSince h) (leafSince h) ok i key work out)
-      (leaf-gives hash i key work out (lastBegin h) (pointsSince h) (leafSince h) ok)
+  as-expected h ok (leafCall is key work out) =
+      seen-as hash _ (leafCall is key work out) _ _ _ (leaf-number hash (lastBegin h) (pointsSince h) (leafSince h) ok is key work out)
+      (leaf-gives hash is key work out (lastBegin h) (pointsSince h) (leafSince h) ok)
 
   pub told-by-calls : (cs : List Call) (c : Call) → seen (outcome hash (after hash cs) c) ≡ expected hash (made hash cs) c
   told-by-calls cs c =

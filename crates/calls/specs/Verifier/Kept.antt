@@ -22,13 +22,14 @@ use Rattle.answers.specs.declared.Refusal.the-variants.{Parameter, Length, NotD
 use Rattle.answers.specs.Checks.{checks}
 use Rattle.parameters.specs.Limits.{withinLimits}
 use Rattle.layout.specs.Layout.{workLength}
+use Rattle.layout.specs.Runs.{runsWithin, message1Length}
 use Rattle.exchange.specs.Values.{Key}
 use Rattle.verifier_phase.specs.declared.Phase.the-variants.{Fresh, Closed}
 use Rattle.calls.specs.Held.{isSome}
 use Rattle.calls.specs.Lengths.{openingLengths}
 use Rattle.calls.specs.Judging.{judged}
 use Rattle.calls.specs.Judging.Laws.{verdict-judged}
-use Rattle.calls.specs.Verifier.{Verifier, Judged, settle, intact, standing, closed, due, step, heldExchange, begin, beginChecks, begun, points, pointsChecks, pointed, response, responseChecks, responded, leaf, leafChecks, chosen, ended, openingChecks, judge, opening}
+use Rattle.calls.specs.Verifier.{Verifier, Judged, settle, intact, standing, closed, due, step, heldLeaves, heldTranscript, begin, beginChecks, begun, points, pointsChecks, pointed, response, responseChecks, responded, leaf, leafChecks, chosen, ended, openingChecks, judge, opening}
 use Rattle.calls.specs.Verifier.History.{Begin, Call, beginCall, pointsCall, responseCall, leafCall, openingCall, lentWork, beginIn, opened, outcome}
 use Rattle.calls.specs.Verifier.Since.{counted}
 
@@ -40,10 +41,10 @@ settle-same (Refused r) s next e = refl
 module _ (hash : List ℕ → ℕ → List ℕ) (s : Verifier) where
   pub begin-due : (b : Begin) → (outcome hash s (beginCall b) .answer ≡ 11 → ⊥) × (outcome hash s (beginCall b) .answer ≡ 12 → ⊥)
   unfolding outcome begin beginChecks
-  begin-due b = go (withinLimits (b .parameters)) (eqb (length (b .message1)) 64)
+  begin-due b = go (withinLimits (b .parameters) && runsWithin (b .runs)) (eqb (length (b .message1)) (message1Length (b .runs)))
     where
       number : Bool → Bool → ℕ
-      number x y = settle (checks ((x, Parameter) ∷ (y, Length) ∷ [])) s (begun (b .parameters) (b .message1)) .answer
+      number x y = settle (checks ((x, Parameter) ∷ (y, Length) ∷ [])) s (begun (b .parameters) (b .runs) (b .message1)) .answer
 
       go : (x y : Bool) → (number x y ≡ 11 → ⊥) × (number x y ≡ 12 → ⊥)
       go true true = omega arith
@@ -56,7 +57,7 @@ module _ (hash : List ℕ → ℕ → List ℕ) (s : Verifier) where
   damaged-shut f d (beginCall b) e = absurd (true≢false e)
   damaged-shut f d (pointsCall m2) e = rw (f, d)
   damaged-shut f d (responseCall m3) e = rw (f, d)
-  damaged-shut f d (leafCall i) e = rw (f, d)
+  damaged-shut f d (leafCall is) e = rw (f, d)
   damaged-shut f d (openingCall m5 key work) e = rw (f, d)
 
   pub ended-closed : closed (ended s) ≡ true
@@ -74,7 +75,7 @@ module _ (hash : List ℕ → ℕ → List ℕ) (s : Verifier) where
 
     early-same : (x y z : Bool) → judged (openingFrom x y z .answer) ≡ false → (openingFrom x y z .verifier ≡ s) × (openingFrom x y z .work ≡ work)
     unfolding judge
-    early-same true true true e = absurd (true≢false (sym (verdict-judged hash (s .parameters) (heldExchange s m5) key) ∙ e))
+    early-same true true true e = absurd (true≢false (sym (verdict-judged hash (s .parameters) _ (heldTranscript s m5) key) ∙ e))
     early-same true true false e = (refl, refl)
     early-same true false z e = (refl, refl)
     early-same false y z e = (refl, refl)
@@ -91,20 +92,20 @@ module _ (hash : List ℕ → ℕ → List ℕ) (s : Verifier) where
         → (outcome hash s (openingCall m5 key work) .verifier ≡ ended s)
         × (outcome hash s (openingCall m5 key work) .work ≡ zeroed (workLength (s .parameters)) work)
     unfolding outcome opening openingChecks
-    judged-ended e = judged-from (not (closed s)) (due s _) (allTrue (openingLengths (s .parameters) (s .leaf) m5 key work)) e
+    judged-ended e = judged-from (not (closed s)) (due s _) (allTrue (openingLengths (s .parameters) (heldLeaves s) m5 key work)) e
 
     opening-same : judged (outcome hash s (openingCall m5 key work) .answer) ≡ false
         → (outcome hash s (openingCall m5 key work) .verifier ≡ s) × (outcome hash s (openingCall m5 key work) .work ≡ work)
     unfolding outcome opening openingChecks
-    opening-same e = early-same (not (closed s)) (due s _) (allTrue (openingLengths (s .parameters) (s .leaf) m5 key work)) e
+    opening-same e = early-same (not (closed s)) (due s _) (allTrue (openingLengths (s .parameters) (heldLeaves s) m5 key work)) e
 
   pub refused-same : (c : Call) → counted (record { call = c; number = outcome hash s c .answer }) ≡ false
       → (outcome hash s c .verifier ≡ s) × (outcome hash s c .work ≡ lentWork c)
   unfolding outcome counted opened begin points response leaf
-  refused-same (beginCall b) e = (settle-same (beginChecks (b .parameters) (b .message1)) s (begun (b .parameters) (b .message1)) e, refl)
+  refused-same (beginCall b) e = (settle-same (beginChecks (b .parameters) (b .runs) (b .message1)) s (begun (b .parameters) (b .runs) (b .message1)) e, refl)
   refused-same (pointsCall m2) e = (settle-same (pointsChecks s m2) s (pointed s m2) e, refl)
   refused-same (responseCall m3) e = (settle-same (responseChecks s m3) s (responded s m3) e, refl)
-  refused-same (leafCall i) e = (settle-same (leafChecks s i) s (chosen s i) e, refl)
+  refused-same (leafCall is) e = (settle-same (leafChecks s is) s (chosen s is) e, refl)
   refused-same (openingCall m5 key work) e = opening-same m5 key work (not-judged (eqb n 0) (judged n) e)
     where
       n : ℕ

@@ -1,6 +1,6 @@
 -- The session that a history of calls must have reached from a fresh one.
 --
--- Telling, telling h     what a history tells: the last begin, and the messages, the leaf, the judging and the calls since then
+-- Telling, telling h     what a history tells: the last begin, and the messages, the leaves, the judging and the calls since then
 -- next m t               what it tells after one more call
 -- session t              the session that it must be
 -- Passed t               the begin, points, response and leaf that it tells passed their checks
@@ -10,14 +10,16 @@ use mathlib.Core.Bool.{Bool, true, false, _&&_, _||_, cond}
 use mathlib.Core.List.{List, [], _∷_}
 use mathlib.Core.Option.{Option, none, some}
 use Prim.Native.Nat.{ℕ}
-use lib.Dec.{eqb, ltb}
+use lib.Dec.{eqb}
 use lib.ListN.{length, replicate}
 use Rattle.lists.specs.Part.{putAt}
 use Rattle.parameters.specs.Limits.{withinLimits}
-use Rattle.layout.specs.Layout.{leaves, message2Length}
+use Rattle.layout.specs.Maxima.{mostRuns, mostMessage1, mostMessages2, mostMessages3}
+use Rattle.layout.specs.Runs.{runsWithin, message1Length, messages2Length, messages3Length}
 use Rattle.exchange.specs.Values.{Key}
 use Rattle.verifier_phase.specs.declared.Phase.{Phase}
 use Rattle.verifier_phase.specs.declared.Phase.the-variants.{Begun, Pointed, Responded, Chosen, Closed}
+use Rattle.calls.specs.Lengths.{leavesBelow}
 use Rattle.calls.specs.Held.{isSome, orElse, told}
 use Rattle.calls.specs.Verifier.{Verifier, fresh}
 use Rattle.calls.specs.Verifier.History.{Begin, Call, beginCall, pointsCall, responseCall, leafCall, openingCall, Made, begun, pointed, responded, chosen, opened, lastBegin, pointsSince, responseSince, leafSince, openedSince}
@@ -31,7 +33,7 @@ pub record Telling : Type 0 where
   pub begin : Option Begin
   pub points : Option (List ℕ)
   pub response : Option (List ℕ)
-  pub leaf : Option ℕ
+  pub leaf : Option (List ℕ)
   pub opened : Bool
   pub calls : List Call
 
@@ -67,18 +69,20 @@ session t =
     (λ b. record {
       phase = phaseOf t;
       parameters = b .parameters;
-      message1 = b .message1;
-      message2 = told (t .points) (replicate 64 0) (putAt (replicate 64 0) 0);
-      message3 = told (t .response) (replicate 32 0) (λ m3. m3);
-      leaf = told (t .leaf) 0 (λ i. i);
+      runs = b .runs;
+      message1 = putAt (replicate mostMessage1 0) 0 (b .message1);
+      message2 = told (t .points) (replicate mostMessages2 0) (putAt (replicate mostMessages2 0) 0);
+      message3 = told (t .response) (replicate mostMessages3 0) (putAt (replicate mostMessages3 0) 0);
+      leaves = told (t .leaf) (replicate mostRuns 0) (putAt (replicate mostRuns 0) 0);
     })
 
 pub record Passed (t : Telling) : Type 0 where
-  pub limits : told (t .begin) true (λ b. withinLimits (b .parameters)) ≡ true
-  pub sized1 : told (t .begin) true (λ b. eqb (length (b .message1)) 64) ≡ true
-  pub sized2 : told (t .begin) true (λ b. told (t .points) true (λ m2. eqb (length m2) (message2Length (b .parameters)))) ≡ true
-  pub sized3 : told (t .response) true (λ m3. eqb (length m3) 32) ≡ true
-  pub below : told (t .begin) true (λ b. told (t .leaf) true (λ i. ltb i (leaves (b .parameters)))) ≡ true
+  pub limits : told (t .begin) true (λ b. withinLimits (b .parameters) && runsWithin (b .runs)) ≡ true
+  pub sized1 : told (t .begin) true (λ b. eqb (length (b .message1)) (message1Length (b .runs))) ≡ true
+  pub sized2 : told (t .begin) true (λ b. told (t .points) true (λ m2. eqb (length m2) (messages2Length (b .parameters) (b .runs)))) ≡ true
+  pub sized3 : told (t .begin) true (λ b. told (t .response) true (λ m3. eqb (length m3) (messages3Length (b .runs)))) ≡ true
+  pub sized4 : told (t .begin) true (λ b. told (t .leaf) true (λ is. eqb (length is) (b .runs))) ≡ true
+  pub below : told (t .begin) true (λ b. told (t .leaf) true (λ is. leavesBelow (b .parameters) is)) ≡ true
 
 -- ---- stages
 
@@ -87,8 +91,8 @@ pub data Stage : Type 0 where
   atBegin : Begin → Stage
   atPoints : Begin → List ℕ → Stage
   atResponse : Begin → List ℕ → List ℕ → Stage
-  atLeaf : Begin → List ℕ → List ℕ → ℕ → Stage
-  atOpening : Begin → List ℕ → List ℕ → ℕ → List ℕ → Key → List ℕ → Stage
+  atLeaf : Begin → List ℕ → List ℕ → List ℕ → Stage
+  atOpening : Begin → List ℕ → List ℕ → List ℕ → List ℕ → Key → List ℕ → Stage
 
 abbrev pub at : Stage → Telling
 at unbegun = record { begin = none; points = none; response = none; leaf = none; opened = false; calls = [] }
@@ -102,19 +106,19 @@ at (atResponse b m2 m3) = record {
   opened = false;
   calls = responseCall m3 ∷ pointsCall m2 ∷ beginCall b ∷ [];
 }
-at (atLeaf b m2 m3 i) = record {
+at (atLeaf b m2 m3 is) = record {
   begin = some b;
   points = some m2;
   response = some m3;
-  leaf = some i;
+  leaf = some is;
   opened = false;
-  calls = leafCall i ∷ responseCall m3 ∷ pointsCall m2 ∷ beginCall b ∷ [];
+  calls = leafCall is ∷ responseCall m3 ∷ pointsCall m2 ∷ beginCall b ∷ [];
 }
-at (atOpening b m2 m3 i m5 key work) = record {
+at (atOpening b m2 m3 is m5 key work) = record {
   begin = some b;
   points = some m2;
   response = some m3;
-  leaf = some i;
+  leaf = some is;
   opened = true;
-  calls = openingCall m5 key work ∷ leafCall i ∷ responseCall m3 ∷ pointsCall m2 ∷ beginCall b ∷ [];
+  calls = openingCall m5 key work ∷ leafCall is ∷ responseCall m3 ∷ pointsCall m2 ∷ beginCall b ∷ [];
 }

@@ -4,14 +4,14 @@
 -- new-follows, new-size       a fresh session's bytes are one
 -- begin-follows, points-follows, leaf-follows   each call does
 use mathlib.Core.Path.{_≡_, refl, ap, _∙_}
-use mathlib.Core.Bool.{not}
+use mathlib.Core.Bool.{not, _&&_}
 use mathlib.Core.List.{List}
 use Prim.Native.Nat.{ℕ, _≤_}
 use native.Mathlib.Omega.{arith}
 use lib.ListN.{length, replicate, length-replicate}
 use borrow.Author.Tests.{eqb-true}
 use Rattle.lists.specs.Checks.{allTrue}
-use Rattle.lists.specs.Checks.Laws.{all-at}
+use Rattle.lists.specs.Checks.Laws.{all-at, and-left}
 use Rattle.lists.specs.Part.{putAt}
 use Rattle.lists.specs.Part.Laws.{length-part, length-putAt}
 use Rattle.answers.specs.Number.{refusalNumber}
@@ -26,7 +26,10 @@ use Rattle.parameters.specs.Limits.Laws.{test-within}
 use Rattle.relation.specs.Key.{vectorOf}
 use Rattle.relation.specs.Key.Vector.{length-vector}
 use Rattle.shake256.specs.Fips.{SHAKE256}
-use Rattle.layout.specs.Layout.{message2Length, yLength}
+use Rattle.layout.specs.Layout.{yLength}
+use Rattle.layout.specs.Maxima.{mostMessages2}
+use Rattle.layout.specs.Runs.{runsWithin, messages2Length}
+use Rattle.layout.specs.Runs.Laws.{messages2-most}
 use Rattle.exchange.specs.Values.{Key}
 use Rattle.calls.specs.Lengths.{beginLengths, pointsLengths}
 use Rattle.calls.specs.Prover.{Prover, Outcome as Called, fresh, settle, closed, pointsDue, begin, beginChecks, begun, points, pointsChecks, answered, leaf, leafChecks, opened}
@@ -56,10 +59,10 @@ module _ (b : List ℕ) (size : length b ≡ proverSize) where
   read-lengths : ProverLengths s
   unfolding proverFrom
   read-lengths = record {
-    x = length-part b 6 255 (omega arith);
-    salt = length-part b 261 32 (omega arith);
-    root = length-part b 293 16 (omega arith);
-    message2 = length-part b 309 64 (omega arith);
+    x = length-part b 7 255 (omega arith);
+    salt = length-part b 262 32 (omega arith);
+    root = length-part b 294 16 (omega arith);
+    message2 = length-part b 310 mostMessages2 (omega arith);
   }
 
   pub new-follows : proverFrom (proverNew b .session) ≡ fresh
@@ -92,13 +95,14 @@ module _ (b : List ℕ) (size : length b ≡ proverSize) where
 
   -- ---- begin
 
-  module _ (p : Parameters) (xA salt root : List ℕ) (key : Key) (work out : List ℕ) where
-    begun-lengths : beginChecks SHAKE256 s p xA salt root key work out ≡ Done → ProverLengths (begun SHAKE256 s p xA salt root key work out .prover)
+  module _ (p : Parameters) (runs : ℕ) (xA salt root : List ℕ) (key : Key) (work out : List ℕ) where
+    begun-lengths : beginChecks SHAKE256 s p runs xA salt root key work out ≡ Done → ProverLengths (begun SHAKE256 s p runs xA salt root key work out .prover)
     unfolding beginChecks begun
     begun-lengths e =
-        let within = test-within p (check-true (withinLimits p) Parameter _ e) in
-        let tests = beginLengths p xA salt root key work out in
-        let so = all-at tests (check-true (allTrue tests) Length _ (check-rest (withinLimits p) Parameter _ e)) in
+        let both = check-true (withinLimits p && runsWithin runs) Parameter _ e in
+        let within = test-within p (and-left (withinLimits p) (runsWithin runs) both) in
+        let tests = beginLengths p runs xA salt root key work out in
+        let so = all-at tests (check-true (allTrue tests) Length _ (check-rest (withinLimits p && runsWithin runs) Parameter _ e)) in
         let k = eqb-true (length xA) (p .k) (so 0) in
         let y = eqb-true (length (key .y)) (yLength p) (so 5) in
         let v = length-vector (key .matrix) (key .y) xA in
@@ -109,11 +113,11 @@ module _ (b : List ℕ) (size : length b ≡ proverSize) where
           message2 = refl;
         }
 
-    pub begin-follows : Follows (proverBegin b p xA salt root key work out) (begin SHAKE256 s p xA salt root key work out)
+    pub begin-follows : Follows (proverBegin b p runs xA salt root key work out) (begin SHAKE256 s p runs xA salt root key work out)
     unfolding begin begun
     begin-follows =
-        call-follows _ work out (λ z. begin SHAKE256 z p xA salt root key work out)
-        (settle-follows (beginChecks SHAKE256 s p xA salt root key work out) out work (begun SHAKE256 s p xA salt root key work out) refl begun-lengths)
+        call-follows _ work out (λ z. begin SHAKE256 z p runs xA salt root key work out)
+        (settle-follows (beginChecks SHAKE256 s p runs xA salt root key work out) out work (begun SHAKE256 s p runs xA salt root key work out) refl begun-lengths)
 
   -- ---- points and leaf
 
@@ -122,11 +126,18 @@ module _ (b : List ℕ) (size : length b ≡ proverSize) where
     unfolding pointsChecks answered
     answered-lengths e =
         let open-still = check-rest (not (closed s)) ExchangeClosed _ e in
-        let within = points-ready s (check-true (pointsDue s) NotDue _ open-still) .within in
-        let tests = pointsLengths (s .parameters) m2 key work out in
+        let ready = points-ready s (check-true (pointsDue s) NotDue _ open-still) in
+        let tests = pointsLengths (s .parameters) (s .runs) m2 key work out in
         let passed = check-true (allTrue tests) Length Done (check-rest (pointsDue s) NotDue _ open-still) in
-        let long = eqb-true (length m2) (message2Length (s .parameters)) (all-at tests passed 0) in
-        record { x = read-lengths .x; salt = read-lengths .salt; root = read-lengths .root; message2 = front 64 m2 (omega arith) }
+        let long = eqb-true (length m2) (messages2Length (s .parameters) (s .runs)) (all-at tests passed 0) in
+        let most = messages2-most (s .parameters) (ready .limits .within) (s .runs) (ready .limits .counted .most) in
+        let held = read-lengths .message2 in
+        record {
+          x = read-lengths .x;
+          salt = read-lengths .salt;
+          root = read-lengths .root;
+          message2 = length-putAt (s .message2) 0 m2 (omega arith) ∙ held;
+        }
 
     pub points-follows : Follows (proverPoints b m2 key work out) (points SHAKE256 s m2 key work out)
     unfolding points answered
@@ -134,9 +145,9 @@ module _ (b : List ℕ) (size : length b ≡ proverSize) where
         call-follows _ work out (λ z. points SHAKE256 z m2 key work out)
         (settle-follows (pointsChecks SHAKE256 s m2 key work out) out work (answered SHAKE256 s m2 key work out) refl answered-lengths)
 
-  pub leaf-follows : (i : ℕ) (key : Key) (work out : List ℕ) → Follows (proverLeaf b i key work out) (leaf SHAKE256 s i key work out)
+  pub leaf-follows : (is : List ℕ) (key : Key) (work out : List ℕ) → Follows (proverLeaf b is key work out) (leaf SHAKE256 s is key work out)
   unfolding leaf opened
-  leaf-follows i key work out =
-      call-follows _ work out (λ z. leaf SHAKE256 z i key work out)
-      (settle-follows (leafChecks SHAKE256 s i key work out) out work (opened SHAKE256 s i key work out) refl
+  leaf-follows is key work out =
+      call-follows _ work out (λ z. leaf SHAKE256 z is key work out)
+      (settle-follows (leafChecks SHAKE256 s is key work out) out work (opened SHAKE256 s is key work out) refl
       (λ e. record { x = read-lengths .x; salt = read-lengths .salt; root = read-lengths .root; message2 = read-lengths .message2 }))

@@ -28,9 +28,9 @@ use Rattle.capi.specs.Prover.{Outcome, proverBegin, proverBeginSet, prov
 use Rattle.capi.specs.Prover.Follows.{Follows, new-follows, new-size, begin-follows, points-follows, leaf-follows}
 
 unfoldable pub onBuffer : List ℕ → Call → Outcome
-onBuffer b (beginCall s work out) = proverBeginSet b (numbersOf (s .parameters)) (s .xA) (s .salt) (s .root) (s .key) work out
+onBuffer b (beginCall s work out) = proverBeginSet b (numbersOf (s .parameters)) (s .runs) (s .xA) (s .salt) (s .root) (s .key) work out
 onBuffer b (pointsCall m2 key work out) = proverPoints b m2 key work out
-onBuffer b (leafCall i key work out) = proverLeaf b i key work out
+onBuffer b (leafCall is key work out) = proverLeaf b is key work out
 
 unfoldable pub bufferAfter : List ℕ → List Call → List ℕ
 bufferAfter b [] = proverNew b .session
@@ -46,10 +46,10 @@ carriedOn kind b (c ∷ cs) = cond (kind c && eqb (onBuffer b c .number) 0) 1 0 
 pub call-follows : (b : List ℕ) → length b ≡ proverSize → (c : Call) → Follows (onBuffer b c) (outcome SHAKE256 (proverFrom b) c)
 unfolding onBuffer outcome
 call-follows b size (beginCall s work out) =
-    rw (set-named (s .parameters) (λ p. proverBegin b p (s .xA) (s .salt) (s .root) (s .key) work out) _)
-    (begin-follows b size (s .parameters) (s .xA) (s .salt) (s .root) (s .key) work out)
+    rw (set-named (s .parameters) (λ p. proverBegin b p (s .runs) (s .xA) (s .salt) (s .root) (s .key) work out) _)
+    (begin-follows b size (s .parameters) (s .runs) (s .xA) (s .salt) (s .root) (s .key) work out)
 call-follows b size (pointsCall m2 key work out) = points-follows b size m2 key work out
-call-follows b size (leafCall i key work out) = leaf-follows b size i key work out
+call-follows b size (leafCall is key work out) = leaf-follows b size is key work out
 
 pub record Holds (b : List ℕ) (s : Prover) : Type 0 where
   pub size : length b ≡ proverSize

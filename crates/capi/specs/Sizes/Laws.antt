@@ -2,6 +2,7 @@
 --
 -- within-length, within-limits   a set within its limits has five numbers, and names parameters within theirs
 -- sized-not, sized-so            the length, by the test of the set
+-- runs-not, runs-so              the length, by the test of the run count first
 use mathlib.Core.Path.{_≡_, refl, ap, _∙_}
 use mathlib.Core.Bool.{Bool, true, false, cond, false≢true}
 use mathlib.Core.List.{List}
@@ -14,7 +15,8 @@ use Rattle.parameters.specs.Limits.{withinLimits, Within}
 use Rattle.parameters.specs.Limits.Laws.{test-within}
 use Rattle.parameters.specs.Set.{setLength, parametersOf}
 use Rattle.stored.specs.Buffer.{fits}
-use Rattle.capi.specs.Sizes.{setWithin, sized}
+use Rattle.layout.specs.Runs.{runsWithin}
+use Rattle.capi.specs.Sizes.{setWithin, sized, sizedRuns}
 
 both-true : (a b : Bool) → cond a b false ≡ true → (a ≡ true) × (b ≡ true)
 both-true true b e = (refl, e)
@@ -34,3 +36,9 @@ module _ (ns : List ℕ) where
 
   pub sized-so : (f : Parameters → ℕ) (p : Parameters) (n : ℕ) → setWithin ns ≡ true → p ≡ parametersOf ns → n ≡ f p → n ≡ sized ns f
   sized-so f p n e is so = rw e (so ∙ ap f is)
+
+  pub runs-not : (n : ℕ) (f : Parameters → ℕ) → runsWithin n ≡ false → 0 ≡ sizedRuns ns n f
+  runs-not n f e = rw e
+
+  pub runs-so : (n : ℕ) (f : Parameters → ℕ) (r : ℕ) → runsWithin n ≡ true → r ≡ sized ns f → r ≡ sizedRuns ns n f
+  runs-so n f r e so = rw e so

@@ -19,13 +19,14 @@ use Rattle.answers.specs.declared.Answer.the-variants.{Done, Refused}
 use Rattle.answers.specs.declared.Refusal.the-variants.{Length, NotDue, Closed as ExchangeClosed}
 use Rattle.answers.specs.Checks.{check}
 use Rattle.parameters.specs.declared.Parameters.{Parameters}
+use Rattle.layout.specs.Maxima.{mostRuns, mostMessage1, mostMessages2, mostMessages3}
 use Rattle.shake256.specs.Fips.{SHAKE256}
 use Rattle.exchange.specs.Values.{Key}
 use Rattle.verifier_phase.specs.declared.Phase.the-variants.{Chosen}
 use Rattle.calls.specs.Lengths.{openingLengths}
 use Rattle.calls.specs.Judging.Laws.{verdict-judged}
-use Rattle.verifier.specs.Laws.{begin-passed, points-passed, response-passed}
-use Rattle.calls.specs.Verifier.{Verifier, Outcome as Called, Judged as Opened, fresh, settle, closed, due, heldExchange, begin, beginChecks, begun, points, pointsChecks, pointed, response, responseChecks, responded, leaf, leafChecks, chosen, opening, openingChecks, judge, ended}
+use Rattle.verifier.specs.Laws.{begin-passed, points-passed, response-passed, leaf-passed}
+use Rattle.calls.specs.Verifier.{Verifier, Outcome as Called, Judged as Opened, fresh, settle, closed, due, heldLeaves, heldTranscript, begin, beginChecks, begun, points, pointsChecks, pointed, response, responseChecks, responded, leaf, leafChecks, chosen, opening, openingChecks, judge, ended}
 use Rattle.stored.specs.Verifier.{verifierSize, verifierBytes, verifierFrom}
 use Rattle.stored.specs.Verifier.Laws.{VerifierLengths, length-verifierBytes, verifier-back}
 use Rattle.capi.specs.Session.{Kept, verifierNew}
@@ -52,9 +53,10 @@ module _ (b : List ℕ) (size : length b ≡ verifierSize) where
   read-lengths : VerifierLengths s
   unfolding verifierFrom
   read-lengths = record {
-    message1 = length-part b 6 64 (omega arith);
-    message2 = length-part b 70 64 (omega arith);
-    message3 = length-part b 134 32 (omega arith);
+    message1 = length-part b 7 mostMessage1 (omega arith);
+    message2 = length-part b 1_063 mostMessages2 (omega arith);
+    message3 = length-part b 3_111 mostMessages3 (omega arith);
+    leaves = length-part b 4_135 mostRuns (omega arith);
   }
 
   settle-follows : (a : Answer) (next : Verifier) → (a ≡ Done → VerifierLengths next) → Follows (verifierAfter b (settle a s next)) (settle a s next)
@@ -74,52 +76,63 @@ module _ (b : List ℕ) (size : length b ≡ verifierSize) where
 
   pub new-follows : verifierFrom (verifierNew b .session) ≡ fresh
   unfolding fresh
-  new-follows = rw (← fits-so b verifierSize _ _ size) (verifier-back fresh (record { message1 = refl; message2 = refl; message3 = refl }))
+  new-follows = rw (← fits-so b verifierSize _ _ size) (verifier-back fresh (record { message1 = refl; message2 = refl; message3 = refl; leaves = refl }))
 
   pub new-size : length (verifierNew b .session) ≡ verifierSize
   unfolding fresh
-  new-size = rw (← fits-so b verifierSize _ _ size) (length-verifierBytes fresh (record { message1 = refl; message2 = refl; message3 = refl }))
+  new-size = rw (← fits-so b verifierSize _ _ size) (length-verifierBytes fresh (record { message1 = refl; message2 = refl; message3 = refl; leaves = refl }))
 
   -- ---- the calls but the opening
 
-  pub begin-follows : (p : Parameters) (m1 : List ℕ) → Follows (verifierBegin b p m1) (begin s p m1)
+  pub begin-follows : (p : Parameters) (runs : ℕ) (m1 : List ℕ) → Follows (verifierBegin b p runs m1) (begin s p runs m1)
   unfolding begin begun
-  begin-follows p m1 =
-      call-follows _ (λ z. begin z p m1) (settle-follows (beginChecks p m1) (begun p m1) (λ e. record {
-        message1 = begin-passed p m1 e;
+  begin-follows p runs m1 =
+      call-follows _ (λ z. begin z p runs m1) (settle-follows (beginChecks p runs m1) (begun p runs m1) (λ e.
+      let long = begin-passed p runs m1 e in
+      record {
+        message1 = length-putAt (replicate mostMessage1 0) 0 m1 (omega arith);
         message2 = refl;
         message3 = refl;
+        leaves = refl;
       }))
 
   pub points-follows : (m2 : List ℕ) → Follows (verifierPoints b m2) (points s m2)
   unfolding points pointed
   points-follows m2 =
       call-follows _ (λ z. points z m2) (settle-follows (pointsChecks s m2) (pointed s m2) (λ e.
-      let passed = points-passed s m2 e in
-      let within = passed .within in
-      let long = passed .size in
+      let long = points-passed s m2 e in
+      let held = read-lengths .message2 in
       record {
         message1 = read-lengths .message1;
-        message2 = length-putAt (replicate 64 0) 0 m2 (omega arith);
+        message2 = length-putAt (s .message2) 0 m2 (omega arith) ∙ held;
         message3 = read-lengths .message3;
+        leaves = read-lengths .leaves;
       }))
 
   pub response-follows : (m3 : List ℕ) → Follows (verifierResponse b m3) (response s m3)
   unfolding response responded
   response-follows m3 =
-      call-follows _ (λ z. response z m3) (settle-follows (responseChecks s m3) (responded s m3) (λ e. record {
+      call-follows _ (λ z. response z m3) (settle-follows (responseChecks s m3) (responded s m3) (λ e.
+      let long = response-passed s m3 e in
+      let held = read-lengths .message3 in
+      record {
         message1 = read-lengths .message1;
         message2 = read-lengths .message2;
-        message3 = response-passed s m3 e;
+        message3 = length-putAt (s .message3) 0 m3 (omega arith) ∙ held;
+        leaves = read-lengths .leaves;
       }))
 
-  pub leaf-follows : (i : ℕ) → Follows (verifierLeaf b i) (leaf s i)
+  pub leaf-follows : (is : List ℕ) → Follows (verifierLeaf b is) (leaf s is)
   unfolding leaf chosen
-  leaf-follows i =
-      call-follows _ (λ z. leaf z i) (settle-follows (leafChecks s i) (chosen s i) (λ e. record {
+  leaf-follows is =
+      call-follows _ (λ z. leaf z is) (settle-follows (leafChecks s is) (chosen s is) (λ e.
+      let long = leaf-passed s is e in
+      let held = read-lengths .leaves in
+      record {
         message1 = read-lengths .message1;
         message2 = read-lengths .message2;
         message3 = read-lengths .message3;
+        leaves = length-putAt (s .leaves) 0 is (omega arith) ∙ held;
       }))
 
   -- ---- the opening
@@ -127,14 +140,19 @@ module _ (b : List ℕ) (size : length b ≡ verifierSize) where
   module _ (m5 : List ℕ) (key : Key) (work : List ℕ) where
     ended-lengths : VerifierLengths (ended s)
     unfolding ended
-    ended-lengths = record { message1 = read-lengths .message1; message2 = read-lengths .message2; message3 = read-lengths .message3 }
+    ended-lengths = record {
+      message1 = read-lengths .message1;
+      message2 = read-lengths .message2;
+      message3 = read-lengths .message3;
+      leaves = read-lengths .leaves;
+    }
 
     judge-follows : (x y z : Bool)
         → FollowsJudged (openingAfter b (judge SHAKE256 s m5 key work (check x ExchangeClosed (check y NotDue (check z Length Done)))))
         (judge SHAKE256 s m5 key work (check x ExchangeClosed (check y NotDue (check z Length Done))))
     unfolding judge openingAfter
     judge-follows true true true =
-        let judged = verdict-judged SHAKE256 (s .parameters) (heldExchange s m5) key in
+        let judged = verdict-judged SHAKE256 (s .parameters) (s .runs) (heldTranscript s m5) key in
         record {
           number = refl;
           session = rw judged (verifier-back (ended s) ended-lengths);
@@ -149,4 +167,4 @@ module _ (b : List ℕ) (size : length b ≡ verifierSize) where
     unfolding verifierOpening opening openingChecks
     opening-follows =
         rw (← fits-so b verifierSize (openingAfter b (opening SHAKE256 s m5 key work)) _ size)
-        (judge-follows (not (closed s)) (due s Chosen) (allTrue (openingLengths (s .parameters) (s .leaf) m5 key work)))
+        (judge-follows (not (closed s)) (due s Chosen) (allTrue (openingLengths (s .parameters) (heldLeaves s) m5 key work)))

@@ -31,10 +31,10 @@ abbrev plain : Kept → Judged
 plain r = judged (r .number) (r .session) []
 
 unfoldable pub onBuffer : List ℕ → Call → Judged
-onBuffer b (beginCall s) = plain (verifierBeginSet b (numbersOf (s .parameters)) (s .message1))
+onBuffer b (beginCall s) = plain (verifierBeginSet b (numbersOf (s .parameters)) (s .runs) (s .message1))
 onBuffer b (pointsCall m2) = plain (verifierPoints b m2)
 onBuffer b (responseCall m3) = plain (verifierResponse b m3)
-onBuffer b (leafCall i) = plain (verifierLeaf b i)
+onBuffer b (leafCall is) = plain (verifierLeaf b is)
 onBuffer b (openingCall m5 key work) = verifierOpening b m5 key work
 
 unfoldable pub bufferAfter : List ℕ → List Call → List ℕ
@@ -60,10 +60,11 @@ plain-follows r o f = record { number = f .number; session = f .session; size = 
 pub call-follows : (b : List ℕ) → length b ≡ verifierSize → (c : Call) → FollowsCall (onBuffer b c) (outcome SHAKE256 (verifierFrom b) c)
 unfolding onBuffer outcome
 call-follows b size (beginCall s) =
-    rw (set-named (s .parameters) (λ p. verifierBegin b p (s .message1)) _) (plain-follows _ _ (begin-follows b size (s .parameters) (s .message1)))
+    rw (set-named (s .parameters) (λ p. verifierBegin b p (s .runs) (s .message1)) _)
+    (plain-follows _ _ (begin-follows b size (s .parameters) (s .runs) (s .message1)))
 call-follows b size (pointsCall m2) = plain-follows _ _ (points-follows b size m2)
 call-follows b size (responseCall m3) = plain-follows _ _ (response-follows b size m3)
-call-follows b size (leafCall i) = plain-follows _ _ (leaf-follows b size i)
+call-follows b size (leafCall is) = plain-follows _ _ (leaf-follows b size is)
 call-follows b size (openingCall m5 key work) =
     let f = opening-follows b size m5 key work in record { number = f .number; session = f .session; size = f .size; work = f .work }
 

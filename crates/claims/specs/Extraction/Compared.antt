@@ -1,11 +1,12 @@
--- The strings that the extractor compares, and the first two that are unequal.
+-- The strings that the extractor compares in a run, and the first two that are unequal.
 --
+-- Alike e e′               what two accepted openings of one run have in common, whose hidden leaves differ
 -- at-member, member-at     the same membership, of places and of the library
 -- stands-before            an element m of a list stands before any element a that stands past it
 -- Equal, OneDigest         the two strings at a place are equal, or have one digest
 -- digest-4 to digest-7, one-digest   equal strings of layer 7 hold equal digests of layer 6, and equal strings of layer 5 equal digests of layer 4;
 --                          acceptance gives one digest at layers 7 and 5
--- clash                    the first unequal pair
+-- first-unequal            the first unequal pair of the run
 -- AllEqual                 no two strings that are compared are unequal
 -- none-then, none-when     exactly then there is no unequal pair
 -- same-leaves, same-axis, same-commitments   what it says of leaves, axes and commitments
@@ -28,20 +29,27 @@ use Rattle.exchange.specs.Opening.{Exchange, leafCommitment, Accepted}
 use Rattle.exchange.specs.Opening.Laws.{commitment-disclosed}
 use Rattle.exchange.specs.Extractor.{compared, stringAt, unequalAt}
 use Rattle.exchange.specs.Extractor.Laws.{Compared, atResponse, atAxis, atCommitment, atLeaf, upper, lower, compared-is, mem-compared, compared-mem, string-6}
-use Rattle.claims.specs.Words.{At, here, later, Clash}
+use Rattle.claims.specs.Words.{At, here, later}
 use Rattle.claims.specs.Extraction.Strings.{axisStringOf, commitments-same, digests-same}
 use Rattle.claims.specs.Extraction.Leaves.{Matched, SameLeaves}
 
+pub record Alike (hash : List ℕ → ℕ → List ℕ) (p : Parameters) (key : Key) (e e′ : Exchange) : Type 0 where
+  pub matched : Matched p e e′
+  pub same-h : e .h ≡ e′ .h
+  pub same-message3 : e .message3 ≡ e′ .message3
+  pub accepted : Accepted hash p e key
+  pub accepted′ : Accepted hash p e′ key
+
 -- ---- membership
 
-pub at-member : {layer number : ℕ} {ps : List (ℕ × ℕ)} → At layer number ps → List·Memᴰ (layer, number) ps
+pub at-member : {run layer number : ℕ} {ps : List (ℕ × (ℕ × ℕ))} → At run layer number ps → List·Memᴰ (run, (layer, number)) ps
 at-member here = List·Memᴰ·head refl
 at-member (later a) = List·Memᴰ·tail (at-member a)
 
-pub member-at : (layer number : ℕ) (ps : List (ℕ × ℕ)) → List·Memᴰ (layer, number) ps → At layer number ps
-member-at layer number [] m = absurd (List·Memᴰ·not-nil m)
-member-at layer number (q ∷ ps) m =
-    ⊎-elim (λ e. subst (λ (z : ℕ × ℕ). At layer number (z ∷ ps)) e here) (λ k. later (member-at layer number ps k)) (List·Memᴰ·cases-cons m)
+pub member-at : (run layer number : ℕ) (ps : List (ℕ × (ℕ × ℕ))) → List·Memᴰ (run, (layer, number)) ps → At run layer number ps
+member-at run layer number [] m = absurd (List·Memᴰ·not-nil m)
+member-at run layer number (q ∷ ps) m =
+    ⊎-elim (λ e. subst (λ (z : ℕ × (ℕ × ℕ)). At run layer number (z ∷ ps)) e here) (λ k. later (member-at run layer number ps k)) (List·Memᴰ·cases-cons m)
 
 pub stands-before : {A : Type 0} (front : List A) (m : A) (back earlier : List A) (a : A) (rest : List A)
     → front ++ (m ∷ back) ≡ earlier ++ (a ∷ rest) → (List·Memᴰ a front → ⊥) → (a ≡ m → ⊥) → List·Memᴰ m earlier
@@ -64,7 +72,10 @@ not-upper p e e′ i m =
 -- ---- strings
 
 module _ (hash : List ℕ → ℕ → List ℕ) (hash-length : (s : List ℕ) (n : ℕ) → length (hash s n) ≡ n) (p : Parameters) (key : Key)
-    (e e′ : Exchange) (matched : Matched p e e′) where
+    (e e′ : Exchange) (alike : Alike hash p key e e′) where
+  abbrev matched : Matched p e e′
+  matched = alike .matched
+
   -- layer 6's string of axis j, counted from 0
   abbrev axisOf : Exchange → ℕ → List ℕ
   axisOf = axisStringOf hash hash-length p e e′ (matched .same-prefix) key
@@ -80,57 +91,48 @@ module _ (hash : List ℕ → ℕ → List ℕ) (hash-length : (s : List ℕ) (n
   unfoldable pub OneDigest : ℕ × ℕ → Type 0
   OneDigest a = hash (stringAt hash p key e (a .0) (a .1)) 32 ≡ hash (stringAt hash p key e′ (a .0) (a .1)) 32
 
-  module _ (accepted : Accepted hash p e key) (accepted′ : Accepted hash p e′ key) (same-h : e .h ≡ e′ .h) (same-message3 : e .message3 ≡ e′ .message3) where
-    pub digest-7 : OneDigest (7, 0)
-    unfolding OneDigest stringAt
-    digest-7 = accepted .response ∙ same-message3 ∙ sym (accepted′ .response)
+  pub digest-7 : OneDigest (7, 0)
+  unfolding OneDigest stringAt
+  digest-7 = alike .accepted .response ∙ alike .same-message3 ∙ sym (alike .accepted′ .response)
 
-    pub digest-5 : OneDigest (5, 0)
-    unfolding OneDigest stringAt
-    digest-5 = accepted .commitment ∙ same-h ∙ sym (accepted′ .commitment)
+  pub digest-5 : OneDigest (5, 0)
+  unfolding OneDigest stringAt
+  digest-5 = alike .accepted .commitment ∙ alike .same-h ∙ sym (alike .accepted′ .commitment)
 
-    pub digest-6 : Equal (7, 0) → (j : ℕ) → j < p .axes → OneDigest (6, j + 1)
-    unfolding OneDigest
-    digest-6 q j l =
-        ap (λ (s : List ℕ). hash s 32) (string-6 hash p key e j)
-        ∙ digests-same hash hash-length p e e′ (matched .same-prefix) key (unfold Equal stringAt in q) j l
-        ∙ sym (ap (λ (s : List ℕ). hash s 32) (string-6 hash p key e′ j))
+  pub digest-6 : Equal (7, 0) → (j : ℕ) → j < p .axes → OneDigest (6, j + 1)
+  unfolding OneDigest
+  digest-6 q j l =
+      ap (λ (s : List ℕ). hash s 32) (string-6 hash p key e j)
+      ∙ digests-same hash hash-length p e e′ (matched .same-prefix) key (unfold Equal stringAt in q) j l
+      ∙ sym (ap (λ (s : List ℕ). hash s 32) (string-6 hash p key e′ j))
 
-    pub digest-4 : Equal (5, 0) → (i : ℕ) → i < leaves p → (i ≡ e .leaf → ⊥) → (i ≡ e′ .leaf → ⊥) → OneDigest (4, i)
-    unfolding OneDigest stringAt
-    digest-4 q i l n n′ =
-        sym (commitment-disclosed hash p e i n)
-        ∙ commitments-same hash hash-length p e e′ (matched .same-prefix) (matched .length5) (matched .length5′) (unfold Equal stringAt in q) i l
-        ∙ commitment-disclosed hash p e′ i n′
+  pub digest-4 : Equal (5, 0) → (i : ℕ) → i < leaves p → (i ≡ e .leaf → ⊥) → (i ≡ e′ .leaf → ⊥) → OneDigest (4, i)
+  unfolding OneDigest stringAt
+  digest-4 q i l n n′ =
+      sym (commitment-disclosed hash p e i n)
+      ∙ commitments-same hash hash-length p e e′ (matched .same-prefix) (matched .length5) (matched .length5′) (unfold Equal stringAt in q) i l
+      ∙ commitment-disclosed hash p e′ i n′
 
-    -- the strings at a place that is compared have one digest, where those of the places before it are equal
-    pub one-digest : (a : ℕ × ℕ) (earlier rest : List (ℕ × ℕ)) → compared p e e′ ≡ earlier ++ (a ∷ rest) → Compared p e e′ a
-        → ((b : ℕ × ℕ) → List·Memᴰ b earlier → Equal b) → OneDigest a
-    one-digest a earlier rest q atResponse equal = digest-7
-    one-digest a earlier rest q (atAxis j l) equal =
-        digest-6 (equal (7, 0) (stands-before [] (7, 0) (listed (λ j. (6, j + 1)) (p .axes) ++ ((5, 0) ∷ lower p e e′)) earlier (6, j + 1) rest
-        (sym (compared-is p e e′) ∙ q) List·Memᴰ·not-nil (other-layer 6 7 (j + 1) 0 (λ z. omega arith)))) j l
-    one-digest a earlier rest q atCommitment equal = digest-5
-    one-digest a earlier rest q (atLeaf i l n n′) equal =
-        digest-4 (equal (5, 0) (stands-before (upper p e e′) (5, 0) (lower p e e′) earlier (4, i) rest
-        (sym (compared-is p e e′) ∙ q) (not-upper p e e′ i) (other-layer 4 5 i 0 (λ z. omega arith)))) i l n n′
+  -- the strings at a place that is compared have one digest, where those of the places before it are equal
+  pub one-digest : (a : ℕ × ℕ) (earlier rest : List (ℕ × ℕ)) → compared p e e′ ≡ earlier ++ (a ∷ rest) → Compared p e e′ a
+      → ((b : ℕ × ℕ) → List·Memᴰ b earlier → Equal b) → OneDigest a
+  one-digest a earlier rest q atResponse equal = digest-7
+  one-digest a earlier rest q (atAxis j l) equal =
+      digest-6 (equal (7, 0) (stands-before [] (7, 0) (listed (λ j. (6, j + 1)) (p .axes) ++ ((5, 0) ∷ lower p e e′)) earlier (6, j + 1) rest
+      (sym (compared-is p e e′) ∙ q) List·Memᴰ·not-nil (other-layer 6 7 (j + 1) 0 (λ z. omega arith)))) j l
+  one-digest a earlier rest q atCommitment equal = digest-5
+  one-digest a earlier rest q (atLeaf i l n n′) equal =
+      digest-4 (equal (5, 0) (stands-before (upper p e e′) (5, 0) (lower p e e′) earlier (4, i) rest
+      (sym (compared-is p e e′) ∙ q) (not-upper p e e′ i) (other-layer 4 5 i 0 (λ z. omega arith)))) i l n n′
 
-    -- the first of the unequal pairs
-    pub clash : (a : ℕ × ℕ) (rest : List (ℕ × ℕ)) → unequalAt hash p key e e′ ≡ a ∷ rest → Clash hash p key e e′ (a .0) (a .1)
-    unfolding unequalAt differs
-    clash a rest q =
-        let f = those-first differs (compared p e e′) a rest q in
-        record {
-          earlier = f .before;
-          later = f .after;
-          is-compared = f .is;
-          first = λ l n m. eqList-true _ _ (not-false _ (f .fail (l, n) (at-member m)));
-          unequal = eqList-false _ _ (not-true _ (f .passes));
-          one-digest =
-              unfold OneDigest in
-              one-digest a (f .before) (f .after) (f .is) (compared-mem p e e′ a (rw (f .is) (Memᴰ·append-right (f .before) (List·Memᴰ·head refl))))
-              (λ b m. unfold Equal in eqList-true _ _ (not-false _ (f .fail b m)));
-        }
+  pub first-unequal : (a : ℕ × ℕ) (rest : List (ℕ × ℕ)) → unequalAt hash p key e e′ ≡ a ∷ rest → (Equal a → ⊥) × OneDigest a
+  unfolding unequalAt differs
+  first-unequal a rest q =
+      let f = those-first differs (compared p e e′) a rest q in (
+        unfold Equal in eqList-false _ _ (not-true _ (f .passes)),
+        one-digest a (f .before) (f .after) (f .is) (compared-mem p e e′ a (rw (f .is) (Memᴰ·append-right (f .before) (List·Memᴰ·head refl))))
+            (λ b m. unfold Equal in eqList-true _ _ (not-false _ (f .fail b m))),
+      )
 
   -- ---- none is unequal
 

@@ -1,212 +1,203 @@
 -- Demand 3, first half: its proof.
 --
--- matched-of           what two comparable openings have in common
 -- call-is              the call past its checks: what the strings give
--- states-hold          where no two strings are unequal, the output is every leaf's state
+-- part-is, part-stays  the part of a run in the output
+-- same-there           where none are unequal, all that are compared are equal
 -- extracts             the claim, for every hash: of it only the length of what it gives is used
 use mathlib.Core.Path.{_≡_, refl, sym, ap, _∙_, subst}
-use mathlib.Core.List.{List, [], _∷_}
-use Prim.Native.Nat.{ℕ, _-_, _≤_, _<_}
-use native.Mathlib.Decide.{ℕ-discrete}
+use mathlib.Core.Bool.{Bool, true, false, not}
+use mathlib.Core.List.{List, [], _∷_, List·Memᴰ}
+use Prim.Native.Nat.{ℕ, _≤_, _<_}
 use native.Mathlib.Omega.{arith}
-use borrow.Author.Tests.{eq-eqb, ne-eqb, le-leb, lt-ltb}
-use lib.ListN.{length, take, drop}
-use Rattle.lists.specs.Equal.Laws.{eqList-of}
+use borrow.Author.Tests.{eq-eqb, le-leb, not-false}
+use lib.ListN.{length}
+use Rattle.lists.specs.Equal.{eqList}
+use Rattle.lists.specs.Equal.Laws.{eqList-of, eqList-true}
 use Rattle.answers.specs.declared.Answer.the-variants.{Done}
 use Rattle.parameters.specs.declared.Parameters.{Parameters}
 use Rattle.parameters.specs.Limits.Laws.{within-test}
-use Rattle.layout.specs.Layout.{leaves, workLength, outputLength, yLength}
-use Rattle.layout.specs.Layout.Laws.{leaves-pos, isLast-true}
-use Rattle.exchange.specs.FirstAxis.{firstAxis, first-inside, first-apart}
-use Rattle.exchange.specs.Strings.{string4}
-use Rattle.exchange.specs.Leaf.{commitment}
-use Rattle.exchange.specs.Leaf.Laws.{SameAux, string4-ext}
+use Rattle.layout.specs.Layout.{workLength, outputLength}
+use Rattle.layout.specs.Runs.{outputsLength}
+use Rattle.layout.specs.Runs.Laws.{within-runs}
+use Rattle.exchange.specs.Sequences.Laws.{those-none, none-those, those-first}
 use Rattle.exchange.specs.Values.{Key}
-use Rattle.exchange.specs.Opening.{Exchange, exchange, auxOf, openedState, leafString, leafCommitment}
-use Rattle.exchange.specs.Opening.Laws.{accepted-when, commitment-disclosed}
-use Rattle.exchange.specs.Extractor.{axis, output, unequalAt, finding, extract}
-use Rattle.calls.specs.Extractor.{Transcript, exchangeOf, pair, filled, Outcome, extractLengths, sameStatement, earlyChecks, found, second, first, early, extraction}
-use Rattle.claims.specs.Words.{Comparable, States, leafState, auxState}
-use Rattle.claims.specs.Extraction.{Extracts}
-use Rattle.claims.specs.Extraction.Leaves.{Matched, from-first, from-second, leafState-is, auxState-is}
-use Rattle.claims.specs.Extraction.Relation.{witness-holds}
-use Rattle.claims.specs.Extraction.Compared.{at-member, member-at, AllEqual, Equal, clash, none-then, none-when, same-leaves, same-axis, same-commitments}
+use Rattle.exchange.specs.Extractor.{axis, output}
+use Rattle.runs.specs.Messages.{leafAt}
+use Rattle.runs.specs.Opening.{Transcript, exchangeAt}
+use Rattle.runs.specs.Opening.Laws.{accepted-when}
+use Rattle.runs.specs.Extractor.{compared, differs, lowestRun, outputs, stringAt, unequalAt, finding, extract}
+use Rattle.runs.specs.Extractor.Laws.{differs-when, differs-then, differs-not, lowest-run, none-then, first-then}
+use Rattle.runs.specs.Extractor.Output.{length-outputs, part-extracted, part-untouched}
+use Rattle.calls.specs.Lengths.Laws.{below-leaves}
+use Rattle.calls.specs.Extractor.{pair, filled, Outcome, extractLengths, sameStatement, earlyChecks, found, second, first, early, extraction}
+use Rattle.claims.specs.Words.{Apart, Comparable, runPart, Same, Clash, States}
+use Rattle.claims.specs.Extraction.{Filled, Extracts}
+use Rattle.claims.specs.Extraction.Compared.{at-member, member-at, Equal, OneDigest, first-unequal}
+use Rattle.claims.specs.Extraction.Runs.{alike-of, length-part5, run-states}
 
--- ---- the states
-
-module _ (hash : List ℕ → ℕ → List ℕ) (hash-length : (s : List ℕ) (n : ℕ) → length (hash s n) ≡ n) (p : Parameters) (key : Key)
-    (short : p .k < p .m) (y-length : length (key .y) ≡ yLength p) (e e′ : Exchange) (matched : Matched p e e′)
-    (all-equal : AllEqual hash hash-length p key e e′ matched) where
-  abbrev taken : List ℕ
-  taken = output hash p e e′
-
-  agree : (i : ℕ) → i < leaves p → (i ≡ e .leaf → ⊥) → (i ≡ e′ .leaf → ⊥) → leafString hash p e i ≡ leafString hash p e′ i
-  agree = same-leaves hash hash-length p key e e′ matched all-equal
-
-  -- the state of a leaf in the output, and aux, is the one that an opening discloses
-  out-first : (i : ℕ) → i < leaves p → (i ≡ e .leaf → ⊥) → (leafState taken i ≡ openedState hash p e i) × SameAux p i (auxState p taken) (auxOf p e)
-  out-first i l n =
-      let f = from-first hash hash-length p e e′ matched i n in
-      (leafState-is hash hash-length p e e′ matched i l ∙ f .0, λ t. auxState-is hash hash-length p e e′ matched ∙ f .1 t)
-
-  out-second : (i : ℕ) → i < leaves p → (i ≡ e′ .leaf → ⊥) → (leafState taken i ≡ openedState hash p e′ i) × SameAux p i (auxState p taken) (auxOf p e′)
-  out-second i l n =
-      let f = from-second hash hash-length p e e′ matched agree i l n in
-      (leafState-is hash hash-length p e e′ matched i l ∙ f .0, λ t. auxState-is hash hash-length p e e′ matched ∙ f .1 t)
-
-  commits-first : (i : ℕ) → i < leaves p → (i ≡ e .leaf → ⊥)
-      → commitment hash p (e .prefix) i (leafState taken i) (auxState p taken) ≡ leafCommitment hash p e i
-  unfolding commitment leafString
-  commits-first i l n =
-      let f = out-first i l n in
-      ap (λ (s : List ℕ). hash s 32) (string4-ext p (e .prefix) i _ _ _ _ (f .0) (f .1)) ∙ sym (commitment-disclosed hash p e i n)
-
-  commits-second : (i : ℕ) → i < leaves p → (i ≡ e′ .leaf → ⊥)
-      → commitment hash p (e .prefix) i (leafState taken i) (auxState p taken) ≡ leafCommitment hash p e′ i
-  unfolding commitment leafString
-  commits-second i l n =
-      let f = out-second i l n in
-      ap (λ (s : List ℕ). hash s 32)
-      (string4-ext p (e .prefix) i _ _ _ _ (f .0) (f .1)
-      ∙ ap (λ (s : List ℕ). string4 p s i (openedState hash p e′ i) (auxOf p e′)) (matched .same-prefix))
-      ∙ sym (commitment-disclosed hash p e′ i n)
-
-  same-commitment : (i : ℕ) → i < leaves p → leafCommitment hash p e i ≡ leafCommitment hash p e′ i
-  same-commitment = same-commitments hash hash-length p key e e′ matched all-equal
-
-  commits : (i : ℕ) → i < leaves p → commitment hash p (e .prefix) i (leafState taken i) (auxState p taken) ≡ leafCommitment hash p e i
-  commits i l = go (ℕ-discrete i (e .leaf))
-    where
-      go : Dec (i ≡ e .leaf) → commitment hash p (e .prefix) i (leafState taken i) (auxState p taken) ≡ leafCommitment hash p e i
-      go (yes z) = commits-second i l (λ z′. matched .apart (sym z ∙ z′)) ∙ sym (same-commitment i l)
-      go (no n) = commits-first i l n
-
-  last-leaf : leaves p - 1 < leaves p
-  last-leaf = let h = leaves-pos p in omega arith
-
-  -- the relation comes from the first axis on which the hidden leaves differ
-  pub states-hold : States hash p key e e′ taken
-  states-hold = record {
-    opened = λ i l n. out-first i l n .0;
-    opened′ = λ i l n. out-second i l n .0;
-    aux = λ n. out-first (leaves p - 1) last-leaf n .1 (isLast-true p (leaves p - 1) refl);
-    aux′ = λ n. out-second (leaves p - 1) last-leaf n .1 (isLast-true p (leaves p - 1) refl);
-    commitments = commits;
-    commitments′ = λ i l. commits i l ∙ same-commitment i l;
-    witness =
-        witness-holds hash hash-length p key short y-length e e′ matched agree (firstAxis p (e .leaf) (e′ .leaf))
-        (first-apart p (e .leaf) (e′ .leaf) (matched .inside) (matched .inside′) (matched .apart))
-        (same-axis hash hash-length p key e e′ matched all-equal (firstAxis p (e .leaf) (e′ .leaf))
-        (first-inside p (e .leaf) (e′ .leaf) (matched .inside) (matched .inside′) (matched .apart)));
-  }
+not-equal : (a b : List ℕ) → (a ≡ b → ⊥) → eqList a b ≡ false
+not-equal a b n = go (eqList a b) refl
+  where
+    go : (t : Bool) → eqList a b ≡ t → eqList a b ≡ false
+    go true e = absurd (n (eqList-true a b e))
+    go false e = e
 
 -- ---- the call
 
-module _ (hash : List ℕ → ℕ → List ℕ) (p : Parameters) (key : Key) (t t′ : Transcript) (c : Comparable hash p key t t′) where
-  pub matched-of : Matched p (exchangeOf t) (exchangeOf t′)
-  unfolding exchangeOf exchange
-  matched-of = record {
-    same-prefix = ap (take 32) (c .salt-and-h);
-    same-message2 = c .points-and-multipliers;
-    inside = c .sent .leaf;
-    inside′ = c .sent′ .leaf;
-    apart = c .hidden;
-    length5 = c .sent .message5;
-    length5′ = c .sent′ .message5;
-  }
-
-  module _ (work out : List ℕ) (work-length : workLength p ≤ length work) (out-length : length out ≡ outputLength p) where
-    checks-pass : earlyChecks hash p t t′ key work out ≡ Done
+module _ (hash : List ℕ → ℕ → List ℕ) (p : Parameters) (runs : ℕ) (key : Key) (t t′ : Transcript) (c : Comparable hash p runs key t t′) where
+  module _ (work out : List ℕ) (work-length : workLength p ≤ length work) (out-length : length out ≡ outputsLength p runs) where
+    checks-pass : earlyChecks hash p runs t t′ key work out ≡ Done
     unfolding earlyChecks extractLengths sameStatement
     checks-pass =
         simp (
           within-test p (c .within),
+          within-runs runs (c .counted),
           eq-eqb _ _ (c .sent .message1),
           eq-eqb _ _ (c .sent .message2),
           eq-eqb _ _ (c .sent .message3),
+          eq-eqb _ _ (c .sent .message4),
           eq-eqb _ _ (c .sent .message5),
           eq-eqb _ _ (c .sent′ .message1),
           eq-eqb _ _ (c .sent′ .message2),
           eq-eqb _ _ (c .sent′ .message3),
+          eq-eqb _ _ (c .sent′ .message4),
           eq-eqb _ _ (c .sent′ .message5),
           eq-eqb _ _ (c .lent .matrix),
           eq-eqb _ _ (c .lent .y),
           le-leb _ _ work-length,
           eq-eqb _ _ out-length,
-          lt-ltb _ _ (c .sent .leaf),
-          lt-ltb _ _ (c .sent′ .leaf),
+          below-leaves p (t .leaves) (λ e l. c .sent .below e (let k = c .sent .message4 in omega arith)),
+          below-leaves p (t′ .leaves) (λ e l. c .sent′ .below e (let k = c .sent′ .message4 in omega arith)),
           eqList-of _ _ (c .salt-and-h),
           eqList-of _ _ (c .points-and-multipliers),
           eqList-of _ _ (c .response),
-          ne-eqb _ _ (c .hidden),
+          not-equal _ _ (c .hidden),
         )
 
-    pub call-is : (us : List (ℕ × ℕ)) → unequalAt hash p key (exchangeOf t) (exchangeOf t′) ≡ us
-        → extraction hash p t t′ key work out
-        ≡ found hash p t t′ key work out (finding hash p key (exchangeOf t) (exchangeOf t′) us)
+    call-is : (us : List (ℕ × (ℕ × ℕ))) → unequalAt hash p runs key t t′ ≡ us
+        → extraction hash p runs t t′ key work out ≡ found hash p runs t t′ key work out (finding hash p runs key t t′ out us)
     unfolding extraction early first second extract
     call-is us q =
         rw (
           checks-pass,
-          accepted-when hash p (exchangeOf t) key (c .accepted),
-          accepted-when hash p (exchangeOf t′) key (c .accepted′),
+          accepted-when hash p runs t key (c .accepted),
+          accepted-when hash p runs t′ key (c .accepted′),
           q,
         )
 
-    answer-unequal : (a : ℕ × ℕ) (rest : List (ℕ × ℕ)) → unequalAt hash p key (exchangeOf t) (exchangeOf t′) ≡ a ∷ rest
-        → (extraction hash p t t′ key work out .answer ≡ pair (a .0) (a .1)) × (extraction hash p t t′ key work out .out ≡ out)
+    pub answer-unequal : (a : ℕ × (ℕ × ℕ)) (rest : List (ℕ × (ℕ × ℕ))) → unequalAt hash p runs key t t′ ≡ a ∷ rest
+        → (extraction hash p runs t t′ key work out .answer ≡ pair (a .0) (a .1 .0) (a .1 .1)) × (extraction hash p runs t t′ key work out .out ≡ out)
     unfolding found finding
     answer-unequal a rest q = (ap (λ (o : Outcome). o .answer) (call-is (a ∷ rest) q), ap (λ (o : Outcome). o .out) (call-is (a ∷ rest) q))
 
-    answer-states : unequalAt hash p key (exchangeOf t) (exchangeOf t′) ≡ []
-        → (extraction hash p t t′ key work out .answer ≡ filled (axis p (exchangeOf t) (exchangeOf t′)))
-        × (extraction hash p t t′ key work out .out ≡ output hash p (exchangeOf t) (exchangeOf t′))
+    pub answer-states : unequalAt hash p runs key t t′ ≡ []
+        → (extraction hash p runs t t′ key work out .answer
+        ≡ filled (lowestRun p runs t t′) (axis p (exchangeAt p t (lowestRun p runs t t′)) (exchangeAt p t′ (lowestRun p runs t t′))))
+        × (extraction hash p runs t t′ key work out .out ≡ outputs hash p runs t t′ out)
     unfolding found finding
     answer-states q = (ap (λ (o : Outcome). o .answer) (call-is [] q), ap (λ (o : Outcome). o .out) (call-is [] q))
+
+  -- ---- the output
+
+  module _ (hash-length : (s : List ℕ) (n : ℕ) → length (hash s n) ≡ n) (out : List ℕ) (out-length : length out ≡ outputsLength p runs) where
+    part-length : (e : ℕ) → e < runs → differs t t′ e ≡ true → length (output hash p (exchangeAt p t e) (exchangeAt p t′ e)) ≡ outputLength p
+    part-length e l d = length-part5 hash p runs key t t′ c e l (differs-then t t′ e d) hash-length
+
+    pub part-is : (e : ℕ) → e < runs → Apart t t′ e → runPart p (outputs hash p runs t t′ out) e ≡ output hash p (exchangeAt p t e) (exchangeAt p t′ e)
+    unfolding runPart
+    part-is e l n = part-extracted hash p runs t t′ out out-length part-length e l (differs-when t t′ e n)
+
+    part-stays : (e : ℕ) → e < runs → leafAt (t .leaves) e ≡ leafAt (t′ .leaves) e → runPart p (outputs hash p runs t t′ out) e ≡ runPart p out e
+    unfolding runPart
+    part-stays e l q = part-untouched hash p runs t t′ out out-length part-length e l (differs-not t t′ e q)
+
+    length-written : length (outputs hash p runs t t′ out) ≡ length out
+    length-written = length-outputs hash p runs t t′ out out-length part-length ∙ sym out-length
+
+    -- where no two strings are unequal
+    filled-by : unequalAt hash p runs key t t′ ≡ [] → (o : Outcome)
+        → o .answer ≡ filled (lowestRun p runs t t′) (axis p (exchangeAt p t (lowestRun p runs t t′)) (exchangeAt p t′ (lowestRun p runs t t′)))
+        → o .out ≡ outputs hash p runs t t′ out → Filled hash p runs key t t′ out o
+    filled-by q o a b =
+        let lowest = lowest-run t t′ p runs (c .sent .message4) (c .sent′ .message4) (c .hidden) in
+        record {
+          run = lowestRun p runs t t′;
+          inside = lowest .inside;
+          apart = lowest .apart;
+          lowest = lowest .before;
+          answer = a;
+          extracted = λ e l n.
+              subst (States hash p key (exchangeAt p t e) (exchangeAt p t′ e)) (sym (ap (λ (s : List ℕ). runPart p s e) b ∙ part-is e l n))
+              (run-states hash p runs key t t′ c e l n hash-length (none-then hash p runs key t t′ q e l (differs-when t t′ e n)));
+          untouched = λ e l z. ap (λ (s : List ℕ). runPart p s e) b ∙ part-stays e l z;
+          no-more = ap length b ∙ length-written;
+        }
+
+  -- ---- the first unequal pair
+
+  module _ (hash-length : (s : List ℕ) (n : ℕ) → length (hash s n) ≡ n) where
+    abbrev unlike : ℕ × (ℕ × ℕ) → Bool
+    unlike a = not (eqList (stringAt hash p runs key t a) (stringAt hash p runs key t′ a))
+
+    clash : (a : ℕ × (ℕ × ℕ)) (rest : List (ℕ × (ℕ × ℕ))) → unequalAt hash p runs key t t′ ≡ a ∷ rest
+        → Clash hash p runs key t t′ (a .0) (a .1 .0) (a .1 .1)
+    unfolding unequalAt
+    clash a rest q =
+        let f = those-first unlike (compared p runs t t′) a rest q in
+        let g = first-then hash p runs key t t′ a rest (unfold unequalAt in q) in
+        let n = differs-then t t′ (a .0) (g .differ) in
+        let h = first-unequal hash hash-length p key (exchangeAt p t (a .0)) (exchangeAt p t′ (a .0)) (alike-of hash p runs key t t′ c (a .0) (g .inside) n)
+        (a .1) (g .rest) (g .is) in
+        record {
+          apart = n;
+          earlier = f .before;
+          later = f .after;
+          is-compared = f .is;
+          first = λ r l n m. eqList-true _ _ (not-false _ (f .fail (r, (l, n)) (at-member m)));
+          unequal = unfold stringAt Equal in h .0;
+          one-digest = unfold stringAt OneDigest in h .1;
+        }
+
+    -- places at which no two strings are unequal
+    pub same-there : unequalAt hash p runs key t t′ ≡ [] → (a : ℕ × (ℕ × ℕ)) → List·Memᴰ a (compared p runs t t′)
+        → stringAt hash p runs key t a ≡ stringAt hash p runs key t′ a
+    unfolding unequalAt
+    same-there q a m = eqList-true _ _ (not-false _ (none-those unlike (compared p runs t t′) q a m))
+
+    pub none-unequal : ((run layer number : ℕ) → List·Memᴰ (run, (layer, number)) (compared p runs t t′) → Same hash p runs key t t′ run layer number)
+        → unequalAt hash p runs key t t′ ≡ []
+    unfolding unequalAt
+    none-unequal h = those-none unlike (compared p runs t t′) (λ a m. rw (eqList-of _ _ (h (a .0) (a .1 .0) (a .1 .1) m)))
 
 -- ---- the claim
 
 pub extracts : (hash : List ℕ → ℕ → List ℕ) → ((s : List ℕ) (n : ℕ) → length (hash s n) ≡ n)
-    → (p : Parameters) (key : Key) (t t′ : Transcript) (work out : List ℕ) → Comparable hash p key t t′
-    → workLength p ≤ length work → length out ≡ outputLength p → Extracts hash p key t t′ work out
-extracts hash hash-length p key t t′ work out c wl ol = go (unequalAt hash p key (exchangeOf t) (exchangeOf t′)) refl
+    → (p : Parameters) (runs : ℕ) (key : Key) (t t′ : Transcript) (work out : List ℕ) → Comparable hash p runs key t t′
+    → workLength p ≤ length work → length out ≡ outputsLength p runs → Extracts hash p runs key t t′ work out
+extracts hash hash-length p runs key t t′ work out c wl ol = go (unequalAt hash p runs key t t′) refl
   where
-    matched : Matched p (exchangeOf t) (exchangeOf t′)
-    matched = matched-of hash p key t t′ c
-
-    go : (us : List (ℕ × ℕ)) → unequalAt hash p key (exchangeOf t) (exchangeOf t′) ≡ us → Extracts hash p key t t′ work out
+    go : (us : List (ℕ × (ℕ × ℕ))) → unequalAt hash p runs key t t′ ≡ us → Extracts hash p runs key t t′ work out
     go [] q =
-        let given = answer-states hash p key t t′ c work out wl ol q in
-        let all-equal = none-then hash hash-length p key (exchangeOf t) (exchangeOf t′) matched q in
+        let given = answer-states hash p runs key t t′ c work out wl ol q in
         record {
           never-refused = λ n z. let e = given .0 in let y : _≡_ {A = ℕ} 0 1 = cc in omega arith;
-          named = λ layer number z. absurd (let e = given .0 in let y : _≡_ {A = ℕ} 0 1 = cc in omega arith);
-          names = λ layer number m n. absurd (n (unfold Equal in all-equal (layer, number) (at-member m)));
-          otherwise = λ h. (
-            given .0,
-            subst (States hash p key (exchangeOf t) (exchangeOf t′)) (sym (given .1))
-                (states-hold hash hash-length p key (c .within .k-most) (c .lent .y) (exchangeOf t) (exchangeOf t′) matched all-equal),
-          );
+          named = λ run layer number z. absurd (let e = given .0 in let y : _≡_ {A = ℕ} 0 1 = cc in omega arith);
+          names = λ run layer number m n. absurd (n (same-there hash p runs key t t′ c hash-length q (run, (layer, number)) (at-member m)));
+          otherwise = λ h. filled-by hash p runs key t t′ c hash-length out ol q _ (given .0) (given .1);
         }
     go (a ∷ rest) q =
-        let given = answer-unequal hash p key t t′ c work out wl ol a rest q in
-        let found = clash hash hash-length p key (exchangeOf t) (exchangeOf t′) matched (c .accepted) (c .accepted′) same-h same-message3 a rest q in
+        let given = answer-unequal hash p runs key t t′ c work out wl ol a rest q in
+        let found = clash hash p runs key t t′ c hash-length a rest q in
         record {
           never-refused = λ n z. let e = given .0 in let y : _≡_ {A = ℕ} 0 1 = cc in omega arith;
-          named = λ layer number z.
-              let l : a .0 ≡ layer = cc (given .0) in
-              let n : a .1 ≡ number = cc (given .0) in
-              (rw (l, n) at found, given .1);
-          names = λ layer number m n. (a .0, a .1, given .0);
-          otherwise = λ h. absurd (none-left q (none-when hash hash-length p key (exchangeOf t) (exchangeOf t′) matched
-              (unfold Equal in (λ b m. h (b .0) (b .1) (member-at (b .0) (b .1) _ m)))));
+          named = λ run layer number z.
+              let r : a .0 ≡ run = cc (given .0) in
+              let l : a .1 .0 ≡ layer = cc (given .0) in
+              let n : a .1 .1 ≡ number = cc (given .0) in
+              (rw (r, l, n) at found, given .1);
+          names = λ run layer number m n. (a .0, a .1 .0, a .1 .1, given .0);
+          otherwise = λ h. absurd (none-left q (none-unequal hash p runs key t t′ c hash-length (λ r l n m. h r l n (member-at r l n _ m))));
         }
       where
-        same-h : exchangeOf t .h ≡ exchangeOf t′ .h
-        same-h = unfold exchangeOf exchange in ap (drop 32) (c .salt-and-h)
-
-        same-message3 : exchangeOf t .message3 ≡ exchangeOf t′ .message3
-        same-message3 = unfold exchangeOf exchange in c .response
-
-        none-left : {us : List (ℕ × ℕ)} → us ≡ a ∷ rest → us ≡ [] → ⊥
+        none-left : {us : List (ℕ × (ℕ × ℕ))} → us ≡ a ∷ rest → us ≡ [] → ⊥
         none-left q n = let z : _≡_ {A = ℕ} 0 1 = cc in omega arith

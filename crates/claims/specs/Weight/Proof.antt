@@ -1,187 +1,227 @@
--- Demand 3, second half: its proof.
+-- Demand 3, second half: its proof. Run e of the pairs that count is a free list of openings under one prefix and h.
 --
--- relation-met          the relation of a pair that meets r with ε, over the sums of any one pair of the list
+-- each-in               what holds of each element of a list holds of one that stands in it
+-- in-one, in-other      run e of a pair that counts stands in the list of openings
+-- paired                and it is a pair of that list
+-- none-in               in a free list no two strings that the extractor compares in the run are unequal
+-- written               what the call writes for such a pair
 -- low-claim             the claim for every hash, of which only the length of what it gives is used
 -- weight-claim          the claim for a hash that gives bytes, and messages of bytes
-use mathlib.Core.Path.{_≡_, sym, ap, _∙_, subst}
-use mathlib.Core.Bool.{true}
-use mathlib.Core.List.{List, [], _∷_}
-use Prim.Native.Nat.{ℕ, _+_, _-_, _≤_, _<_}
-use native.Mathlib.Nat.{le-of-eq}
-use native.Mathlib.Decide.{ℕ-discrete}
+use mathlib.Core.Path.{_≡_, refl, sym, ap, ap₂, _∙_}
+use mathlib.Core.Bool.{Bool, true, false, cond}
+use mathlib.Core.List.{List, [], _∷_, _++_}
+use Prim.Native.Nat.{ℕ, _+_, _≤_, _<_}
 use native.Mathlib.Omega.{arith}
-use lib.ListN.{length, replicate, length-replicate}
+use lib.ListN.{length, take, drop}
 use Rattle.algebra.specs.Each.{Each, Distinct}
 use Rattle.algebra.specs.Each.Laws.{each-map}
+use Rattle.lists.specs.Part.{part}
 use Rattle.tower.specs.Field.{Point}
 use Rattle.parameters.specs.declared.Parameters.{Parameters}
 use Rattle.parameters.specs.Limits.{Within}
 use Rattle.polynomial.specs.Bytes.{Bytes}
+use Rattle.polynomial.specs.Bytes.Laws.{bytes-take}
 use Rattle.relation.specs.Key.{weightOf}
-use Rattle.layout.specs.Layout.{leaves, valuesLength, atQ, siblingsLength, workLength, outputLength}
+use Rattle.layout.specs.Layout.{message5Length, workLength, prefixLength, yLength}
+use Rattle.layout.specs.Runs.{message5Place, outputsLength}
 use Rattle.exchange.specs.Sequences.Laws.{bytes-drop}
-use Rattle.exchange.specs.Reading.{bytesAt, _⊞_, _⊠_}
-use Rattle.exchange.specs.Reading.Laws.{length-bytesAt}
-use Rattle.exchange.specs.Leaf.Laws.{bytes-share}
-use Rattle.exchange.specs.Values.Relation.{Relation}
-use Rattle.exchange.specs.Values.{Key, xOf, POf, F}
-use Rattle.exchange.specs.Values.Laws.{length-POf}
-use Rattle.exchange.specs.Opening.{exchange, auxOf}
-use Rattle.calls.specs.Extractor.{Transcript, exchangeOf, extraction}
-use Rattle.claims.specs.Words.{leafState, auxState, leafShare, summed, States, xSum, QSum, PSum, aSum, bSum, cSum}
-use Rattle.claims.specs.Extraction.Sums.{length-summed, length-xSum, bytes-xSum, whole-ext, sums-when, sums-then, xSum-is}
-use Rattle.claims.specs.Weight.{Pair, lowBytes, InBytes, In, openings, Meets, MeetsTwice, Under, Free, Meeting, xOfPair, Gives, OneX, OneLightX}
-use Rattle.claims.specs.Weight.Light.{lowBytes-bytes, Twice, defect, light-low}
-use Rattle.claims.specs.Weight.Common.{each-in, good, pair-given, pairShares, one-share}
+use Rattle.exchange.specs.Values.{Key}
+use Rattle.exchange.specs.Opening.{Exchange, exchange}
+use Rattle.exchange.specs.Extractor.{unequalAt as runUnequal}
+use Rattle.runs.specs.Run.{runPrefix}
+use Rattle.runs.specs.Messages.{leafAt}
+use Rattle.runs.specs.Opening.{Transcript, message1At, message5At, exchangeAt}
+use Rattle.runs.specs.Extractor.{differs, unequalAt}
+use Rattle.runs.specs.Extractor.Laws.{differs-when, differs-then, none-when, first-then}
+use Rattle.calls.specs.Extractor.{filled, extraction}
+use Rattle.claims.specs.Words.{Comparable, runPart, States}
+use Rattle.claims.specs.Extraction.Runs.{alike-of}
+use Rattle.claims.specs.Extraction.Proof.{answer-unequal, answer-states, part-is}
+use Rattle.claims.specs.Weight.{Pair, Differ, lowBytes, InBytes, In, here, later, openings, MeetsTwice, Free, Under, Meeting, partFor, xOfPair, Wrote, wrote, elsewhere, Gives, OneX, OneLightX}
+use Rattle.claims.specs.Weight.Light.{lowBytes-bytes}
+use Rattle.claims.specs.Weight.Common.{none-unequal, pair-states, Paired}
+use Rattle.claims.specs.Weight.Core.{Met, same-x, bytes-x, light-x}
 
-module _ (hash : List ℕ → ℕ → List ℕ) (hash-length : (s : List ℕ) (n : ℕ) → length (hash s n) ≡ n) (p : Parameters) (key : Key) (m1 : List ℕ)
-    (qs : List Pair) (under : Each (Under hash p key m1) qs) (free : Free hash p key (openings qs)) where
-  -- slices of zeros, with which each pair is compared
-  abbrev work : List ℕ
-  work = replicate (workLength p) 0
+each-in : {A : Type 0} (P : A → Type 0) {a : A} {l : List A} → Each P l → In a l → P a
+each-in P h here = h .0
+each-in P h (later i) = each-in P (h .1) i
 
-  abbrev out : List ℕ
-  out = replicate (outputLength p) 0
+bytes-part : (p : Parameters) (t : Transcript) (e : ℕ) → Bytes (t .message5) → Bytes (exchangeAt p t e .message5)
+unfolding exchangeAt exchange message5At part
+bytes-part p t e b =
+    bytes-take (message5Length p (leafAt (t .leaves) e)) (drop (message5Place p (t .leaves) e) (t .message5))
+    (bytes-drop (message5Place p (t .leaves) e) (t .message5) b)
 
-  work-length : workLength p ≤ length work
-  work-length = le-of-eq (sym (length-replicate (workLength p) 0))
+-- ---- the openings of the pairs that count
 
-  out-length : length out ≡ outputLength p
-  out-length = length-replicate (outputLength p) 0
+module _ (p : Parameters) (e : ℕ) where
+  in-later : {y : Exchange} (q : Pair) (qs : List Pair) → In y (openings p e qs) → In y (openings p e (q ∷ qs))
+  unfolding openings
+  in-later {y} q qs i = go (differs (q .one) (q .other) e)
+    where
+      go : (d : Bool) → In y (cond d (exchangeAt p (q .one) e ∷ exchangeAt p (q .other) e ∷ openings p e qs) (openings p e qs))
+      go true = later (later i)
+      go false = i
 
-  abbrev shares : Pair → ℕ → List ℕ
-  shares q = pairShares hash hash-length p key m1 qs under free q work out
+  in-one : {q : Pair} {qs : List Pair} → In q qs → Differ e q → In (exchangeAt p (q .one) e) (openings p e qs)
+  in-one {q} here d = unfold openings in rw (differs-when (q .one) (q .other) e d) here
+  in-one (later {b} {bs} i) d = in-later b bs (in-one i d)
 
-  -- ---- one pair's sums serve for all
+  in-other : {q : Pair} {qs : List Pair} → In q qs → Differ e q → In (exchangeAt p (q .other) e) (openings p e qs)
+  in-other {q} here d = unfold openings in rw (differs-when (q .one) (q .other) e d) (later here)
+  in-other (later {b} {bs} i) d = in-later b bs (in-other i d)
 
-  module _ {q₀ : Pair} (i₀ : In q₀ qs) where
-    -- the low coefficients of the summed Q
-    lowQ : List ℕ
-    lowQ = summed (p .w) (λ i. bytesAt (shares q₀ i) (atQ p) (p .w)) (leaves p)
+-- ---- a pair
 
-    x₀ : List ℕ
-    x₀ = xSum p key (shares q₀)
+module _ (hash : List ℕ → ℕ → List ℕ) (hash-length : (s : List ℕ) (n : ℕ) → length (hash s n) ≡ n) (p : Parameters) (runs : ℕ) (key : Key) where
+  module _ (e : ℕ) (run : e < runs) (qs : List Pair) (free : Free hash p key (openings p e qs)) {q : Pair} (i : In q qs)
+      (c : Comparable hash p runs key (q .one) (q .other)) (counts : Differ e q) where
+    none-in : runUnequal hash p key (exchangeAt p (q .one) e) (exchangeAt p (q .other) e) ≡ []
+    none-in =
+        none-unequal hash hash-length p key (openings p e qs) free (in-one p e i counts) (in-other p e i counts)
+        (alike-of hash p runs key (q .one) (q .other) c e run counts)
 
-    length-x₀ : length x₀ ≡ p .m
-    unfolding x₀
-    length-x₀ = length-xSum p key (good hash hash-length p key m1 qs under free i₀ .comparable .within .k-most)
-        (good hash hash-length p key m1 qs under free i₀ .comparable .lent .y) (shares q₀)
+    states-in : States hash p key (exchangeAt p (q .one) e) (exchangeAt p (q .other) e) (partFor hash p runs key e q)
+    unfolding partFor
+    states-in =
+        pair-states hash hash-length p key (openings p e qs) free (in-one p e i counts) (in-other p e i counts)
+        (alike-of hash p runs key (q .one) (q .other) c e run counts) (c .within .k-most) (c .lent .y)
 
-    length-lowQ : length lowQ ≡ p .w
-    unfolding lowQ
-    length-lowQ =
-        length-summed (p .w) (λ i. bytesAt (shares q₀ i) (atQ p) (p .w)) (leaves p) (λ i h. length-bytesAt (shares q₀ i) (atQ p) (p .w))
+    module _ (work out : List ℕ) (work-length : workLength p ≤ length work) (out-length : length out ≡ outputsLength p runs) where
+      written : Wrote hash p runs key e q out (extraction hash p runs (q .one) (q .other) key work out)
+      written = go (unequalAt hash p runs key (q .one) (q .other)) refl
+        where
+          go : (us : List (ℕ × (ℕ × ℕ))) → unequalAt hash p runs key (q .one) (q .other) ≡ us
+              → Wrote hash p runs key e q out (extraction hash p runs (q .one) (q .other) key work out)
+          go [] z =
+              let given = answer-states hash p runs key (q .one) (q .other) c work out work-length out-length z in
+              wrote _ _ (given .0)
+              (ap (λ (s : List ℕ). runPart p s e) (given .1)
+              ∙ (unfold partFor in part-is hash p runs key (q .one) (q .other) c hash-length out out-length e run counts))
+          go (a ∷ rest) z =
+              let given = answer-unequal hash p runs key (q .one) (q .other) c work out work-length out-length a rest z in
+              let f = first-then hash p runs key (q .one) (q .other) a rest z in
+              elsewhere (a .0) (a .1 .0) (a .1 .1) (given .0) (λ same. not-none (f .is) (rw same none-in)) (given .1)
+            where
+              not-none : {l r : List (ℕ × ℕ)} {b : ℕ × ℕ} → l ≡ b ∷ r → l ≡ [] → ⊥
+              not-none h k = let z : _≡_ {A = ℕ} 0 1 = cc in omega arith
 
-    length-PSum : length (PSum p key (shares q₀)) ≡ p .w
-    unfolding PSum
-    length-PSum = length-summed (p .w) (λ i. POf p (shares q₀ i)) (leaves p) (λ i h. length-POf p (shares q₀ i))
+      -- the pair's own openings are free in every run
+      extracted : ((e′ : ℕ) → e′ < runs → Free hash p key (openings p e′ (q ∷ [])))
+          → (run : ℕ) × (axis : ℕ) × (extraction hash p runs (q .one) (q .other) key work out .answer ≡ filled run axis)
+      extracted all = (
+        _,
+        _,
+        answer-states hash p runs key (q .one) (q .other) c work out work-length out-length
+            (none-when hash p runs key (q .one) (q .other) (λ e′ l d. none-within e′ l (all e′ l) (differs-then (q .one) (q .other) e′ d))) .0,
+      )
+        where
+          none-within : (e′ : ℕ) → e′ < runs → Free hash p key (openings p e′ (q ∷ [])) → Differ e′ q
+              → runUnequal hash p key (exchangeAt p (q .one) e′) (exchangeAt p (q .other) e′) ≡ []
+          none-within e′ l f n =
+              none-unequal hash hash-length p key (openings p e′ (q ∷ [])) f (in-one p e′ here n) (in-other p e′ here n)
+              (alike-of hash p runs key (q .one) (q .other) c e′ l n)
 
-    short : p .m < 256
-    short = let h = good hash hash-length p key m1 qs under free i₀ .comparable .within .m-most in omega arith
+-- ---- the list
 
-    -- what the extractor wrote
-    abbrev written : List ℕ
-    written = extraction hash p (q₀ .one) (q₀ .other) key work out .out
+module _ (hash : List ℕ → ℕ → List ℕ) (hash-length : (s : List ℕ) (n : ℕ) → length (hash s n) ≡ n) (p : Parameters) (runs : ℕ) (key : Key)
+    (e : ℕ) (salt h : List ℕ) (qs : List Pair) (within : Within p) (run : e < runs) (under : Each (Under hash p runs key e salt h) qs)
+    (free : Free hash p key (openings p e qs)) where
+  -- run e's prefix and h, as its message 1 gives them
+  abbrev prefix₁ : List ℕ
+  prefix₁ = take prefixLength (runPrefix salt e ++ h)
 
-    -- x is bytes, where the hash gives bytes, and messages 5 and y are
-    bytes-x₀ : ((s : List ℕ) (n : ℕ) → Bytes (hash s n)) → Bytes (key .y) → InBytes q₀ → Bytes x₀
-    bytes-x₀ hash-bytes y-bytes sent =
-        unfold x₀ pairShares leafShare in
-        bytes-xSum p key (good hash hash-length p key m1 qs under free i₀ .comparable .within .k-most)
-        (good hash hash-length p key m1 qs under free i₀ .comparable .lent .y) (shares q₀)
-        (λ i h. bytes-share hash hash-bytes p (exchangeOf (q₀ .one) .prefix) i (leafState written i) (auxState p written)
-        (go (ℕ-discrete (leaves p - 1) (exchangeOf (q₀ .one) .leaf)))) y-bytes
-      where
-        given : States hash p key (exchangeOf (q₀ .one)) (exchangeOf (q₀ .other)) written
-        given = pair-given hash hash-length p key m1 qs under free i₀ work out work-length out-length .1
+  abbrev h₁ : List ℕ
+  h₁ = drop prefixLength (runPrefix salt e ++ h)
 
-        bytes-aux : (t : Transcript) → Bytes (t .message5) → Bytes (auxOf p (exchangeOf t))
-        bytes-aux t h = unfold auxOf exchangeOf exchange in bytes-drop (siblingsLength p + 32 + valuesLength p) (t .message5) h
+  good : {q : Pair} → In q qs → Under hash p runs key e salt h q
+  good i = each-in (Under hash p runs key e salt h) under i
 
-        -- aux from an opening that discloses leaf n−1
-        go : Dec (leaves p - 1 ≡ exchangeOf (q₀ .one) .leaf) → Bytes (auxState p written)
-        go (no n) = rw (given .aux n) (bytes-aux (q₀ .one) (sent .one))
-        go (yes z) =
-            rw (given .aux′ (λ z′. good hash hash-length p key m1 qs under free i₀ .comparable .hidden (unfold exchangeOf exchange in sym z ∙ z′)))
-            (bytes-aux (q₀ .other) (sent .other))
+  paired : {q : Pair} → In q qs → Differ e q
+      → Paired hash hash-length p key (openings p e qs) free prefix₁ h₁ (exchangeAt p (q .one) e) (exchangeAt p (q .other) e)
+  paired {q} i d = record {
+    one = in-one p e i d;
+    other = in-other p e i d;
+    alike = alike-of hash p runs key (q .one) (q .other) (good i .comparable) e run d;
+    prefix-is = unfold exchangeAt exchange message1At in ap₂ (λ (s h : List ℕ). take prefixLength (runPrefix s e ++ h)) (good i .same-salt) (good i .same-h);
+    h-is = unfold exchangeAt exchange message1At in ap₂ (λ (s h : List ℕ). drop prefixLength (runPrefix s e ++ h)) (good i .same-salt) (good i .same-h);
+  }
 
-    abbrev defect₀ : Point → Point
-    defect₀ = defect (p .m) (p .w) x₀ lowQ (PSum p key (shares q₀)) length-x₀ short length-lowQ length-PSum
+  module _ {q₀ : Pair} (i₀ : In q₀ qs) (d₀ : Differ e q₀) where
+    abbrev y-length : length (key .y) ≡ yLength p
+    y-length = good i₀ .comparable .lent .y
 
-    abbrev z₀ : ℕ → Point
-    z₀ l = cSum p key (shares q₀) l ⊞ aSum p key (shares q₀) l ⊠ bSum p key (shares q₀) l
+    abbrev x₀ : List ℕ
+    x₀ = xOfPair hash p runs key e q₀
 
-    relation-met : {q : Pair} → In q qs → (l : ℕ) → l < p .t → (r ε : Point) → Meets p q l r ε → ε ⊠ defect₀ r ≡ z₀ l
-    relation-met {q} i l h r ε met =
-        let c = good hash hash-length p key m1 qs under free i₀ .comparable in
-        let given = pair-given hash hash-length p key m1 qs under free i work out work-length out-length .1 .witness .relation l h in
-        unfold defect x₀ lowQ QSum F in
-        rw (← met .point, ← met .multiplier)
-        (sums-when p key (c .within .k-most) (c .lent .y) (shares q₀) (q .one .message2) l
-        (subst (λ (s : List ℕ). Relation p key (q .one .message2) s l) (whole-ext p (shares q) (shares q₀)
-        (one-share hash hash-length p key m1 qs under free work out work-length out-length work out work-length out-length i i₀))
-        (sums-then p key (c .within .k-most) (c .lent .y) (shares q) (q .one .message2) l (unfold pairShares exchangeOf exchange in given))))
-
-  -- ---- the bound
-
-  module _ (l : ℕ) (position : l < p .t) (rs : List Point) (different : Distinct rs) (enough : p .m + p .w ≤ length rs)
-      (met : Each (MeetsTwice p qs l) rs) {q₀ : Pair} (i₀ : In q₀ qs) where
-    light₀ : weightOf (lowBytes (x₀ i₀)) ≤ p .w
-    light₀ =
-        light-low (p .m) (p .w) (x₀ i₀) (lowQ i₀) (PSum p key (shares q₀)) (length-x₀ i₀) (short i₀) (length-lowQ i₀) (length-PSum i₀) (z₀ i₀ l)
-        rs different enough (each-map twice rs met)
-      where
-        twice : (r : Point) → MeetsTwice p qs l r → Twice (defect₀ i₀ r) (z₀ i₀ l)
-        twice r m = record {
-          ε = m .ε;
-          ε′ = m .ε′;
-          unequal = m .unequal;
-          product = relation-met i₀ (m .in-list) l position r (m .ε) (m .meets);
-          product′ = relation-met i₀ (m .in-list′) l position r (m .ε′) (m .meets′);
-        }
-
-    gives-x₀ : (q : Pair) → In q qs → (work′ out′ : List ℕ) → workLength p ≤ length work′ → length out′ ≡ outputLength p
-        → Gives hash p key (x₀ i₀) q work′ out′
-    gives-x₀ q i work′ out′ wl ol = record {
-      extracted = pair-given hash hash-length p key m1 qs under free i work′ out′ wl ol .0;
+    gives-x : (q : Pair) → In q qs → Differ e q → (work out : List ℕ) → workLength p ≤ length work → length out ≡ outputsLength p runs
+        → Gives hash p runs key e x₀ q work out
+    gives-x q i d work out wl ol = record {
+      states = states-in hash hash-length p runs key e run qs free i (good i .comparable) d;
       same =
-          unfold xOfPair x₀ pairShares in
-          let c = good hash hash-length p key m1 qs under free i₀ .comparable in
-          let s : ℕ → List ℕ = pairShares hash hash-length p key m1 qs under free q work′ out′ in
-          xSum-is p key (c .within .k-most) (c .lent .y) s
-          ∙ ap (xOf p key true) (whole-ext p s (shares q₀) (one-share hash hash-length p key m1 qs under free work′ out′ wl ol work out work-length out-length i i₀))
-          ∙ sym (xSum-is p key (c .within .k-most) (c .lent .y) (shares q₀));
+          unfold xOfPair partFor in
+          same-x hash hash-length p key (openings p e qs) free prefix₁ h₁ within y-length (paired i d) (paired i₀ d₀);
+      written = written hash hash-length p runs key e run qs free i (good i .comparable) d work out wl ol;
+      extracted = extracted hash hash-length p runs key e run qs free i (good i .comparable) d work out wl ol;
     }
 
-    one-x : OneX hash p key qs
-    one-x = record { x = x₀ i₀; gives = gives-x₀; light = light₀ }
-
-    one-light-x : ((s : List ℕ) (n : ℕ) → Bytes (hash s n)) → Bytes (key .y) → InBytes q₀ → OneLightX hash p key qs
-    one-light-x hash-bytes y-bytes sent = record {
-      x = x₀ i₀;
-      gives = gives-x₀;
-      light = rw (lowBytes-bytes (x₀ i₀) (bytes-x₀ i₀ hash-bytes y-bytes sent)) at light₀;
+    met-by : (l : ℕ) (r : Point) → MeetsTwice p e qs l r → Met hash hash-length p key (openings p e qs) free prefix₁ h₁ within y-length l r
+    unfolding exchangeAt exchange
+    met-by l r m = record {
+      y = exchangeAt p (m .pair .one) e;
+      y′ = exchangeAt p (m .pair .other) e;
+      z = exchangeAt p (m .pair′ .one) e;
+      z′ = exchangeAt p (m .pair′ .other) e;
+      pair = paired (m .in-list) (m .counts);
+      pair′ = paired (m .in-list′) (m .counts′);
+      point = m .meets .point;
+      point′ = m .meets′ .point;
+      unequal = λ z. m .unequal (sym (m .meets .multiplier) ∙ z ∙ m .meets′ .multiplier);
     }
+
+    light-low : (l : ℕ) → l < p .t → (rs : List Point) → Distinct rs → p .m + p .w ≤ length rs → Each (MeetsTwice p e qs l) rs
+        → weightOf (lowBytes x₀) ≤ p .w
+    unfolding xOfPair partFor
+    light-low l position rs different enough met =
+        light-x hash hash-length p key (openings p e qs) free prefix₁ h₁ within y-length (paired i₀ d₀) l position rs different enough
+        (each-map (met-by l) rs met)
+
+    bytes-x₀ : ((s : List ℕ) (n : ℕ) → Bytes (hash s n)) → Bytes (key .y) → InBytes q₀ → Bytes x₀
+    unfolding xOfPair partFor
+    bytes-x₀ hash-bytes y-bytes sent =
+        bytes-x hash hash-length p key (openings p e qs) free prefix₁ h₁ within y-length (paired i₀ d₀) hash-bytes y-bytes
+        (bytes-part p (q₀ .one) e (sent .one)) (bytes-part p (q₀ .other) e (sent .other))
 
 -- ---- the claims
 
--- there are m + w points, so the list has a pair
-first-pair : (p : Parameters) (qs : List Pair) (l : ℕ) (rs : List Point) → Within p → p .m + p .w ≤ length rs → Each (MeetsTwice p qs l) rs
-    → (q : Pair) × In q qs
-first-pair p qs l [] within n met = absurd (let a = within .m-least in omega arith)
-first-pair p qs l (r ∷ rs) within n met = (met .0 .pair, met .0 .in-list)
+-- there are m + w points, so the list has a pair that counts
+first-pair : (p : Parameters) (e : ℕ) (qs : List Pair) (l : ℕ) (rs : List Point) → Within p → p .m + p .w ≤ length rs → Each (MeetsTwice p e qs l) rs
+    → (q : Pair) × In q qs × Differ e q
+first-pair p e qs l [] within n met = absurd (let a = within .m-least in omega arith)
+first-pair p e qs l (r ∷ rs) within n met = (met .0 .pair, met .0 .in-list, met .0 .counts)
 
-pub low-claim : (hash : List ℕ → ℕ → List ℕ) → ((s : List ℕ) (n : ℕ) → length (hash s n) ≡ n)
-    → (p : Parameters) (key : Key) (m1 : List ℕ) (qs : List Pair) (l : ℕ) (rs : List Point) → Within p → Meeting hash p key m1 qs l rs
-    → OneX hash p key qs
-low-claim hash hash-length p key m1 qs l rs within h =
-    one-x hash hash-length p key m1 qs (h .under) (h .free) l (h .position) rs (h .different) (h .enough) (h .met)
-    (first-pair p qs l rs within (h .enough) (h .met) .1)
+module _ (hash : List ℕ → ℕ → List ℕ) (hash-length : (s : List ℕ) (n : ℕ) → length (hash s n) ≡ n) (p : Parameters) (runs : ℕ) (key : Key)
+    (e : ℕ) (salt h : List ℕ) (qs : List Pair) (l : ℕ) (rs : List Point) (within : Within p) (m : Meeting hash p runs key e salt h qs l rs) where
+  pub low-claim : OneX hash p runs key e qs
+  low-claim =
+      let f = first-pair p e qs l rs within (m .enough) (m .met) in
+      record {
+        x = xOfPair hash p runs key e (f .0);
+        gives = gives-x hash hash-length p runs key e salt h qs within (m .run) (m .under) (m .free) (f .1) (f .2);
+        light =
+            light-low hash hash-length p runs key e salt h qs within (m .run) (m .under) (m .free) (f .1) (f .2)
+            l (m .position) rs (m .different) (m .enough) (m .met);
+      }
 
-pub weight-claim : (hash : List ℕ → ℕ → List ℕ) → ((s : List ℕ) (n : ℕ) → length (hash s n) ≡ n) → ((s : List ℕ) (n : ℕ) → Bytes (hash s n))
-    → (p : Parameters) (key : Key) (m1 : List ℕ) (qs : List Pair) (l : ℕ) (rs : List Point) → Within p → Meeting hash p key m1 qs l rs
-    → Bytes (key .y) → Each InBytes qs → OneLightX hash p key qs
-weight-claim hash hash-length hash-bytes p key m1 qs l rs within h y-bytes sent =
-    let first = first-pair p qs l rs within (h .enough) (h .met) in
-    one-light-x hash hash-length p key m1 qs (h .under) (h .free) l (h .position) rs (h .different) (h .enough)
-    (h .met) (first .1) hash-bytes y-bytes (each-in InBytes sent (first .1))
+  pub weight-claim : ((s : List ℕ) (n : ℕ) → Bytes (hash s n)) → Bytes (key .y) → Each InBytes qs → OneLightX hash p runs key e qs
+  unfolding low-claim
+  weight-claim hash-bytes y-bytes sent =
+      let f = first-pair p e qs l rs within (m .enough) (m .met) in
+      record {
+        x = low-claim .x;
+        gives = low-claim .gives;
+        light =
+            rw (lowBytes-bytes (low-claim .x)
+            (bytes-x₀ hash hash-length p runs key e salt h qs within (m .run) (m .under) (m .free) (f .1) (f .2) hash-bytes y-bytes
+            (each-in InBytes sent (f .1)))) at (low-claim .light);
+      }

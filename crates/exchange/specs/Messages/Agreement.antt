@@ -23,7 +23,7 @@ use Rattle.tower.specs.Field.{Point}
 use Rattle.answers.specs.declared.Answer.the-variants.{Done}
 use Rattle.parameters.specs.declared.Parameters.{Parameters}
 use Rattle.relation.specs.Key.{vectorOf}
-use Rattle.layout.specs.Layout.{side, leaves, yLength}
+use Rattle.layout.specs.Layout.{side, leaves, yLength, prefixLength}
 use Rattle.exchange.specs.Run.{Run}
 use Rattle.exchange.specs.Sequences.Laws.{joined-ext}
 use Rattle.exchange.specs.Strings.{string, string6, string7}
@@ -164,6 +164,6 @@ module _ (hash : List ℕ → ℕ → List ℕ) (hash-length : (s : List ℕ) (n
         response = response-is;
       })
 
-  pub messages-accepted : length (run .prefix) ≡ 32
+  pub messages-accepted : length (run .prefix) ≡ prefixLength
       → verdict hash p (exchange (message1 hash p x run) m2 (message3 hash p x run key m2) u (message5 hash p x run key m2 u)) key ≡ Done
   messages-accepted h = ap (λ (e : Exchange). verdict hash p e key) (exchange-is hash p x run key m2 u h) ∙ honest-accepted

@@ -17,7 +17,7 @@ use lib.Dec.{eqb}
 use lib.ListN.{length, getD, take, drop, length-append}
 use lib.Seq.{take-at, drop-at}
 use Rattle.parameters.specs.declared.Parameters.{Parameters}
-use Rattle.layout.specs.Layout.{levels, leaves, isLast, factorLength, valuesLength, siblingsLength}
+use Rattle.layout.specs.Layout.{levels, leaves, isLast, factorLength, valuesLength, siblingsLength, prefixLength}
 use Rattle.layout.specs.Layout.Laws.{isLast-false, isLast-last}
 use Rattle.exchange.specs.Run.{Run}
 use Rattle.exchange.specs.Sequences.Laws.{joined-ext}
@@ -43,7 +43,7 @@ module _ (hash : List ℕ → ℕ → List ℕ) (p : Parameters) (x : List ℕ) 
     message5 = message5 hash p x run key m2 u;
   }
 
-  pub exchange-is : length (run .prefix) ≡ 32
+  pub exchange-is : length (run .prefix) ≡ prefixLength
       → exchange (message1 hash p x run) m2 (message3 hash p x run key m2) u (message5 hash p x run key m2 u) ≡ honest
   unfolding exchange message1
   exchange-is e =
@@ -55,7 +55,7 @@ module _ (hash : List ℕ → ℕ → List ℕ) (p : Parameters) (x : List ℕ) 
         leaf = u;
         message5 = message5 hash p x run key m2 u;
       })
-      (take-at (run .prefix) _ 32 e) (drop-at (run .prefix) _ 32 e)
+      (take-at (run .prefix) _ prefixLength e) (drop-at (run .prefix) _ prefixLength e)
 
   -- ---- message 5, part by part
 

@@ -12,10 +12,10 @@ use Rattle.stored.proofs.write_prover.Tie as tie
 -- a field that is an array has its length from what owning the session tells
 lengths : (c : tie.Start) → ProverLengths (held (c .args .s))
 lengths c = record {
-  x = sym (length-map (c .args .s .x) _) ∙ c .good .0 .1 .1 .1 .1 .0 .1 .0 .1;
-  salt = sym (length-map (c .args .s .salt) _) ∙ c .good .0 .1 .1 .1 .1 .1 .0 .1 .0 .1;
-  root = sym (length-map (c .args .s .root) _) ∙ c .good .0 .1 .1 .1 .1 .1 .1 .0 .1 .0 .1;
-  message2 = sym (length-map (c .args .s .message2) _) ∙ c .good .0 .1 .1 .1 .1 .1 .1 .1 .0 .1 .0 .1;
+  x = sym (length-map (c .args .s .x) _) ∙ c .good .0 .1 .1 .1 .1 .1 .0 .1 .0 .1;
+  salt = sym (length-map (c .args .s .salt) _) ∙ c .good .0 .1 .1 .1 .1 .1 .1 .0 .1 .0 .1;
+  root = sym (length-map (c .args .s .root) _) ∙ c .good .0 .1 .1 .1 .1 .1 .1 .1 .0 .1 .0 .1;
+  message2 = sym (length-map (c .args .s .message2) _) ∙ c .good .0 .1 .1 .1 .1 .1 .1 .1 .1 .0 .1 .0 .1;
 }
 
 write-parts-requires : tie.Need-write-parts-requires

@@ -1,48 +1,57 @@
--- Freedom of lists of such pairs. The strings hashed in checking an honest opening are the prover's own, whatever leaf is hidden. Those of layers
--- 5 and 4 are the same in all openings, and those of layers 7 and 6 depend on message 2 alone, so these are compared by computation.
+-- Freedom of lists of such pairs, in run 1. The strings hashed in checking an honest opening are the prover's own, whatever leaf is hidden. Those of
+-- layers 5 and 4 are the same in all openings, and those of layers 7 and 6 depend on message 2 alone, so these are compared by computation.
 --
--- ownString d c l n    the prover's string of layer l and number n; c is the point and multiplier of message 2
+-- run1                 run 1
+-- ownString d c l n    the prover's string of layer l and number n in run 1; c is the point and multiplier of its message 2
 -- string-is            it is the one hashed in checking an opening
 -- choices              points and multipliers: 16, 17, 18, each with 1 and 2
 -- columns d            layers and numbers of layers 7 and 6
 -- Tested d             unequal strings there, of two choices, have two digests
--- Chosen d e           the opening e is honest, for a choice and some hidden leaf
--- ChosenPair d q, both both openings of a pair are
+-- Chosen d y           the opening y is run 1 of an honest one, for a choice and some hidden leaves
+-- ChosenPair d q, chosen-pair, chosen-idle   both openings of a pair are
 -- free                 a list of such pairs is free
 use mathlib.Core.Path.{_≡_, refl, sym, ap, _∙_, subst}
-use mathlib.Core.Bool.{true, cond}
+use mathlib.Core.Bool.{Bool, true, false, cond}
 use mathlib.Core.List.{List, [], _∷_}
 use Prim.Native.Nat.{ℕ, zero, suc, _+_, _-_, _<_}
 use native.Mathlib.Decide.{ℕ-discrete}
 use native.Mathlib.Omega.{arith}
-use lib.Dec.{eqb}
+use lib.Dec.{eqb, lit<}
 use Rattle.algebra.specs.Each.{Each}
+use Rattle.lists.specs.Part.{part}
 use Rattle.layout.specs.Layout.{leaves}
-use Rattle.exchange.specs.Run.{runOf}
+use Rattle.layout.specs.Layout.Laws.{leaves-pos}
+use Rattle.exchange.specs.Run.{Run}
 use Rattle.exchange.specs.Strings.{string4, string5, string7}
 use Rattle.exchange.specs.Parties.{axisString}
 use Rattle.exchange.specs.Messages.{ownState, ownAux, ownCommitment, ownAnnounced}
-use Rattle.exchange.specs.Messages.Opened.{honest, exchange-is, leafString-is, commitmentString-is}
+use Rattle.exchange.specs.Messages.Opened.{honest, leafString-is, commitmentString-is}
 use Rattle.exchange.specs.Messages.Agreement.{axisString-is, responseString-is}
 use Rattle.exchange.specs.Opening.{Exchange}
 use Rattle.exchange.specs.Extractor.{stringAt}
-use Rattle.calls.specs.Extractor.{exchangeOf}
+use Rattle.runs.specs.Run.{runAt}
+use Rattle.runs.specs.Messages.{message2At}
+use Rattle.runs.specs.Opening.{exchangeAt}
+use Rattle.runs.specs.Extractor.{differs}
 use Rattle.claims.specs.Weight.{Pair, In, here, later, openings, Hashed, at7, at6, at5, at4, Free}
-use Rattle.claims.specs.Weight.Common.{each-in}
 use Rattle.test_standin.specs.StandIn.{standIn}
 use Rattle.test_claims.specs.StandIn.{length-standIn}
 use Rattle.test_claims.specs.Rows.{separated, rowsOf, two-digests}
-use Rattle.test_claims.specs.Pairs.{p, key, xA, x, salt, root, message2, transcript, pair}
+use Rattle.test_claims.specs.Honest.{honest-at}
+use Rattle.test_claims.specs.Pairs.{p, key, xA, x, salt, root, message2, messages2, opened, pair, idle}
 use Rattle.test_claims.specs.Pairs.Laws.{Axes, secret}
+
+abbrev pub run1 : Run
+run1 = runAt standIn salt root 1
 
 module _ (d : ℕ) where
   unfoldable pub ownString : ℕ × ℕ → ℕ × ℕ → List ℕ
   ownString c n =
       cond (eqb (n .0) 7)
-      (string7 salt (λ j. standIn (axisString (p d) salt j (ownAnnounced standIn (p d) x (runOf salt root) key (message2 (c .0) (c .1)) j)) 32) d)
-      (cond (eqb (n .0) 6) (axisString (p d) salt (n .1 - 1) (ownAnnounced standIn (p d) x (runOf salt root) key (message2 (c .0) (c .1)) (n .1 - 1)))
-      (cond (eqb (n .0) 5) (string5 salt (ownCommitment standIn (p d) x (runOf salt root)) (leaves (p d)))
-      (string4 (p d) salt (n .1) (ownState standIn (p d) x (runOf salt root) (n .1)) (ownAux standIn (p d) x (runOf salt root)))))
+      (string7 (run1 .prefix) (λ j. standIn (axisString (p d) (run1 .prefix) j (ownAnnounced standIn (p d) x run1 key (message2 (c .0) (c .1)) j)) 32) d)
+      (cond (eqb (n .0) 6) (axisString (p d) (run1 .prefix) (n .1 - 1) (ownAnnounced standIn (p d) x run1 key (message2 (c .0) (c .1)) (n .1 - 1)))
+      (cond (eqb (n .0) 5) (string5 (run1 .prefix) (ownCommitment standIn (p d) x run1) (leaves (p d)))
+      (string4 (p d) (run1 .prefix) (n .1) (ownState standIn (p d) x run1 (n .1)) (ownAux standIn (p d) x run1))))
 
   unfoldable pub axisColumns : ℕ → List (ℕ × ℕ)
   axisColumns zero = []
@@ -68,55 +77,75 @@ in-axes d (suc n) j l = go (ℕ-discrete j n) (λ h. in-axes d n j h)
 
 -- ---- an opening
 
-module _ (d : ℕ) (axes : Axes d) (r ε u : ℕ) (inside : u < leaves (p d)) where
+module _ (d : ℕ) (axes : Axes d) (r ε i u : ℕ) (inside : u < leaves (p d)) where
   abbrev e : Exchange
-  e = honest standIn (p d) x (runOf salt root) key (message2 r ε) u
+  e = honest standIn (p d) x run1 key (message2 r ε) u
 
-  honest-is : exchangeOf (transcript d r ε u) ≡ e
-  unfolding exchangeOf transcript
-  honest-is = exchange-is standIn (p d) x (runOf salt root) key (message2 r ε) u refl
+  honest-is : exchangeAt (p d) (opened d r ε i u) 1 ≡ e
+  unfolding opened
+  honest-is =
+      honest-at (p d) 2 key salt root (messages2 r ε) (i ∷ u ∷ []) x (secret d axes) refl refl 1 (lit< tt)
+      ∙ ap (λ (m : List ℕ). honest standIn (p d) x run1 key m u) own2
+    where
+      own2 : message2At (p d) (messages2 r ε) 1 ≡ message2 r ε
+      own2 = unfold message2At part in refl
 
   own : {layer number : ℕ} → Hashed standIn (p d) key e layer number → stringAt standIn (p d) key e layer number ≡ ownString d (r, ε) (layer, number)
   unfolding stringAt ownString
-  own at7 = responseString-is standIn length-standIn (p d) key xA refl refl (secret d axes) (runOf salt root) (message2 r ε) u inside
-  own (at6 j l) = axisString-is standIn length-standIn (p d) key xA refl refl (secret d axes) (runOf salt root) (message2 r ε) u inside (j + 1 - 1)
-  own at5 = commitmentString-is standIn (p d) x (runOf salt root) key (message2 r ε) u length-standIn inside
-  own (at4 i l n) = leafString-is standIn (p d) x (runOf salt root) key (message2 r ε) u length-standIn inside i l n
+  own at7 = responseString-is standIn length-standIn (p d) key xA refl refl (secret d axes) run1 (message2 r ε) u inside
+  own (at6 j l) = axisString-is standIn length-standIn (p d) key xA refl refl (secret d axes) run1 (message2 r ε) u inside (j + 1 - 1)
+  own at5 = commitmentString-is standIn (p d) x run1 key (message2 r ε) u length-standIn inside
+  own (at4 i l n) = leafString-is standIn (p d) x run1 key (message2 r ε) u length-standIn inside i l n
 
-pub record Chosen (d : ℕ) (e : Exchange) : Type 0 where
+pub record Chosen (d : ℕ) (y : Exchange) : Type 0 where
   pub choice : ℕ × ℕ
+  pub first : ℕ
   pub leaf : ℕ
   pub in-choices : In choice choices
   pub inside : leaf < leaves (p d)
-  pub is : e ≡ exchangeOf (transcript d (choice .0) (choice .1) leaf)
+  pub is : y ≡ exchangeAt (p d) (opened d (choice .0) (choice .1) first leaf) 1
 
 pub record ChosenPair (d : ℕ) (q : Pair) : Type 0 where
-  pub one : Chosen d (exchangeOf (q .one))
-  pub other : Chosen d (exchangeOf (q .other))
+  pub one : Chosen d (exchangeAt (p d) (q .one) 1)
+  pub other : Chosen d (exchangeAt (p d) (q .other) 1)
 
-pub both : (d r ε u u′ : ℕ) → In (r, ε) choices → u < leaves (p d) → u′ < leaves (p d) → ChosenPair d (pair d r ε u u′)
-unfolding pair
-both d r ε u u′ i h h′ = record { one = chosen u h; other = chosen u′ h′ }
-  where
-    chosen : (u : ℕ) → u < leaves (p d) → Chosen d (exchangeOf (transcript d r ε u))
-    chosen u h = record { choice = (r, ε); leaf = u; in-choices = i; inside = h; is = refl }
+module _ (d r ε : ℕ) (c : In (r, ε) choices) where
+  chosen : (i u : ℕ) → u < leaves (p d) → Chosen d (exchangeAt (p d) (opened d r ε i u) 1)
+  chosen i u h = record { choice = (r, ε); first = i; leaf = u; in-choices = c; inside = h; is = refl }
 
-each-opening : (d : ℕ) (qs : List Pair) → Each (ChosenPair d) qs → Each (Chosen d) (openings qs)
+  pub chosen-pair : (u u′ : ℕ) → u < leaves (p d) → u′ < leaves (p d) → ChosenPair d (pair d r ε u u′)
+  unfolding pair
+  chosen-pair u u′ h h′ = record { one = chosen 0 u h; other = chosen 0 u′ h′ }
+
+  pub chosen-idle : ChosenPair d (idle d r ε)
+  unfolding idle
+  chosen-idle = record { one = chosen 0 0 (leaves-pos (p d)); other = chosen 1 0 (leaves-pos (p d)) }
+
+each-opening : (d : ℕ) (qs : List Pair) → Each (ChosenPair d) qs → Each (Chosen d) (openings (p d) 1 qs)
 unfolding openings
 each-opening d [] h = tt
-each-opening d (q ∷ qs) h = (h .0 .one, (h .0 .other, each-opening d qs (h .1)))
+each-opening d (q ∷ qs) h = go (differs (q .one) (q .other) 1) (each-opening d qs (h .1))
+  where
+    go : (t : Bool) → Each (Chosen d) (openings (p d) 1 qs)
+        → Each (Chosen d) (cond t (exchangeAt (p d) (q .one) 1 ∷ exchangeAt (p d) (q .other) 1 ∷ openings (p d) 1 qs) (openings (p d) 1 qs))
+    go true rest = (h .0 .one, (h .0 .other, rest))
+    go false rest = rest
+
+each-in : {A : Type 0} (P : A → Type 0) {a : A} {l : List A} → Each P l → In a l → P a
+each-in P h here = h .0
+each-in P h (later i) = each-in P (h .1) i
 
 module _ (d : ℕ) (axes : Axes d) where
   string-is : (e : Exchange) (c : Chosen d e) {layer number : ℕ} → Hashed standIn (p d) key e layer number
       → stringAt standIn (p d) key e layer number ≡ ownString d (c .choice) (layer, number)
   string-is e c {layer} {number} h =
-      let z = c .is ∙ honest-is d axes (c .choice .0) (c .choice .1) (c .leaf) (c .inside) in
+      let z = c .is ∙ honest-is d axes (c .choice .0) (c .choice .1) (c .first) (c .leaf) (c .inside) in
       ap (λ (e : Exchange). stringAt standIn (p d) key e layer number) z
-      ∙ own d axes (c .choice .0) (c .choice .1) (c .leaf) (c .inside) (subst (λ (e : Exchange). Hashed standIn (p d) key e layer number) z h)
+      ∙ own d axes (c .choice .0) (c .choice .1) (c .first) (c .leaf) (c .inside) (subst (λ (e : Exchange). Hashed standIn (p d) key e layer number) z h)
 
   -- ---- a list
 
-  pub free : Tested d → (qs : List Pair) → Each (ChosenPair d) qs → Free standIn (p d) key (openings qs)
+  pub free : Tested d → (qs : List Pair) → Each (ChosenPair d) qs → Free standIn (p d) key (openings (p d) 1 qs)
   free test qs all e e′ i i′ layer number h h′ unequal digest =
       go h
       (λ q. unequal (string-is e c h ∙ q ∙ sym (string-is e′ c′ h′)))

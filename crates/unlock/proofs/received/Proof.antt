@@ -5,22 +5,28 @@ use native.Mathlib.Omega.{arith}
 use borrow.Author.Needs.{needs}
 use lib.ListN.{length, take}
 use lib.Seq.{length-take-le}
-use Rattle.layout.specs.Maxima.{longestMessage2}
+use Rattle.layout.specs.Maxima.{mostMessages2}
+use Rattle.layout.specs.Runs.Laws.{messages2-most}
 use Rattle.keytext.specs.Finish.Laws.{room}
 use Rattle.unlock.proofs.received.Statement.{statement}
 use Rattle.unlock.proofs.received.Tie as tie
 
-abbrev back : tie.After-message2-length → tie.Start
-back m = search
+abbrev begun : tie.After-messages2-length → tie.After-begin
+begun m = search
 
-long : (m : tie.After-message2-length) → m .message2-length .result ≤ longestMessage2
-long m = omega (arith, m .message2-length .ensures, back m .pre .t-most)
+abbrev back : tie.After-messages2-length → tie.Start
+back m = let b = begun m in search
 
-fits : (m : tie.After-message2-length) → length (take (m .message2-length .result) (m .before .message2-room .result)) ≡ m .message2-length .result
-fits m = length-take-le (m .message2-length .result) (m .before .message2-room .result) (room longestMessage2 (m .before .message2-room .ensures) (long m))
+long : (m : tie.After-messages2-length) → m .messages2-length .result ≤ mostMessages2
+long m = let s = back m in omega (arith, m .messages2-length .ensures, messages2-most (s .args .p) (s .pre .0) (s .args .runs) (s .pre .1))
+
+fits : (m : tie.After-messages2-length) → length (take (m .messages2-length .result) (m .before .message2-room .result)) ≡ m .messages2-length .result
+fits m = length-take-le (m .messages2-length .result) (m .before .message2-room .result) (room mostMessages2 (m .before .message2-room .ensures) (long m))
 
 pub received-spec : {M : Type 1} → statement M
-received-spec = tie.close (tie.spec (λ c κs. search needs) (λ c κs. search needs) (λ c. search needs) (λ c. search needs) (λ c. search needs)
-    (λ c κs. search needs) (λ c κs. search needs) (λ c. room longestMessage2 (c .before .before .message2-room .ensures) (long (c .before)))
-    (λ c. sym (fits (c .before .before))) (λ c κs. (back (c .before .before) .pre, omega (arith, long (c .before .before), fits (c .before .before))))
+received-spec = tie.close (tie.spec (λ c. search needs) (λ c κs. search needs) (λ c κs. search needs) (λ c κs. search needs) (λ c. search needs)
+    (λ c. search needs) (λ c. search needs) (λ c κs. search needs) (λ c κs. search needs)
+    (λ c. let m : tie.After-messages2-length = search in room mostMessages2 (m .before .message2-room .ensures) (long m))
+    (λ c. let m : tie.After-messages2-length = search in sym (fits m))
+    (λ c κs. let m : tie.After-messages2-length = search in let s = back m in (s .pre .0, s .pre .1, omega (arith, long m, fits m)))
     (λ c. search needs) (λ c. search needs))

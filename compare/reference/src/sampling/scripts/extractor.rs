@@ -1,33 +1,38 @@
 //! Calls of the extractor.
 
-use super::{fitting_lent, random_exchange, resize_lent, Size};
+use super::{damage_leaves, fitting_lent, random_exchange, resize_lent, Size};
+use crate::runs::GREATEST_RUNS;
 use crate::sampling::calls::ExtractorCall;
 use crate::sampling::damage::{flip_bit, resize};
 use crate::sampling::exchanges::{honest_exchange, random_message_2, Exchange, Start};
 use crate::sampling::keys::{valid_key, Key};
-use crate::sampling::parameter_sets::{outside_set, random_set};
+use crate::sampling::made_up::two_leaf_lists;
+use crate::sampling::parameter_sets::{outside_runs, outside_set, random_runs, random_set};
 use crate::sampling::simulated::{leaf_first, PointsFirst};
 use crate::sampling::Random;
 
-/// Two exchanges under one key: rewound, of the same leaf, or unrelated.
-fn two_exchanges(random: &mut Random, key: &Key) -> (Exchange, Exchange) {
+/// Two exchanges of so many runs under one key: rewound, of the same leaves, or unrelated.
+fn two_exchanges(random: &mut Random, key: &Key, runs: usize) -> (Exchange, Exchange) {
     let set = key.parameters;
-    let [first, second] = [0, 1].map(|_| random.below(set.leaves()) as u8);
+    let [first, mut second] = two_leaf_lists(random, &set, runs);
+    if random.once_in(8) {
+        second.clone_from(&first);
+    }
     match random.below(6) {
-        0 => (random_exchange(random, key), random_exchange(random, key)),
+        0 => (random_exchange(random, key, runs), random_exchange(random, key, runs)),
         1 => {
-            let exchange = leaf_first(random, &set, key.public(), first);
-            let message_5 = random.bytes(set.message_5_bytes(usize::from(second)));
-            (exchange.clone(), Exchange { leaf: second, message_5, ..exchange })
+            let exchange = leaf_first(random, &set, key.public(), &first);
+            let message_5 = random.bytes(set.message_5_bytes(&second));
+            (exchange.clone(), Exchange { leaves: second, message_5, ..exchange })
         }
         2 | 3 => {
-            let message_2 = random_message_2(random, &set);
+            let message_2 = random_message_2(random, &set, runs);
             let prover = PointsFirst::new(random, &set, key.public(), &message_2);
-            (prover.exchange(first), prover.exchange(second))
+            (prover.exchange(&first), prover.exchange(&second))
         }
         _ => {
-            let start = Start::random(random, &set);
-            (honest_exchange(key, &start, first), honest_exchange(key, &start, second))
+            let start = Start::random(random, &set, runs);
+            (honest_exchange(key, &start, &first), honest_exchange(key, &start, &second))
         }
     }
 }
@@ -38,35 +43,47 @@ fn damage_exchange(random: &mut Random, exchange: &mut Exchange, flip: bool) {
         0 => &mut exchange.message_1,
         1 => &mut exchange.message_2,
         2 => &mut exchange.message_3,
-        3 => {
-            exchange.leaf = random.byte();
-            return;
-        }
+        3 => return damage_leaves(random, &mut exchange.leaves),
         _ => &mut exchange.message_5,
     };
     if flip {
-        flip_bit(random, message);
+        flip_some(random, message);
     } else {
         resize(random, message);
     }
 }
 
-/// A call of the extractor: two exchanges under one key, often undamaged.
+fn damage(random: &mut Random, call: &mut ExtractorCall) {
+    match random.below(9) {
+        0 => call.parameters = outside_set(random),
+        1 => call.runs = outside_runs(random),
+        2 => call.runs = random.between(1, GREATEST_RUNS),
+        3 => resize_lent(random, &mut call.lent),
+        4 => resize(random, &mut call.output),
+        5 => damage_exchange(random, &mut call.first, true),
+        6 => damage_exchange(random, &mut call.second, true),
+        7 => damage_exchange(random, &mut call.second, false),
+        _ => flip_some(random, &mut call.lent.matrix),
+    }
+}
+
+fn flip_some(random: &mut Random, bytes: &mut [u8]) {
+    if !bytes.is_empty() {
+        flip_bit(random, bytes);
+    }
+}
+
+/// A call of the extractor: two exchanges under one key, often undamaged, sometimes with two faults.
 pub fn extractor_call(random: &mut Random, size: Size) -> ExtractorCall {
     let set = random_set(random, size.greatest_m, size.greatest_axes);
+    let runs = random_runs(random);
     let key = valid_key(random, &set);
-    let (first, second) = two_exchanges(random, &key);
-    let output = random.bytes(set.extractor_bytes());
-    let mut call = ExtractorCall { parameters: set, first, second, lent: fitting_lent(random, &key), output };
-    match random.below(12) {
-        0 => call.parameters = outside_set(random),
-        1 => resize_lent(random, &mut call.lent),
-        2 => resize(random, &mut call.output),
-        3 => damage_exchange(random, &mut call.first, true),
-        4 => damage_exchange(random, &mut call.second, true),
-        5 => damage_exchange(random, &mut call.second, false),
-        6 => flip_bit(random, &mut call.lent.matrix),
-        _ => (),
+    let (first, second) = two_exchanges(random, &key, runs);
+    let output = random.bytes(set.extractor_bytes(runs));
+    let mut call = ExtractorCall { parameters: set, runs, first, second, lent: fitting_lent(random, &key), output };
+    let faults = random.choose(&[0, 0, 0, 1, 1, 2]);
+    for _ in 0..faults {
+        damage(random, &mut call);
     }
     call
 }

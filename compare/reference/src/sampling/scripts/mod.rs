@@ -5,6 +5,7 @@ use crate::sampling::calls::LentBytes;
 use crate::sampling::damage::resize;
 use crate::sampling::exchanges::{honest_exchange, random_message_2, Exchange, Start};
 use crate::sampling::keys::{overweight_key, valid_key, Key};
+use crate::sampling::made_up::any_leaves;
 use crate::sampling::parameter_sets::random_set;
 use crate::sampling::simulated::{leaf_first, PointsFirst};
 use crate::sampling::Random;
@@ -32,13 +33,32 @@ pub(super) const DAMAGE: usize = 4;
 /// How often a call takes something else than what fits the exchange: once in so many.
 pub(super) const STRAY: usize = 8;
 
-/// A leaf mostly below n, the last one often.
-pub fn random_leaf(random: &mut Random, parameters: &Parameters) -> u8 {
+/// A leaf below n, the last one often.
+fn random_leaf(random: &mut Random, parameters: &Parameters) -> u8 {
     match random.below(8) {
-        0 => random.byte(),
-        1 | 2 => parameters.last_leaf() as u8,
-        3 => 0,
+        0 | 1 => parameters.last_leaf() as u8,
+        2 => 0,
         _ => random.below(parameters.leaves()) as u8,
+    }
+}
+
+/// So many leaves; once in eight times one of them is any byte.
+pub fn random_leaves(random: &mut Random, parameters: &Parameters, runs: usize) -> Vec<u8> {
+    let mut leaves: Vec<u8> = (0..runs).map(|_| random_leaf(random, parameters)).collect();
+    if runs > 0 && random.once_in(8) {
+        let run = random.below(runs);
+        leaves[run] = random.byte();
+    }
+    leaves
+}
+
+/// Gives message 4 another length, or a run any leaf.
+pub(super) fn damage_leaves(random: &mut Random, leaves: &mut Vec<u8>) {
+    if leaves.is_empty() || random.once_in(2) {
+        resize(random, leaves);
+    } else {
+        let run = random.below(leaves.len());
+        leaves[run] = random.byte();
     }
 }
 
@@ -66,19 +86,19 @@ pub(super) fn pool_of_keys(random: &mut Random, size: Size) -> Vec<Key> {
     keys
 }
 
-/// An exchange under a key, honest or simulated.
-pub(super) fn random_exchange(random: &mut Random, key: &Key) -> Exchange {
+/// An exchange of so many runs under a key, honest or simulated.
+pub(super) fn random_exchange(random: &mut Random, key: &Key, runs: usize) -> Exchange {
     let set = key.parameters;
-    let leaf = random.below(set.leaves()) as u8;
+    let leaves = any_leaves(random, &set, runs);
     match random.below(4) {
-        0 => leaf_first(random, &set, key.public(), leaf),
+        0 => leaf_first(random, &set, key.public(), &leaves),
         1 => {
-            let message_2 = random_message_2(random, &set);
-            PointsFirst::new(random, &set, key.public(), &message_2).exchange(leaf)
+            let message_2 = random_message_2(random, &set, runs);
+            PointsFirst::new(random, &set, key.public(), &message_2).exchange(&leaves)
         }
         _ => {
-            let start = Start::random(random, &set);
-            honest_exchange(key, &start, leaf)
+            let start = Start::random(random, &set, runs);
+            honest_exchange(key, &start, &leaves)
         }
     }
 }

@@ -1,14 +1,15 @@
 //! Scripts of a prover's session.
 
-use super::{fitting_lent, pool_of_keys, random_leaf, resize_lent, Size, DAMAGE, STRAY};
+use super::{damage_leaves, fitting_lent, pool_of_keys, random_leaves, resize_lent, Size, DAMAGE, STRAY};
 use crate::numbers::CARRIED_OUT;
 use crate::parameters::Parameters;
 use crate::prover::Prover;
+use crate::runs::GREATEST_RUNS;
 use crate::sampling::calls::{LentBytes, ProverCall, ProverInput};
 use crate::sampling::damage::resize;
 use crate::sampling::exchanges::random_message_2;
 use crate::sampling::keys::Key;
-use crate::sampling::parameter_sets::outside_set;
+use crate::sampling::parameter_sets::{outside_runs, outside_set, random_runs};
 use crate::sampling::Random;
 use crate::strings::{SALT_BYTES, SEED_BYTES};
 
@@ -20,6 +21,7 @@ struct ProverScript<'a> {
     roots: Vec<Vec<u8>>,
     session: Prover,
     key: Key,
+    runs: usize,
     due: usize,
 }
 
@@ -27,22 +29,24 @@ impl ProverScript<'_> {
     fn begin(&mut self, key: &Key) -> ProverInput {
         let salt = self.random.choose(&self.salts);
         let root = self.random.choose(&self.roots);
-        ProverInput::Begin { parameters: key.parameters, x_a: key.x_a.clone(), salt, root }
+        let runs = random_runs(self.random);
+        ProverInput::Begin { parameters: key.parameters, runs, x_a: key.x_a.clone(), salt, root }
     }
 
+    /// The call's own arguments and the length of its output.
     fn input(&mut self, kind: usize, key: &Key) -> (ProverInput, usize) {
         let set = self.key.parameters;
-        match kind {
-            0 => (self.begin(key), Parameters::MESSAGE_1_BYTES),
-            1 => {
-                let message_2 = random_message_2(self.random, &set);
-                (ProverInput::Points { message_2 }, Parameters::MESSAGE_3_BYTES)
-            }
-            _ => {
-                let leaf = random_leaf(self.random, &set);
-                (ProverInput::Leaf { leaf }, set.message_5_bytes(usize::from(leaf)))
-            }
-        }
+        let input = match kind {
+            0 => self.begin(key),
+            1 => ProverInput::Points { message_2: random_message_2(self.random, &set, self.runs) },
+            _ => ProverInput::Leaf { leaves: random_leaves(self.random, &set, self.runs) },
+        };
+        let length = match &input {
+            ProverInput::Begin { runs, .. } => Parameters::message_1_bytes(*runs),
+            ProverInput::Points { .. } => Parameters::message_3_bytes(self.runs),
+            ProverInput::Leaf { leaves } => set.message_5_bytes(leaves),
+        };
+        (input, length)
     }
 
     fn call(&mut self, kind: usize) -> ProverCall {
@@ -51,7 +55,8 @@ impl ProverScript<'_> {
         let (input, output_length) = self.input(kind, &key);
         let lent = fitting_lent(self.random, &key);
         let mut call = ProverCall { input, lent, output: self.random.bytes(output_length) };
-        if self.random.once_in(DAMAGE) {
+        let faults = if self.random.once_in(DAMAGE) { self.random.between(1, 2) } else { 0 };
+        for _ in 0..faults {
             self.damage(&mut call);
         }
         call
@@ -67,14 +72,16 @@ impl ProverScript<'_> {
 
     fn damage_input(&mut self, input: &mut ProverInput) {
         match input {
-            ProverInput::Begin { parameters, x_a, salt, root } => match self.random.below(4) {
+            ProverInput::Begin { parameters, runs, x_a, salt, root } => match self.random.below(6) {
                 0 => *parameters = outside_set(self.random),
+                4 => *runs = outside_runs(self.random),
+                5 => *runs = self.random.between(1, GREATEST_RUNS),
                 1 => resize(self.random, x_a),
                 2 => resize(self.random, salt),
                 _ => resize(self.random, root),
             },
             ProverInput::Points { message_2 } => resize(self.random, message_2),
-            ProverInput::Leaf { leaf } => *leaf = self.random.byte(),
+            ProverInput::Leaf { leaves } => damage_leaves(self.random, leaves),
         }
     }
 
@@ -83,7 +90,8 @@ impl ProverScript<'_> {
         let call = self.call(kind);
         if call.make(&mut self.session).number == CARRIED_OUT {
             self.due = (kind + 1) % 3;
-            if let ProverInput::Begin { parameters, x_a, .. } = &call.input {
+            if let ProverInput::Begin { parameters, runs, x_a, .. } = &call.input {
+                self.runs = *runs;
                 let LentBytes { matrix, y, .. } = call.lent.clone();
                 self.key = Key { parameters: *parameters, matrix, y, x_a: x_a.clone() };
             }
@@ -98,6 +106,6 @@ pub fn prover_script(random: &mut Random, size: Size, length: usize) -> Vec<Prov
     let salts = (0..2).map(|_| random.bytes(SALT_BYTES)).collect();
     let roots = (0..2).map(|_| random.bytes(SEED_BYTES)).collect();
     let key = keys[0].clone();
-    let mut script = ProverScript { random, keys, salts, roots, session: Prover::default(), key, due: 0 };
+    let mut script = ProverScript { random, keys, salts, roots, session: Prover::default(), key, runs: 1, due: 0 };
     (0..length).map(|_| script.next()).collect()
 }

@@ -1,22 +1,36 @@
--- The test of the set decides.
+-- The test of the run count decides, then the test of the set.
 use mathlib.Core.Path.{sym, _∙_}
 use borrow.Author.Needs.{needs}
 use borrow.Author.Tests.{not-true, not-false}
-use Rattle.layout.specs.Layout.{outputLength}
-use Rattle.capi.specs.Sizes.Laws.{within-length, within-limits, sized-not, sized-so}
+use Rattle.parameters.specs.declared.Parameters.{Parameters}
+use Rattle.layout.specs.Runs.{outputsLength}
+use Rattle.layout.specs.Runs.Laws.{runs-within}
+use Rattle.capi.specs.Sizes.Laws.{within-length, within-limits, sized-not, sized-so, runs-not, runs-so}
 use Rattle.capi.proofs.sizes.unlock_extract_size.Statement.{statement}
 use Rattle.capi.proofs.sizes.unlock_extract_size.Tie as tie
 
-output-length-requires : tie.Need-output-length-requires
-output-length-requires c κs = let p : tie.After-parameters-of = search in let l : tie.Else1 = search in
-    rw (p .parameters-of .ensures) (within-limits _ (sym (l .before .set-within .ensures) ∙ not-false _ (l .if1 .left)))
+returns : tie.Need-returns
+returns c = let s : tie.Start = search in
+    runs-not _ (s .args .runs) (λ (q : Parameters). outputsLength q (s .args .runs)) (sym (c .before .runs-within .ensures) ∙ not-true _ (c .if1 .taken))
 
 returns-2 : tie.Need-returns-2
-returns-2 c = let p : tie.After-parameters-of = search in let l : tie.Else1 = search in
-    sized-so _ outputLength _ _ (sym (l .before .set-within .ensures) ∙ not-false _ (l .if1 .left)) (p .parameters-of .ensures) (c .output-length .ensures)
+returns-2 c = let l : tie.Else1 = search in let s : tie.Start = search in
+    runs-so _ (s .args .runs) (λ (q : Parameters). outputsLength q (s .args .runs)) _ (sym (l .before .runs-within .ensures) ∙ not-false _ (l .if1 .left))
+    (sized-not _ (λ (q : Parameters). outputsLength q (s .args .runs)) (sym (c .before .set-within .ensures) ∙ not-true _ (c .if2 .taken)))
+
+outputs-length-requires : tie.Need-outputs-length-requires
+outputs-length-requires c κs = let p : tie.After-parameters-of = search in let m : tie.Else2 = search in let l : tie.Else1 = search in (
+  rw (p .parameters-of .ensures) (within-limits _ (sym (m .before .set-within .ensures) ∙ not-false _ (m .if2 .left))),
+  runs-within _ (sym (l .before .runs-within .ensures) ∙ not-false _ (l .if1 .left)) .most,
+)
+
+returns-3 : tie.Need-returns-3
+returns-3 c = let p : tie.After-parameters-of = search in let m : tie.Else2 = search in let l : tie.Else1 = search in let s : tie.Start = search in
+    runs-so _ (s .args .runs) (λ (q : Parameters). outputsLength q (s .args .runs)) _ (sym (l .before .runs-within .ensures) ∙ not-false _ (l .if1 .left))
+    (sized-so _ (λ (q : Parameters). outputsLength q (s .args .runs)) _ _ (sym (m .before .set-within .ensures) ∙ not-false _ (m .if2 .left))
+    (p .parameters-of .ensures) (c .outputs-length .ensures))
 
 pub unlock-extract-size-spec : {M : Type 1} → statement M
-unlock-extract-size-spec = tie.close (tie.spec (λ c κs. search needs)
-    (λ c. sized-not _ outputLength (sym (c .before .set-within .ensures) ∙ not-true _ (c .if1 .taken)))
-    (λ c κs. let l : tie.Else1 = search in within-length _ (sym (l .before .set-within .ensures) ∙ not-false _ (l .if1 .left)))
-    output-length-requires returns-2)
+unlock-extract-size-spec = tie.close (tie.spec (λ c κs. search needs) returns (λ c κs. search needs) returns-2
+    (λ c κs. let m : tie.Else2 = search in within-length _ (sym (m .before .set-within .ensures) ∙ not-false _ (m .if2 .left)))
+    outputs-length-requires returns-3)

@@ -7,9 +7,9 @@ use Rattle.extractor.proofs.checks.all_lengths.Tie as tie
 
 returns : tie.Need-returns
 unfolding allLengths
-returns c = let size : tie.After-output-length = search in let g : tie.Then3 = search in let f : tie.Then2 = search in let e : tie.Then1 = search in
+returns c = let size : tie.After-outputs-length = search in let g : tie.Then3 = search in let f : tie.Then2 = search in let e : tie.Then1 = search in
     let a = sym (f .before .message-lengths2 .ensures) ∙ f .if2 .taken in
-    rw (sym (e .before .message-lengths .ensures) ∙ e .if1 .taken, a, sym (g .before .lent .ensures) ∙ g .if3 .taken, size .output-length .ensures)
+    rw (sym (e .before .message-lengths .ensures) ∙ e .if1 .taken, a, sym (g .before .lent .ensures) ∙ g .if3 .taken, size .outputs-length .ensures)
 
 returns-2 : tie.Need-returns-2
 unfolding allLengths

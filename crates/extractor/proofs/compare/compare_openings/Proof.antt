@@ -8,12 +8,12 @@ use Rattle.reader.specs.Message5.{auxIn}
 use Rattle.extractor.proofs.compare.compare_openings.Statement.{statement}
 use Rattle.extractor.proofs.compare.compare_openings.Tie as tie
 
-slice-aggregate-compare-2 : tie.Need-slice-aggregate-compare-2
-slice-aggregate-compare-2 c = let all : tie.After-opened-length = search in let s : tie.Start = search in
+slice-aggregate-compare : tie.Need-slice-aggregate-compare
+slice-aggregate-compare c = let all : tie.After-opened-length = search in let s : tie.Start = search in
     sym (length-take-le _ (s .args .opened .now) (omega (arith, s .pre .first-fits, all .opened-length .ensures)))
 
-slice-aggregate-compare-3 : tie.Need-slice-aggregate-compare-3
-slice-aggregate-compare-3 c = let all : tie.After-opened-length = search in let s : tie.Start = search in
+slice-aggregate-compare-2 : tie.Need-slice-aggregate-compare-2
+slice-aggregate-compare-2 c = let all : tie.After-opened-length = search in let s : tie.Start = search in
     sym (length-take-le _ (s .args .other .now) (omega (arith, s .pre .second-fits, all .opened-length .ensures)))
 
 compare-requires : tie.Need-compare-requires
@@ -30,6 +30,6 @@ returns c = let compared : tie.After-compare = search in let all : tie.After-ope
 
 pub compare-openings-spec : {M : Type 1} → statement M
 compare-openings-spec = tie.close (tie.spec (λ c κs. search needs) (λ c κs. search needs)
-    (λ c. let s : tie.Start = search in sym (length-take-le 32 (s .args .message1 .now) (s .pre .salt))) (λ c. search needs) (λ c. search needs)
-    (λ c. search needs) slice-aggregate-compare-2 (λ c. search needs) (λ c. search needs) (λ c. search needs) slice-aggregate-compare-3
-    compare-requires (λ c. search needs) returns)
+    (λ c. search needs) (λ c. search needs)
+    (λ c. search needs) slice-aggregate-compare (λ c. search needs) (λ c. search needs) (λ c. search needs) slice-aggregate-compare-2
+    compare-requires returns)

@@ -9,13 +9,15 @@ use Rattle.prover.proofs.arguments.begin_lengths.Tie as tie
 returns : tie.Need-returns
 unfolding lent beginTests
 returns c = let out : tie.Then4 = search in let root : tie.Then3 = search in let salt : tie.Then2 = search in let x : tie.Then1 = search in
+    let n : tie.After-message1-length = search in
     let a = eq-eqb _ _ (root .if3 .taken) in
-    rw (eq-eqb _ _ (x .if1 .taken), eq-eqb _ _ (salt .if2 .taken), a, eq-eqb _ _ (out .if4 .taken)) (c .lent .ensures)
+    rw (eq-eqb _ _ (x .if1 .taken), eq-eqb _ _ (salt .if2 .taken), a, ← n .message1-length .ensures, eq-eqb _ _ (out .if4 .taken)) (c .lent .ensures)
 
 returns-2 : tie.Need-returns-2
 unfolding beginTests
 returns-2 c = let root : tie.Then3 = search in let salt : tie.Then2 = search in let x : tie.Then1 = search in
-    rw (eq-eqb _ _ (x .if1 .taken), eq-eqb _ _ (salt .if2 .taken), eq-eqb _ _ (root .if3 .taken), ne-eqb _ _ (c .if4 .left))
+    let n : tie.After-message1-length = search in let a = eq-eqb _ _ (root .if3 .taken) in
+    rw (eq-eqb _ _ (x .if1 .taken), eq-eqb _ _ (salt .if2 .taken), a, ← n .message1-length .ensures, ne-eqb _ _ (c .if4 .left))
 
 returns-3 : tie.Need-returns-3
 unfolding beginTests
@@ -28,4 +30,4 @@ returns-4 c = let x : tie.Then1 = search in rw (eq-eqb _ _ (x .if1 .taken), ne-e
 
 pub begin-lengths-spec : {M : Type 1} → statement M
 unfolding beginTests
-begin-lengths-spec = tie.close (tie.spec (λ c κs. search needs) returns returns-2 returns-3 returns-4 (λ c. rw (ne-eqb _ _ (c .if1 .left))))
+begin-lengths-spec = tie.close (tie.spec (λ c κs. search needs) (λ c κs. search needs) returns returns-2 returns-3 returns-4 (λ c. rw (ne-eqb _ _ (c .if1 .left))))

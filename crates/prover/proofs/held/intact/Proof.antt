@@ -1,4 +1,4 @@
--- Parameters outside their limits and a heavy x each decide.
+-- Parameters or a run count outside their limits and a heavy x each decide.
 use mathlib.Core.Path.{_≡_, sym}
 use mathlib.Core.Bool.{true}
 use Prim.Native.Nat.{_≤_}
@@ -27,9 +27,14 @@ unfolding intact
 returns c = λ f salt root m2. rw (failed (c .before .within-limits .ensures) (c .if1 .taken))
 
 returns-2 : tie.Need-returns-2
+unfolding intact
+returns-2 c = let e : tie.Else1 = search in λ f salt root m2. rw (limits e, failed (c .before .runs-within .ensures) (c .if2 .taken))
+
+returns-3 : tie.Need-returns-3
 unfolding intact heldX
-returns-2 c = let e : tie.Else1 = search in λ f salt root m2. rw (limits e) (c .within-weight .ensures)
+returns-3 c = let count : tie.Else2 = search in let e : tie.Else1 = search in
+    λ f salt root m2. rw (limits e, passed (count .before .runs-within .ensures) (count .if2 .left)) (c .within-weight .ensures)
 
 pub intact-spec : {M : Type 1} → statement M
-intact-spec = tie.close (tie.spec (λ c κs. search needs) returns (λ c. let e : tie.Else1 = search in sym (length-take-le _ _ (x-fits e)))
-    (λ c κs. search needs) returns-2)
+intact-spec = tie.close (tie.spec (λ c κs. search needs) returns (λ c κs. search needs) returns-2
+    (λ c. let e : tie.Else1 = search in sym (length-take-le _ _ (x-fits e))) (λ c κs. search needs) returns-3)

@@ -8,25 +8,25 @@ use lib.ListN.{getD}
 use Rattle.stored.proofs.parts.head.Statement.{statement}
 use Rattle.stored.proofs.parts.head.Tie as tie
 
-cast-t8 : tie.Need-cast-t8
-cast-t8 c = let n : tie.After-numbers-of = search in let (m, small) = n .before .pre in omega (arith, ap (λ (l : List ℕ). getD l 0 0) (n .numbers-of .ensures))
+cast-t9 : tie.Need-cast-t9
+cast-t9 c = let n : tie.After-numbers-of = search in let (m, small) = n .before .pre in omega (arith, ap (λ (l : List ℕ). getD l 0 0) (n .numbers-of .ensures))
 
-cast-t12 : tie.Need-cast-t12
-cast-t12 c = let n : tie.After-numbers-of = search in let (m, (k, small)) = n .before .pre in omega (arith, ap (λ (l : List ℕ). getD l 1 0) (n .numbers-of .ensures))
+cast-t13 : tie.Need-cast-t13
+cast-t13 c = let n : tie.After-numbers-of = search in let (m, (k, small)) = n .before .pre in omega (arith, ap (λ (l : List ℕ). getD l 1 0) (n .numbers-of .ensures))
 
-cast-t16 : tie.Need-cast-t16
-cast-t16 c = let n : tie.After-numbers-of = search in let (m, (k, (w, small))) = n .before .pre in omega (arith, ap (λ (l : List ℕ). getD l 2 0) (n .numbers-of .ensures))
+cast-t17 : tie.Need-cast-t17
+cast-t17 c = let n : tie.After-numbers-of = search in let (m, (k, (w, small))) = n .before .pre in omega (arith, ap (λ (l : List ℕ). getD l 2 0) (n .numbers-of .ensures))
 
-cast-t20 : tie.Need-cast-t20
-cast-t20 c = let n : tie.After-numbers-of = search in let (m, (k, (w, (d, small)))) = n .before .pre in omega (arith, ap (λ (l : List ℕ). getD l 3 0) (n .numbers-of .ensures))
+cast-t21 : tie.Need-cast-t21
+cast-t21 c = let n : tie.After-numbers-of = search in let (m, (k, (w, (d, small)))) = n .before .pre in omega (arith, ap (λ (l : List ℕ). getD l 3 0) (n .numbers-of .ensures))
 
-cast-t24 : tie.Need-cast-t24
-cast-t24 c = let n : tie.After-numbers-of = search in let (m, (k, (w, (d, (t, small))))) = n .before .pre in omega (arith, ap (λ (l : List ℕ). getD l 4 0) (n .numbers-of .ensures))
+cast-t25 : tie.Need-cast-t25
+cast-t25 c = let n : tie.After-numbers-of = search in let (m, (k, (w, (d, (t, small))))) = n .before .pre in omega (arith, ap (λ (l : List ℕ). getD l 4 0) (n .numbers-of .ensures))
 
 returns : tie.Need-returns
 returns c = let n : tie.After-numbers-of = search in let phase = n .before .args .phase in
-    ap (λ (l : List ℕ). phase ∷ getD l 0 0 ∷ getD l 1 0 ∷ getD l 2 0 ∷ getD l 3 0 ∷ getD l 4 0 ∷ []) (n .numbers-of .ensures)
+    ap (λ (l : List ℕ). phase ∷ getD l 0 0 ∷ getD l 1 0 ∷ getD l 2 0 ∷ getD l 3 0 ∷ getD l 4 0 ∷ n .before .args .runs ∷ []) (n .numbers-of .ensures)
 
 pub head-spec : {M : Type 1} → statement M
-head-spec = tie.close (tie.spec (λ c κs. search needs) (λ c. search needs) cast-t8 (λ c. search needs) cast-t12 (λ c. search needs) cast-t16
-    (λ c. search needs) cast-t20 (λ c. search needs) cast-t24 returns)
+head-spec = tie.close (tie.spec (λ c κs. search needs) (λ c. search needs) cast-t9 (λ c. search needs) cast-t13 (λ c. search needs) cast-t17
+    (λ c. search needs) cast-t21 (λ c. search needs) cast-t25 (λ c. search needs) returns)

@@ -1,10 +1,12 @@
--- A refusal leaves the session; past the checks message 2 has 8t bytes, at most 64, and the session after it is the definition's.
+-- A refusal leaves the session; past the checks message 2 has room in its place, and the session after it is the definition's.
 use mathlib.Core.Path.{_≡_, sym, _∙_}
 use native.Mathlib.Omega.{arith}
+use lib.ListN.{length, length-map}
 use borrow.Author.Needs.{needs}
-use Rattle.calls.specs.Verifier.{pointsChecks, pointed, points}
-use Rattle.verifier.specs.Laws.{refused-call, done-call, points-passed}
+use Rattle.calls.specs.Verifier.{pointsChecks, points}
 use Rattle.verifier.specs.Held.{held}
+use Rattle.verifier.specs.Held.Laws.{pointed-held}
+use Rattle.verifier.specs.Laws.{refused-call, done-call, points-passed}
 use Rattle.verifier.proofs.Verifier.points.Statement.{statement}
 use Rattle.verifier.proofs.Verifier.points.Tie as tie
 
@@ -13,21 +15,30 @@ start c = search
 
 -- what the checks answer, of the session
 answers : (c : tie.After-points-checks) → (let a = start c .args in c .points-checks .result ≡ pointsChecks (held (a .self)) (a .message2 .now))
-answers c = let s = start c .args .self in c .points-checks .ensures (s .message1) (s .message2) (s .message3)
+answers c = c .points-checks .ensures (start c .args .self .messages)
+
+-- a field that is an array has its length
+messages-length : (c : tie.Start) → length (c .args .self .messages) ≡ 4_128
+messages-length c = sym (length-map (c .args .self .messages) _) ∙ c .good .0 .1 .1 .1 .1 .1 .0 .1 .0 .1
 
 returns : tie.Need-returns
 unfolding points
 returns c = let called : tie.After-points-checks = search in
     refused-call _ _ _ _ (answers called) (c .enum-told2 .given .0 .0) (c .enum-told2 .given .1)
 
-padded64-requires : tie.Need-padded64-requires
-padded64-requires c κs = let called : tie.After-points-checks = search in let f = c .before in
-    let known = points-passed _ _ (sym (answers called) ∙ f .enum-told .given .1) in omega (arith, known .within .t-most, known .size)
+put-at-requires : tie.Need-put-at-requires
+put-at-requires c κs = let called : tie.After-points-checks = search in let f = c .before .before in
+    let room = points-passed _ _ (sym (answers called) ∙ f .enum-told .given .1) in omega (arith, room, messages-length (start called))
 
 returns-2 : tie.Need-returns-2
-unfolding points pointed
-returns-2 c = let called : tie.After-points-checks = search in let f = c .before .before .before in
-    rw (c .before .padded64 .ensures) (done-call _ _ _ _ (answers called) (f .enum-told .given .1))
+unfolding points
+returns-2 c = let f = c .before .before .before .before in let called : tie.After-points-checks = f .before .before in let s = start called .args .self in
+    let room = points-passed _ _ (sym (answers called) ∙ f .enum-told .given .1) in
+    rw (
+      c .before .put-at .ensures,
+      pointed-held (s .parameters) (s .runs) (s .phase) (s .messages) (s .leaves) (messages-length (start called)) (start called .args .message2 .now) room,
+    ) (done-call _ _ _ _ (answers called) (f .enum-told .given .1))
 
 pub points-spec : {M : Type 1} → statement M
-points-spec = tie.close (tie.spec (λ c κs. search needs) (λ c. search needs) (λ c. search needs) returns padded64-requires returns-2)
+points-spec = tie.close (tie.spec (λ c. search needs) (λ c κs. search needs) (λ c. search needs) (λ c. search needs) returns (λ c. search needs)
+    put-at-requires returns-2)

@@ -8,22 +8,22 @@ use Rattle.verifier.proofs.checks.standing.Tie as tie
 
 returns : tie.Need-returns
 unfolding standing
-returns c = let f = c .before in λ m1 m2 m3. rw (eq-eqb _ _ (sym (f .before .step .ensures) ∙ c .if1 .taken ∙ f .step2 .ensures))
+returns c = let f = c .before in λ m. rw (eq-eqb _ _ (sym (f .before .step .ensures) ∙ c .if1 .taken ∙ f .step2 .ensures))
 
 returns-2 : tie.Need-returns-2
 unfolding standing
 returns-2 c = let f = c .before .before in let g = f .before in let s : tie.Start = search in
-    λ m1 m2 m3. rw (
+    λ m. rw (
       ne-eqb _ _ (λ e. f .if1 .left (g .before .step .ensures ∙ e ∙ sym (g .step2 .ensures))),
-      sym (c .before .intact .ensures (s .args .phase) m1 m2 m3) ∙ not-true _ (c .if2 .taken),
+      sym (c .before .intact .ensures (s .args .phase) m) ∙ not-true _ (c .if2 .taken),
     )
 
 returns-3 : tie.Need-returns-3
 unfolding standing
 returns-3 c = let f = c .before .before in let g = f .before in let s : tie.Start = search in
-    λ m1 m2 m3. rw (
+    λ m. rw (
       ne-eqb _ _ (λ e. f .if1 .left (g .before .step .ensures ∙ e ∙ sym (g .step2 .ensures))),
-      sym (c .before .intact .ensures (s .args .phase) m1 m2 m3) ∙ not-false _ (c .if2 .left),
+      sym (c .before .intact .ensures (s .args .phase) m) ∙ not-false _ (c .if2 .left),
     )
 
 pub standing-spec : {M : Type 1} → statement M

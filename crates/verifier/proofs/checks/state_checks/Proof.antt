@@ -7,12 +7,12 @@ use Rattle.verifier.proofs.checks.state_checks.Tie as tie
 
 returns-2 : tie.Need-returns-2
 returns-2 c = let f = c .before .before in
-    λ m1 m2 m3. rw (sym (f .before .closed .ensures m1 m2 m3) ∙ f .if1 .left, sym (c .before .due .ensures m1 m2 m3) ∙ not-true _ (c .if2 .taken))
+    λ m. rw (sym (f .before .closed .ensures m) ∙ f .if1 .left, sym (c .before .due .ensures m) ∙ not-true _ (c .if2 .taken))
 
 returns-3 : tie.Need-returns-3
 returns-3 c = let f = c .before .before in
-    λ m1 m2 m3. rw (sym (f .before .closed .ensures m1 m2 m3) ∙ f .if1 .left, sym (c .before .due .ensures m1 m2 m3) ∙ not-false _ (c .if2 .left))
+    λ m. rw (sym (f .before .closed .ensures m) ∙ f .if1 .left, sym (c .before .due .ensures m) ∙ not-false _ (c .if2 .left))
 
 pub state-checks-spec : {M : Type 1} → statement M
-state-checks-spec = tie.close (tie.spec (λ c κs. search needs) (λ c. λ m1 m2 m3. rw (sym (c .before .closed .ensures m1 m2 m3) ∙ c .if1 .taken))
+state-checks-spec = tie.close (tie.spec (λ c κs. search needs) (λ c. λ m. rw (sym (c .before .closed .ensures m) ∙ c .if1 .taken))
     (λ c κs. search needs) returns-2 returns-3)

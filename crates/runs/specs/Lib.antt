@@ -1,0 +1,4 @@
+pub mod Run
+pub mod Messages
+pub mod Opening
+pub mod Extractor

@@ -1,0 +1,1 @@
+// The exchange of document 01: definitions and laws, no code.
