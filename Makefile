@@ -24,7 +24,7 @@ emulate: firmware
 	@tools/on-core target/firmware/exchange
 
 unlock:
-	@RUNS=$(RUNS) tools/unlock $(if $(KEY),"$(KEY)")
+	@RUNS="$(RUNS)" tools/unlock $(if $(KEY),"$(KEY)")
 
 example:
 	@tools/staticlib capi
