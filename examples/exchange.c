@@ -94,7 +94,9 @@ static uint8_t commitment(void)
     return unlock_verifier_begin(verifier, sizeof verifier, set, UNLOCK_SET_LENGTH, RUNS, message1, sizeof message1);
 }
 
-/* Messages 2 and 3: the target asks for the values at its points, the probe answers with a digest. */
+/* Messages 2 and 3: the target asks for the values at its points, the probe answers with a digest. The points of a run have to
+   differ, as these do; a product whose random source gives one twice gets UNLOCK_SAME_POINT from the target's call and draws
+   again. */
 static uint8_t response(void)
 {
     EXPAND("points", message2, sizeof message2);

@@ -26,6 +26,10 @@
  * key is accepted in one run with a chance of about 1/n, in all of them with about n^-runs. The run count is no number of the set:
  * both begins and the extractor take it, and both sides have to take the same. An exchange is accepted where all its runs are.
  *
+ * Points. The t points of a run in message 2 have to differ pairwise, as four bytes: unlock_prover_points, unlock_verifier_points
+ * and unlock_extract give UNLOCK_SAME_POINT otherwise. Multipliers may repeat and may equal points, and points of different runs may
+ * be equal.
+ *
  * Lengths. x_a k, salt 32, root 16, matrix (m - k) k, row after row, y m - k. Message 1 is the salt and a digest of 32 bytes a run,
  * message 2 for one run after another t points, then t multipliers, four bytes each, message 3 a digest of 32 bytes a run, message 4
  * a leaf of one byte a run, message 5 has unlock_opening_size() bytes. The work area has unlock_work_size() bytes or more, whatever
@@ -42,7 +46,7 @@ extern "C" {
 #endif
 
 /*
- * What a call answers. A call that several refusals would fit gives the first of 12, 11, 1, 2, 3, 4, 13, 8, 9, 5, 7. Without a
+ * What a call answers. A call that several refusals would fit gives the first of 12, 11, 1, 2, 14, 3, 4, 13, 8, 9, 5, 7. Without a
  * session 12 and 11 cannot be told: a session buffer of wrong length gives 2 before them, but at begin 1 before 2. Without a set 1
  * cannot be told: a set of wrong length gives 2 before it. No call answers 6, nor 10, which is the programs'.
  */
@@ -59,7 +63,8 @@ enum {
     UNLOCK_SAME_LEAF = 9,   /* extractor: same hidden leaf in every run */
     UNLOCK_NOT_DUE = 11,    /* the call is not due */
     UNLOCK_CLOSED = 12,     /* the exchange is closed, only begin is due */
-    UNLOCK_REPEATED = 13    /* salt and root both equal those of the exchange held */
+    UNLOCK_REPEATED = 13,   /* salt and root both equal those of the exchange held */
+    UNLOCK_SAME_POINT = 14  /* two points of one run are equal */
 };
 
 /* ---- lengths */
@@ -112,7 +117,7 @@ uint8_t unlock_prover_begin(uint8_t *session, uint64_t session_length,
                             uint8_t *work, uint64_t work_length,
                             uint8_t *out, uint64_t out_length);
 
-/* Takes message 2 and gives message 3. */
+/* Takes message 2 and gives message 3. UNLOCK_SAME_POINT where two points of one run are equal. */
 uint8_t unlock_prover_points(uint8_t *session, uint64_t session_length,
                              const uint8_t *message2, uint64_t message2_length,
                              const uint8_t *matrix, uint64_t matrix_length,
@@ -139,7 +144,8 @@ uint8_t unlock_verifier_begin(uint8_t *session, uint64_t session_length,
                               uint64_t runs,
                               const uint8_t *message1, uint64_t message1_length);
 
-/* Takes message 2, which the verifier sends: points and multipliers have to be random. */
+/* Takes message 2, which the verifier sends: points and multipliers have to be random. UNLOCK_SAME_POINT where two points of one run
+   are equal: draw them again and repeat the call, before message 2 is sent. */
 uint8_t unlock_verifier_points(uint8_t *session, uint64_t session_length,
                                const uint8_t *message2, uint64_t message2_length);
 
@@ -162,10 +168,10 @@ uint8_t unlock_verifier_opening(uint8_t *session, uint64_t session_length,
 /* ---- extractor */
 
 /*
- * From messages 1 to 5 of two exchanges of so many runs. A refusal is its number. 65536 * layer + 256 * run + number for two unequal
- * strings of one run, layer (4 to 7) and number that have one digest: out is as it was. Else 256 * (run + 1) + axis (from 1), of the
- * lowest run whose hidden leaves differ: out has a part for each run, filled where its hidden leaves differ, with seed and rho of
- * every leaf, then aux, and elsewhere as it was.
+ * From messages 1 to 5 of two exchanges of so many runs. A refusal is its number, UNLOCK_SAME_POINT where two points of one run of
+ * either exchange are equal. 65536 * layer + 256 * run + number for two unequal strings of one run, layer (4 to 7) and number that
+ * have one digest: out is as it was. Else 256 * (run + 1) + axis (from 1), of the lowest run whose hidden leaves differ: out has a
+ * part for each run, filled where its hidden leaves differ, with seed and rho of every leaf, then aux, and elsewhere as it was.
  */
 uint32_t unlock_extract(const uint64_t *set, uint64_t set_length,
                         uint64_t runs,

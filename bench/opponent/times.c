@@ -240,19 +240,40 @@ static void vary_leaves(void)
     }
 }
 
-/* A lighter x, points that are bytes or pairs. */
+/* Whether the point at a position of a run equals an earlier one of it. */
+static int repeats(const uint8_t *points, unsigned at)
+{
+    for (unsigned i = 0; i < at; i++)
+        if (!memcmp(points + 4 * i, points + 4 * at, 4)) return 1;
+    return 0;
+}
+
+/* Points and multipliers that are bytes or pairs. A point that would then equal another one of its run stays as it was: the library
+   refuses it, and the opponent looks for none. */
+static void shorten_points(void)
+{
+    uint8_t shorter[16 * UNLOCK_RUNS_MAX], whole[4];
+    unsigned t = (unsigned)exchange.set[4];
+    draw("shorter", shorter, sizeof shorter);
+    for (unsigned i = 0; i < 2 * t * exchange.runs; i++) {
+        unsigned at = i % (2 * t);
+        uint8_t *point = exchange.message2 + 4 * i;
+        memcpy(whole, point, 4);
+        if (shorter[i] % 8 < 2) memset(point + 2, 0, 2);
+        if (shorter[i] % 8 == 0) point[1] = 0;
+        if (at < t && repeats(point - 4 * at, at)) memcpy(point, whole, 4);
+    }
+}
+
+/* A lighter x, shorter points, any leaves. */
 static void vary_exchange(void)
 {
-    uint8_t lighter[256], shorter[16 * UNLOCK_RUNS_MAX];
+    uint8_t lighter[256];
     draw("lighter", lighter, sizeof lighter);
-    draw("shorter", shorter, sizeof shorter);
     for (unsigned i = 0; i < exchange.set[0]; i++)
         if (lighter[255] % 4 == 0 && lighter[i] % 4 == 0) exchange.x[i] = 0;
     syndrome(exchange.matrix, exchange.x, (uint32_t)exchange.set[0], (uint32_t)exchange.set[1], exchange.y);
-    for (unsigned i = 0; i < 2 * exchange.set[4] * exchange.runs; i++) {
-        if (shorter[i] % 8 < 2) memset(exchange.message2 + 4 * i + 2, 0, 2);
-        if (shorter[i] % 8 == 0) exchange.message2[4 * i + 1] = 0;
-    }
+    shorten_points();
     vary_leaves();
 }
 

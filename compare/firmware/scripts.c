@@ -1,9 +1,9 @@
 /*
  * Random scripts of calls through unlock.h, the same on every core. A script is an exchange at a random set and run count and an
  * extraction from two openings of its commitment. Most have faults: parameters and run counts of up to 64 bits, lengths that are
- * off, damaged messages and sessions, leaves out of range, calls that are not due. A line for each script has its set, its run count
- * and a digest of every answer and of every byte that a call could write; the last line says how often each number was answered.
- * SCRIPTS and SEED, how many and which, come from the compiler's command.
+ * off, damaged messages and sessions, repeated points, leaves out of range, calls that are not due. A line for each script has its
+ * set, its run count and a digest of every answer and of every byte that a call could write; the last line says how often each
+ * number was answered. SCRIPTS and SEED, how many and which, come from the compiler's command.
  */
 #include <string.h>
 
@@ -51,8 +51,9 @@ static void damage(uint8_t *at, uint64_t length)
 
 /* ---- what is noted */
 
+enum { NUMBERS = UNLOCK_SAME_POINT + 1 };
 static uint64_t digest;
-static uint32_t answers[14], extractions; /* how often each number was answered, and any that the extractor found something with */
+static uint32_t answers[NUMBERS], extractions; /* how often each number was answered, and any with which something was extracted */
 
 static void note_number(uint64_t number)
 {
@@ -76,7 +77,7 @@ static void note_bytes(const uint8_t *bytes, uint64_t length)
 static void note_answer(uint32_t answer)
 {
     note_number(answer);
-    if (answer < 14) answers[answer]++;
+    if (answer < NUMBERS) answers[answer]++;
     else extractions++;
     note_bytes(prover, sizeof prover);
     note_bytes(verifier, sizeof verifier);
@@ -180,14 +181,31 @@ static uint8_t verifier_begin(void)
     damage(first.message1, UNLOCK_MESSAGE1_SIZE(runs));
     return unlock_verifier_begin(verifier, length.verifier, set, length.set, run_count, first.message1, length.message1);
 }
+/* Puts a point of a run at another position of it too, now and then but for one bit. */
+static void repeat_point(uint8_t *message2)
+{
+    if (t < 2) return;
+    uint8_t *points = message2 + UNLOCK_MESSAGE2_SIZE(t, below(runs));
+    uint32_t from = below(t), to = (from + 1 + below(t - 1)) % t;
+    memcpy(points + 4 * to, points + 4 * from, 4);
+    if (below(4) == 0) points[4 * to + below(4)] ^= (uint8_t)(1u << below(8));
+}
+/* Message 2, now and then with a point that a run repeats. */
+static const uint8_t *points(void)
+{
+    static uint8_t bent_points[sizeof first.message2];
+    memcpy(bent_points, first.message2, sizeof bent_points);
+    if (chance(8)) repeat_point(bent_points);
+    return bent_points;
+}
 static uint8_t verifier_points(void)
 {
-    return unlock_verifier_points(verifier, length.verifier, first.message2, length.message2);
+    return unlock_verifier_points(verifier, length.verifier, points(), length.message2);
 }
 static uint8_t prover_points(void)
 {
     damage(first.message2, UNLOCK_MESSAGE2_SIZE(t, runs));
-    return unlock_prover_points(prover, length.prover, first.message2, length.message2, KEY, WORK, first.message3, length.message3);
+    return unlock_prover_points(prover, length.prover, points(), length.message2, KEY, WORK, first.message3, length.message3);
 }
 static uint8_t verifier_response(void)
 {
@@ -248,6 +266,7 @@ static void extract(void)
 {
     uint64_t length5 = unlock_opening_size(right, UNLOCK_SET_LENGTH, second.leaves, runs);
     if (chance(8)) second.message2[below(UNLOCK_MESSAGE2_SIZE(t, runs))] ^= 1;
+    if (chance(8)) repeat_point(below(2) == 0 ? first.message2 : second.message2);
     damage(second.message1, UNLOCK_MESSAGE1_SIZE(runs));
     damage(second.message5, length5);
     draw_lent(first.leaves);
@@ -305,7 +324,7 @@ static void report(uint32_t number)
 static void report_answers(void)
 {
     print("answers");
-    for (uint32_t i = 0; i < 14; i++) {
+    for (uint32_t i = 0; i < NUMBERS; i++) {
         print("\t");
         print_number(i);
         print(":");

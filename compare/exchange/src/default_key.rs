@@ -17,6 +17,11 @@ pub fn expand(label: &str, length: usize) -> Vec<u8> {
     shake256(format!("Risvatey unlock: {label}").as_bytes(), length)
 }
 
+/// Points and multipliers of so many runs.
+pub fn message_2(parameters: &Parameters, runs: usize) -> Vec<u8> {
+    expand("points", parameters.message_2_bytes(runs))
+}
+
 /// The leaves that stay hidden: the low D bits of one byte a run.
 pub fn leaves(parameters: &Parameters, runs: usize) -> Vec<u8> {
     let last = u8::try_from(parameters.last_leaf()).expect("there are at most 256 leaves");

@@ -1,7 +1,7 @@
 //! What `unlock` prints for a key: a line for the parameters, one for the run count, one for each message, the verdict, with
 //! an accepted one the chance of a prover without the key, and what is proved.
 
-use crate::default_key::{expand, leaves};
+use crate::default_key::{expand, leaves, message_2};
 use reference::keylist::to_hex;
 use reference::lent::Lent;
 use reference::numbers::{Number, CARRIED_OUT};
@@ -64,7 +64,7 @@ impl Program<'_> {
         let (parameters, runs) = (self.key.parameters, self.runs);
         let mut verifier = Verifier::default();
         done(verifier.begin(parameters, runs, message_1))?;
-        let message_2 = expand("points", parameters.message_2_bytes(runs));
+        let message_2 = message_2(&parameters, runs);
         done(verifier.points(&message_2))?;
         self.message("2 points", &message_2);
         let mut message_3 = vec![0; Parameters::message_3_bytes(runs)];

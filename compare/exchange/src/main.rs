@@ -6,12 +6,14 @@
 //! ```
 //!
 //! The program is started once for each input, which it reads from standard input, with the arguments of that input; what it
-//! prints must equal what is built here from the reference alone. Differences are printed, and the last line is 'N passed, M
-//! failed'. The second form prints what is expected for an empty input without arguments.
+//! prints must equal what is built here from the reference alone. One more check, of the reference alone, is that the points
+//! that the program expands never repeat in a run. Differences are printed, and the last line is 'N passed, M failed'. The
+//! second form prints what is expected for an empty input without arguments.
 
 mod cases;
 mod default_key;
 mod expected;
+mod points;
 
 use cases::Case;
 use std::io::{self, Write};
@@ -48,8 +50,9 @@ fn agrees(program: &str, case: &Case) -> bool {
 
 fn compare(seed: u64, program: &str) -> ExitCode {
     let cases = cases::cases(seed);
-    let passed = cases.iter().filter(|case| agrees(program, case)).count();
-    let failed = cases.len() - passed;
+    let outcomes: Vec<bool> = cases.iter().map(|case| agrees(program, case)).chain([points::differ()]).collect();
+    let passed = outcomes.iter().filter(|&&outcome| outcome).count();
+    let failed = outcomes.len() - passed;
     println!("{passed} passed, {failed} failed");
     if failed == 0 && passed > 0 {
         ExitCode::SUCCESS

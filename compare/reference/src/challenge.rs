@@ -1,5 +1,6 @@
 //! Message 2, run after run: t points r, then t multipliers ε.
 
+use crate::numbers::{require, Number, POINT_REPEATED};
 use crate::points_field::{points_from_bytes, Point};
 
 /// The points and multipliers of a run.
@@ -17,5 +18,12 @@ impl Challenge {
         let mut points = points_from_bytes(bytes);
         let multipliers = points.split_off(points.len() / 2);
         Challenge { points, multipliers }
+    }
+
+    /// Refuses with 14 if two points are equal as four bytes. Multipliers may repeat and may equal points.
+    pub fn check_points(&self) -> Result<(), Number> {
+        let earlier = |place: usize| &self.points[..place];
+        let distinct = self.points.iter().enumerate().all(|(place, point)| !earlier(place).contains(point));
+        require(distinct, POINT_REPEATED)
     }
 }

@@ -3,7 +3,7 @@
 use crate::check::{check, OpeningStrings, Recomputed};
 use crate::leaves::Leaf;
 use crate::lent::Lent;
-use crate::messages::Messages;
+use crate::messages::{check_points, Messages};
 use crate::numbers::{require, Number, EXCHANGES_DIFFER, SAME_HIDDEN_LEAVES, WRONG_LENGTH};
 use crate::parameters::Parameters;
 use crate::runs::check_run_count;
@@ -73,6 +73,8 @@ fn check_before_openings(
     second.check(parameters, runs)?;
     lent.check(parameters)?;
     require(output.len() == parameters.extractor_bytes(runs), WRONG_LENGTH)?;
+    check_points(parameters, first.message_2)?;
+    check_points(parameters, second.message_2)?;
     parameters.check_leaves(first.leaves)?;
     parameters.check_leaves(second.leaves)?;
     require(first.message_1 == second.message_1, EXCHANGES_DIFFER)?;

@@ -85,6 +85,12 @@ pub fn challenges(parameters: &Parameters, message_2: &[u8]) -> Vec<Challenge> {
     message_2.chunks_exact(parameters.challenge_bytes()).map(Challenge::from_bytes).collect()
 }
 
+/// Refuses with 14 if two points of one run are equal in a message 2 that has its length; runs are not compared with each
+/// other.
+pub fn check_points(parameters: &Parameters, message_2: &[u8]) -> Result<(), Number> {
+    challenges(parameters, message_2).iter().try_for_each(Challenge::check_points)
+}
+
 /// Message 1 from the salt and h of each run.
 pub fn message_1(salt: &Salt, h: &[Digest]) -> Vec<u8> {
     [&salt[..], &h.concat()].concat()

@@ -31,6 +31,8 @@ pub const NOT_DUE: Number = 11;
 pub const CLOSED: Number = 12;
 /// Salt and root both equal those of the exchange held.
 pub const SALT_AND_ROOT_HELD: Number = 13;
+/// Two points of one run are equal (document 02, request 02). Checked straight after 2.
+pub const POINT_REPEATED: Number = 14;
 
 /// Refuses with the number unless the condition holds.
 pub fn require(condition: bool, number: Number) -> Result<(), Number> {

@@ -8,7 +8,7 @@ use crate::challenge::Challenge;
 use crate::commitment::{Committed, Witness};
 use crate::key::check_weight;
 use crate::lent::Lent;
-use crate::messages::{challenges, message_1};
+use crate::messages::{challenges, check_points, message_1};
 use crate::numbers::{number_of, require, Number, CLOSED, NOT_DUE, SALT_AND_ROOT_HELD, WRONG_LENGTH};
 use crate::parameters::Parameters;
 use crate::runs::{check_run_count, Run, GREATEST_RUNS};
@@ -129,6 +129,7 @@ impl Prover {
         require(message_2.len() == self.parameters.message_2_bytes(self.runs), WRONG_LENGTH)?;
         lent.check(&self.parameters)?;
         require(output.len() == Parameters::message_3_bytes(self.runs), WRONG_LENGTH)?;
+        check_points(&self.parameters, message_2)?;
         let runs = self.committed().into_iter().zip(challenges(&self.parameters, message_2));
         let responses: Vec<Digest> = runs.map(|(run, challenge)| run.response(&challenge, lent.key())).collect();
         output.copy_from_slice(&responses.concat());

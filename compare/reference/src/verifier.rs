@@ -5,7 +5,7 @@
 
 use crate::check::check;
 use crate::lent::Lent;
-use crate::messages::Messages;
+use crate::messages::{check_points, Messages};
 use crate::numbers::{number_of, require, Number, CLOSED, NOT_DUE, WRONG_LENGTH};
 use crate::parameters::Parameters;
 use crate::runs::{check_run_count, GREATEST_RUNS};
@@ -106,6 +106,7 @@ impl Verifier {
     fn try_points(&mut self, message_2: &[u8]) -> Result<(), Number> {
         self.require_due(Phase::Points)?;
         require(message_2.len() == self.parameters.message_2_bytes(self.runs), WRONG_LENGTH)?;
+        check_points(&self.parameters, message_2)?;
         write_front(&mut self.message_2, message_2);
         self.phase = Phase::Response;
         Ok(())

@@ -1,4 +1,4 @@
-//! With a valid key, every start, message 2 and leaf lead to acceptance.
+//! With a valid key, every start, message 2 with distinct points and leaf lead to acceptance.
 
 use reference::parameters::Parameters;
 use reference::sampling::exchanges::{honest_exchange, verdict, Start};
@@ -115,8 +115,10 @@ fn challenges_of_zeros_and_interpolation_points() {
     let mut random = Random::new(15);
     let set = Parameters::new(10, 4, 3, 3, 2);
     let key = valid_key(&mut random, &set);
-    let point_1_and_255: [u8; 16] = [1, 0, 0, 0, 10, 0, 0, 0, 1, 0, 0, 0, 255, 0, 0, 0];
-    for message_2 in [[0; 16], [0xff; 16], point_1_and_255] {
+    let zero_and_one = [0, 0, 0, 0, 1, 0, 0, 0, 0, 0, 0, 0, 0, 0, 0, 0];
+    let ones = [255, 255, 255, 255, 255, 255, 255, 254, 255, 255, 255, 255, 255, 255, 255, 255];
+    let points_1_and_10: [u8; 16] = [1, 0, 0, 0, 10, 0, 0, 0, 1, 0, 0, 0, 255, 0, 0, 0];
+    for message_2 in [zero_and_one, ones, points_1_and_10] {
         let start = Start { message_2: message_2.to_vec(), ..Start::random(&mut random, &set, 1) };
         for leaf in 0..8 {
             assert_eq!(verdict(&set, key.public(), &honest_exchange(&key, &start, &[leaf])), 0);

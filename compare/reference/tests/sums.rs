@@ -5,7 +5,7 @@ use reference::numbers::*;
 use reference::parameters::Parameters;
 use reference::parties::{Axis, Sent};
 use reference::points_field::{Point, POINT_BYTES};
-use reference::sampling::damage::flip_bit;
+use reference::sampling::damage::{flip_bit, flip_challenge_bit};
 use reference::sampling::exchanges::{extraction, honest_exchange, verdict, Exchange, Start};
 use reference::sampling::keys::{any_key, valid_key, Key};
 use reference::sampling::made_up::{any_leaves, openings, pairs, some_leaves};
@@ -55,7 +55,7 @@ fn number_6_is_never_seen() {
         for _ in 0..random.between(1, 3) {
             match random.below(6) {
                 0 => flip_bit(&mut random, &mut exchange.message_1),
-                1 => flip_bit(&mut random, &mut exchange.message_2),
+                1 => flip_challenge_bit(&mut random, &key.parameters, &mut exchange.message_2),
                 2 => flip_bit(&mut random, &mut exchange.message_3),
                 3 => flip_bit(&mut random, &mut exchange.message_5),
                 4 => flip_bit(&mut random, &mut key.matrix),
@@ -170,9 +170,9 @@ fn made_up_openings_get_0_5_or_7() {
     }
 }
 
-/// In the extractor they are extracted or get 5 or 7, whichever of the two is refused, or 8.
+/// In the extractor they are extracted or get 5 or 7, whichever of the two is refused, or 8 or 14.
 #[test]
-fn made_up_pairs_are_extracted_or_get_5_7_or_8() {
+fn made_up_pairs_are_extracted_or_get_5_7_8_or_14() {
     let mut random = Random::new(36);
     for set in sets_of_every_shape(&mut random, 8) {
         let key = any_key(&mut random, &set);

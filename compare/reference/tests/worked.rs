@@ -128,7 +128,7 @@ fn prover_at_leaf(key: &Key) -> Prover {
     let lent = LentBytes { matrix: key.matrix.clone(), y: key.y.clone(), work: vec![0; set.work_bytes()] };
     let x_a = key.x_a.clone();
     let begin = ProverInput::Begin { parameters: set, runs: 1, x_a, salt: vec![1; 32], root: vec![2; 16] };
-    let points = ProverInput::Points { message_2: vec![3; set.message_2_bytes(1)] };
+    let points = ProverInput::Points { message_2: (0..set.message_2_bytes(1) as u8).collect() };
     for (input, length) in [(begin, 64), (points, 32)] {
         let call = ProverCall { input, lent: lent.clone(), output: vec![0; length] };
         assert_eq!(call.make(&mut prover).number, 0);
@@ -152,7 +152,7 @@ fn leaves_7_and_8_at_three_axes() {
     assert_eq!(leaf(8, shorter).make(&mut prover_at_leaf(&key)).number, WRONG_LENGTH);
     let mut verifier = Verifier::default();
     assert_eq!(verifier.begin(set, 1, &[0; 64]), 0);
-    assert_eq!(verifier.points(&[0; 16]), 0);
+    assert_eq!(verifier.points(&[0, 0, 0, 0, 0, 0, 0, 1, 0, 0, 0, 0, 0, 0, 0, 0]), 0);
     assert_eq!(verifier.response(&[0; 32]), 0);
     assert_eq!(verifier.leaf(&[8]), LEAF_NOT_BELOW_N);
     assert_eq!(verifier.leaf(&[7]), 0);

@@ -2,9 +2,9 @@
 //! that follow are held to the second implementation, and where it is plain to the number that they must answer.
 
 use crate::count::Count;
-use crate::effects::require;
+use crate::effects::{answers, require};
 use crate::{prover, verifier};
-use reference::numbers::{Number, CARRIED_OUT, CLOSED, SALT_AND_ROOT_HELD};
+use reference::numbers::{CARRIED_OUT, CLOSED, SALT_AND_ROOT_HELD};
 use reference::prover::Prover;
 use reference::sampling::calls::{ProverCall, VerifierCall};
 use reference::sampling::exchanges::{honest_exchange, Start};
@@ -58,10 +58,6 @@ fn flipped(session: &[u8], bits: &[usize]) -> Vec<u8> {
         session[bit / 8] ^= 1 << (bit % 8);
     }
     session
-}
-
-fn answers(found: Number, wanted: Number) -> Result<(), String> {
-    require(found == wanted, &format!("number {found}, not {wanted}"))
 }
 
 /// Is the session closed whatever else it holds? A phase with up to three bits flipped is none, and reads as closed.

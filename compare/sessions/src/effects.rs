@@ -1,6 +1,7 @@
 //! The calls of the samples made of the proved library.
 
 use reference::extractor::Answer;
+use reference::numbers::Number;
 use reference::parameters::Parameters;
 use reference::sampling::calls::{Effect, ExtractorCall, ProverCall, ProverInput, VerifierCall};
 use reference::sampling::exchanges::Exchange;
@@ -77,6 +78,11 @@ pub fn require(holds: bool, difference: &str) -> Result<(), String> {
     } else {
         Err(difference.to_string())
     }
+}
+
+/// The difference, unless a call answered the number that it must.
+pub fn answers(found: Number, wanted: Number) -> Result<(), String> {
+    require(found == wanted, &format!("number {found}, not {wanted}"))
 }
 
 /// What differs between two effects, if anything.

@@ -66,6 +66,7 @@ fn calls() -> Vec<(&'static str, ProverCall)> {
         ("begin", call(begin(SHIPPED, &x_a, &root), 96)),
         ("leaf", call(leaf(&[77, 255]), 664)),
         ("points", call(points(47), 64)),
+        ("points", call(ProverInput::Points { message_2: vec![0; 48] }, 64)),
         ("points", call(points(48), 64)),
         ("points", call(points(48), 64)),
         ("leaf", call(leaf(&[77, 255]), 368)),

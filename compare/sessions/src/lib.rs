@@ -7,6 +7,7 @@ pub mod effects;
 pub mod extractor;
 pub mod fixed;
 pub mod made_up;
+pub mod points;
 pub mod prover;
 pub mod sets;
 pub mod verifier;

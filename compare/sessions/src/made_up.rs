@@ -3,7 +3,7 @@
 use crate::count::Count;
 use crate::effects::require;
 use crate::{extractor, verifier, RUN_COUNTS};
-use reference::numbers::{Number, CARRIED_OUT};
+use reference::numbers::{Number, CARRIED_OUT, NOT_DUE, POINT_REPEATED};
 use reference::sampling::keys::{any_key, Key};
 use reference::sampling::made_up;
 use reference::sampling::parameter_sets::{random_set, sets_of_every_shape};
@@ -36,6 +36,24 @@ pub fn openings(seed: u64, count: &mut Count) {
                 let outcome = numbers.and_then(|numbers| ends_in(number, &numbers));
                 count.settle(&format!("made-up opening of leaves {leaves:?} at {set:?}"), outcome);
             }
+        }
+    }
+}
+
+/// Made-up exchanges of which two points of a run are equal, for every D and t but 1, else accepted: points get 14, and no
+/// later call is due.
+pub fn repeated_points(seed: u64, count: &mut Count) {
+    let mut random = Random::new(seed ^ 0x3ae0);
+    for (place, set) in sets_of_every_shape(&mut random, GREATEST_M).into_iter().enumerate() {
+        let key = any_key(&mut random, &set);
+        let leaves = made_up::any_leaves(&mut random, &set, runs_of(place));
+        if let Some(exchange) = made_up::with_repeated_point(&mut random, &key, &leaves) {
+            let calls = verifier::calls(&mut random, &key, &exchange);
+            let numbers = verifier::compare(&calls, unlock::verifier::Verifier::new(), count);
+            let wanted = [CARRIED_OUT, POINT_REPEATED, NOT_DUE, NOT_DUE, NOT_DUE];
+            let outcome =
+                numbers.and_then(|numbers| require(numbers == wanted, &format!("numbers {numbers:?}, not {wanted:?}")));
+            count.settle(&format!("made-up exchange with repeated points at {set:?}"), outcome);
         }
     }
 }

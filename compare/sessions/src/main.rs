@@ -3,7 +3,7 @@
 //! sessions_comparison SEED     what the gate runs; the last line is 'N passed, M failed'
 
 use sessions_comparison::count::Count;
-use sessions_comparison::{damaged, extractor, fixed, made_up, prover, sets, verifier};
+use sessions_comparison::{damaged, extractor, fixed, made_up, points, prover, sets, verifier};
 
 fn main() {
     let seed = match std::env::args().nth(1).map(|word| word.parse()) {
@@ -33,7 +33,9 @@ fn main() {
     sets::of_other_lengths(seed, 6, &mut count);
     sets::lengths(seed, &mut count);
     made_up::openings(seed, &mut count);
+    made_up::repeated_points(seed, &mut count);
     made_up::pairs(seed, &mut count);
+    points::compare(seed, &mut count);
     count.settle_number_6();
     std::process::exit(count.finish());
 }

@@ -4,7 +4,7 @@ use crate::count::Count;
 use crate::effects::{make_verifier, require, same};
 use crate::{size, stranger, RUN_COUNTS};
 use reference::sampling::calls::{LentBytes, VerifierCall};
-use reference::sampling::damage::flip_bit;
+use reference::sampling::damage::{flip_bit, repeat_point};
 use reference::sampling::exchanges::{honest_exchange, Exchange, Start};
 use reference::sampling::keys::{valid_key, Key};
 use reference::sampling::made_up::{any_leaves, some_leaves};
@@ -132,14 +132,17 @@ pub fn honest(seed: u64, sets: usize, count: &mut Count) {
 }
 
 /// The fields of a run and what else an opening depends on.
-const DAMAGES: usize = 12;
+const DAMAGES: usize = 13;
 
-/// Changes one bit of one of them; false if the field is empty.
+/// Changes one bit of one of them, or makes points repeat; false if there is nothing to change.
 fn damage(random: &mut Random, kind: usize, key: &mut Key, exchange: &mut Exchange, run: usize) -> bool {
     let set = key.parameters;
     let siblings = 16 * set.axes;
     let values = siblings + 32;
     let aux = values + 8 * set.t;
+    if kind == 12 {
+        return repeat_point(random, &set, exchange.challenge_mut(&set, run));
+    }
     let field = match kind {
         0 => &mut exchange.message_1[..32],
         1 => exchange.h_mut(run),

@@ -198,3 +198,52 @@ pub fn calls(sample: &Sample) -> Module {
     call_fact(&mut module, "response", Weakness::Layer(7), &response);
     module
 }
+
+/// Calls with equal points of a run, or with points that are only alike, and a second fault: 14 comes behind 2 and before 4,
+/// 8 and 9, and where it is not due the second fault counts.
+fn points_calls(sample: &Sample, honest: &ExtractorCall) -> Vec<(&'static str, ExtractorCall)> {
+    let set = honest.parameters;
+    let with = |message_2: [Vec<u8>; 2], fault: &dyn Fn(&mut ExtractorCall)| {
+        let mut call = honest.clone();
+        [call.first.message_2, call.second.message_2] = message_2;
+        fault(&mut call);
+        call
+    };
+    let distinct = || sample.start.message_2.clone();
+    let ends = || sample.repeated(1, 0, 2);
+    let beyond = |call: &mut ExtractorCall| call.first.leaves[1] = set.leaves() as u8;
+    let same_leaves = |call: &mut ExtractorCall| call.second = call.first.clone();
+    let short_work = |call: &mut ExtractorCall| call.lent.work.truncate(set.work_bytes() - 1);
+    vec![
+        ("endsShort", with([ends(), ends()], &short_work)),
+        ("endsBeyond", with([ends(), ends()], &beyond)),
+        ("endsSameLeaves", with([ends(), ends()], &same_leaves)),
+        ("endsOfFirst", with([ends(), distinct()], &|_| ())),
+        ("neighboursOfSecond", with([distinct(), sample.repeated(0, 0, 1)], &|_| ())),
+        ("alikeBeyond", with([sample.alike(0), sample.alike(2)], &beyond)),
+    ]
+}
+
+/// The extractor's call of two runs where points of a run are equal.
+pub fn points(sample: &Sample) -> Module {
+    let comment = [
+        "The extractor's call of two runs where points of a run are equal, or alike and not equal, with a second fault.",
+        "",
+        "p, key, work, out     parameters, matrix and y, work area and output as lent",
+        "..A, ..B              the messages of two exchanges",
+        "ends..                points 0 and 2 of run 1 are equal in both, and the work area is short, a leaf is n, or the leaves",
+        "                      are the same; of the first alone: messages 2 differ",
+        "neighboursOfSecond    points 0 and 1 of run 0 are equal in the second alone",
+        "alikeBeyond           points apart in one byte, runs and multipliers alike, messages 2 differ, and a leaf is n",
+        "..-gives              what the call answers, and output and work area after it",
+    ];
+    let mut module = Module::new("ExtractorPoints", &comment, &CALL_USES);
+    let honest = Pair::new(Weakness::Nothing, sample, [&[0, 0], &[0, 1]], 0, [None; 2]).call();
+    module.key(&sample.key);
+    module.bytes("work", &honest.lent.work);
+    module.bytes("out", &honest.output);
+    for (name, call) in points_calls(sample, &honest) {
+        call_fact(&mut module, name, Weakness::Nothing, &call);
+    }
+    module
+}

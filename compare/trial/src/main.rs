@@ -40,6 +40,7 @@ fn crates() -> [Crate; 2] {
     let small = Sample::new(4, Parameters::new(2, 1, 1, 1, 1), 1, 1);
     let small_square = Sample::new(5, Parameters::new(2, 1, 1, 2, 1), 1, 1);
     let two_runs = Sample::new(6, Parameters::new(2, 1, 1, 1, 1), 1, 2);
+    let three_positions = Sample::new(7, Parameters::new(2, 1, 1, 1, 3), 1, 2);
     let [one_axis_findings, two_axes_findings] = extractor::findings(&small, &small_square);
     let title = "m 5, k 3, w 2, D 2, t 1, one run; x has one nonzero entry, so E is filled.";
     let exchange = vec![
@@ -53,7 +54,14 @@ fn crates() -> [Crate; 2] {
         messages::module("TwoRuns", "m 2, k 1, w 1, D 1, t 1, two runs.", &two_runs, &[0, 1], Extent::Runs),
         sums::module("Sums", "m 2, k 1, w 1, D 2, t 1.", &small_square, 10, 1),
     ];
-    let calls = vec![prover::calls(&two_runs), verifier::calls(&two_runs), extractor::calls(&two_runs)];
+    let calls = vec![
+        prover::calls(&two_runs),
+        prover::points(&three_positions),
+        verifier::calls(&two_runs),
+        verifier::points(&three_positions),
+        extractor::calls(&two_runs),
+        extractor::points(&three_positions),
+    ];
     [
         Crate { name: "test_exchange", given: &["Definitions"], modules: exchange },
         Crate { name: "test_calls", given: &["Definitions"], modules: calls },

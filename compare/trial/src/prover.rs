@@ -2,9 +2,10 @@
 
 use crate::antt::{list, parameters, public_key, record, Module};
 use crate::sample::{Sample, OUTPUT, WORK};
+use reference::numbers::CARRIED_OUT;
 use reference::parameters::Parameters;
 use reference::prover::Prover;
-use reference::sampling::calls::{LentBytes, ProverCall, ProverInput};
+use reference::sampling::calls::{Effect, LentBytes, ProverCall, ProverInput};
 
 const USES: [(&str, &[&str]); 2] = [
     ("Rattle.calls.specs.Prover", &["Prover", "Outcome", "fresh", "begin", "points", "leaf"]),
@@ -21,8 +22,8 @@ struct Script<'a> {
 }
 
 impl Script<'_> {
-    /// Makes a call and states what it gives.
-    fn make(&mut self, label: &str, call: &ProverCall) {
+    /// Makes a call and names what it gives.
+    fn name(&mut self, label: &str, call: &ProverCall) -> (String, Effect) {
         let effect = call.make(&mut self.session);
         self.made += 1;
         let name = format!("call{}", self.made);
@@ -30,6 +31,18 @@ impl Script<'_> {
         self.term = format!("({name} .prover)");
         self.module.comment(&format!("{name}: {label}"));
         self.module.value(&name, "Outcome", &term);
+        (name, effect)
+    }
+
+    /// Makes a call and states the number alone, which is cheap to compute where output and work area are not.
+    fn answer(&mut self, label: &str, call: &ProverCall) {
+        let (name, effect) = self.name(label, call);
+        self.module.fact(&format!("{name}-gives"), &format!("{name} .answer"), &effect.number.to_string());
+    }
+
+    /// Makes a call and states what it gives.
+    fn make(&mut self, label: &str, call: &ProverCall) {
+        let (name, effect) = self.name(label, call);
         let expected = format!("({} ∷ []) ∷ {} ∷ {} ∷ []", effect.number, list(&effect.output), list(&effect.work));
         let computed = format!("({name} .answer ∷ []) ∷ {name} .out ∷ {name} .work ∷ []");
         self.module.fact(&format!("{name}-gives"), &computed, &expected);
@@ -90,8 +103,11 @@ impl Script<'_> {
     }
 
     fn points(&self) -> ProverCall {
-        let input = ProverInput::Points { message_2: self.sample.start.message_2.clone() };
-        self.call(input, Parameters::message_3_bytes(self.sample.runs()))
+        self.points_with(self.sample.start.message_2.clone())
+    }
+
+    fn points_with(&self, message_2: Vec<u8>) -> ProverCall {
+        self.call(ProverInput::Points { message_2 }, Parameters::message_3_bytes(self.sample.runs()))
     }
 
     /// Leaf with an output of the length for these leaves.
@@ -163,6 +179,16 @@ fn damaged_calls(script: &Script) -> Vec<(&'static str, ProverCall)> {
     ]
 }
 
+/// Names the key and what a prover starts with, a message 2, and a work area longer than its named length.
+fn name_lent(module: &mut Module, sample: &Sample, name: &str, message_2: &[u8]) {
+    module.key(&sample.key);
+    module.bytes("xA", &sample.key.x_a);
+    module.bytes("salt", &sample.start.salt);
+    module.bytes("root", &sample.start.root);
+    module.bytes(name, message_2);
+    module.bytes("work", &vec![WORK; sample.key.parameters.work_bytes() + 2]);
+}
+
 /// The prover's calls on one session.
 pub fn calls(sample: &Sample) -> Module {
     let comment = [
@@ -175,12 +201,7 @@ pub fn calls(sample: &Sample) -> Module {
         "call1-gives, ..                the number that the call answers, then output and work area",
     ];
     let mut module = Module::new("ProverCalls", &comment, &USES);
-    module.key(&sample.key);
-    module.bytes("xA", &sample.key.x_a);
-    module.bytes("salt", &sample.start.salt);
-    module.bytes("root", &sample.start.root);
-    module.bytes("m2", &sample.start.message_2);
-    module.bytes("work", &vec![WORK; sample.key.parameters.work_bytes() + 2]);
+    name_lent(&mut module, sample, "m2", &sample.start.message_2);
     let mut script = Script { module, sample, session: Prover::default(), term: "fresh".into(), made: 0 };
     for (label, call) in script_calls(&script) {
         script.make(label, &call);
@@ -188,6 +209,51 @@ pub fn calls(sample: &Sample) -> Module {
     script.damage();
     for (label, call) in damaged_calls(&script) {
         script.make(label, &call);
+    }
+    script.module
+}
+
+/// Points calls in their order, of two runs with three positions: 14 for any two equal points of a run, behind 11 and 2, and
+/// what may be equal.
+fn points_calls(script: &Script) -> Vec<(&'static str, ProverCall)> {
+    let sample = script.sample;
+    let repeated = |run, first, second| script.points_with(sample.repeated(run, first, second));
+    let ends = repeated(1, 0, 2);
+    let mut short_work = ends.clone();
+    short_work.lent.work.truncate(sample.key.parameters.work_bytes() - 1);
+    vec![
+        ("points 0 and 2 of run 1 equal, before the first begin", ends.clone()),
+        ("begin", script.begin(0)),
+        ("points 0 and 2 of run 1 equal, the work area a byte short", short_work),
+        ("points 0 and 2 of run 1 equal", ends.clone()),
+        ("points 0 and 1 of run 0 equal", repeated(0, 0, 1)),
+        ("points 1 and 2 of run 1 equal", repeated(1, 1, 2)),
+        ("points apart in one byte, runs and multipliers alike", script.points_with(sample.alike(0))),
+        ("points 0 and 2 of run 1 equal, once they are not due", ends),
+    ]
+}
+
+/// The prover's points on one session.
+pub fn points(sample: &Sample) -> Module {
+    let comment = [
+        "The prover's points where points of a run are equal, each call made on the session that the call before it left; the",
+        "first on a fresh one.",
+        "",
+        "p, key, xA, salt, root     parameters, matrix and y, x_A, salt and root",
+        "ends                       a message 2 in which points 0 and 2 of run 1 are equal",
+        "work                       a work area, longer than its named length",
+        "call1, call2, ..           the calls, with all that they are lent",
+        "call1-gives, ..            the number that the call answers; of a refused one, then output and work area",
+    ];
+    let mut module = Module::new("ProverPoints", &comment, &USES);
+    name_lent(&mut module, sample, "ends", &sample.repeated(1, 0, 2));
+    let mut script = Script { module, sample, session: Prover::default(), term: "fresh".into(), made: 0 };
+    for (label, call) in points_calls(&script) {
+        if call.make(&mut script.session.clone()).number == CARRIED_OUT {
+            script.answer(label, &call);
+        } else {
+            script.make(label, &call);
+        }
     }
     script.module
 }

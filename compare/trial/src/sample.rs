@@ -1,6 +1,7 @@
 //! Keys and starts, each drawn from a seed.
 
 use reference::parameters::Parameters;
+use reference::points_field::POINT_BYTES;
 use reference::sampling::exchanges::{honest_exchange, Exchange, Start};
 use reference::sampling::keys::{key_of_vector, vector_of_weight, Key};
 use reference::sampling::Random;
@@ -32,6 +33,25 @@ impl Sample {
     /// The run count.
     pub fn runs(&self) -> usize {
         self.start.message_2.len() / self.key.parameters.challenge_bytes()
+    }
+
+    /// Message 2 with the point of a position of a run at another one too.
+    pub fn repeated(&self, run: usize, first: usize, second: usize) -> Vec<u8> {
+        let mut message_2 = self.start.message_2.clone();
+        let [from, to] = [first, second].map(|at| run * self.key.parameters.challenge_bytes() + POINT_BYTES * at);
+        message_2.copy_within(from..from + POINT_BYTES, to);
+        message_2
+    }
+
+    /// Message 2 with all that points may share: in each run the same points, of which every other one differs from the
+    /// first in one byte alone, and that first one as every multiplier. The bytes that differ count from this one.
+    pub fn alike(&self, byte: usize) -> Vec<u8> {
+        let t = self.key.parameters.t;
+        let mut run = self.start.message_2[..POINT_BYTES].repeat(2 * t);
+        for position in 1..t {
+            run[POINT_BYTES * position + byte + position - 1] ^= 1;
+        }
+        run.repeat(self.runs())
     }
 
     /// The honest exchange that hides these leaves, one a run.

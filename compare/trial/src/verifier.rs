@@ -190,3 +190,46 @@ pub fn calls(sample: &Sample) -> Module {
     }
     script.module
 }
+
+/// Points calls in their order, of two runs with three positions: 14 for any two equal points of a run, behind 11 and 2, and
+/// what may be equal.
+fn points_calls(sample: &Sample, honest: &Exchange) -> Vec<(&'static str, VerifierCall)> {
+    let points = |message_2: Vec<u8>| VerifierCall::Points { message_2 };
+    let repeated = |run, first, second| points(sample.repeated(run, first, second));
+    let [begin, ..] = five_calls(sample, honest);
+    vec![
+        ("points 0 and 2 of run 1 equal, before the first begin", repeated(1, 0, 2)),
+        ("begin", begin.clone()),
+        ("points 0 and 2 of run 1 equal, message 2 a byte short", points(short(&sample.repeated(1, 0, 2)))),
+        ("points 0 and 2 of run 1 equal", repeated(1, 0, 2)),
+        ("points 0 and 1 of run 0 equal", repeated(0, 0, 1)),
+        ("points 1 and 2 of run 1 equal", repeated(1, 1, 2)),
+        ("points apart in one of the first bytes, runs and multipliers alike", points(sample.alike(0))),
+        ("points 0 and 2 of run 1 equal, once they are not due", repeated(1, 0, 2)),
+        ("begin", begin),
+        ("points apart in one of the last bytes, runs and multipliers alike", points(sample.alike(2))),
+    ]
+}
+
+/// The verifier's points on one session.
+pub fn points(sample: &Sample) -> Module {
+    let comment = [
+        "The verifier's points where points of a run are equal, each call made on the session that the call before it left;",
+        "the first on a fresh one.",
+        "",
+        "p, m1                parameters, and message 1 of an honest exchange",
+        "ends                 a message 2 in which points 0 and 2 of run 1 are equal",
+        "call1, call2, ..     the calls, with all that they are lent",
+        "call1-gives, ..      the number that the call answers",
+    ];
+    let honest = sample.exchange_hiding(0);
+    let mut module = Module::new("VerifierPoints", &comment, &USES);
+    module.value("p", "Parameters", &parameters(&sample.key.parameters));
+    module.bytes("m1", &honest.message_1);
+    module.bytes("ends", &sample.repeated(1, 0, 2));
+    let mut script = Script { module, session: Verifier::default(), term: "fresh".into(), made: 0 };
+    for (label, call) in points_calls(sample, &honest) {
+        script.make(label, &call);
+    }
+    script.module
+}

@@ -29,6 +29,8 @@ pub enum Refusal {
     Closed,
     // 13: salt and root both equal those of the exchange held
     Repeated,
+    // 14: two points of one run are equal (document 02, request 02)
+    SamePoint,
 }
 
 // What a session call answers. `Done`: it was carried out, and where it judges an opening, the opening is accepted.
@@ -54,6 +56,7 @@ pub fn refusal_number(r: Refusal) -> u8
         Refusal::NotDue => 11,
         Refusal::Closed => 12,
         Refusal::Repeated => 13,
+        Refusal::SamePoint => 14,
     }
 }
 

@@ -2,7 +2,8 @@
 --
 -- extractLengths          the lengths of all lent slices
 -- sameStatement           number 8: 'salt, h, points, multipliers or h' differ', of any run
--- earlyChecks             the checks that stand before 5 in the order: 1, 2, 4, 8, 9; 'number 9 now means that no run differs'
+-- bothDistinct            number 14: of both exchanges, 'The points of a run must differ pairwise'
+-- earlyChecks             the checks that stand before 5 in the order: 1, 2, 14, 4, 8, 9; 'number 9 now means that no run differs'
 -- first, second           'in the extractor 5, 6, 7 of the first opening come before those of the second'
 -- early                   what a check before 5 gives
 -- found                   'The first unequal pair is the answer', 'output untouched'; otherwise the states
@@ -22,13 +23,14 @@ use Rattle.lists.specs.Checks.{allTrue}
 use Rattle.answers.specs.declared.Answer.{Answer as Checked}
 use Rattle.answers.specs.declared.Answer.the-variants.{Done, Refused}
 use Rattle.answers.specs.Number.{refusalNumber}
-use Rattle.answers.specs.declared.Refusal.the-variants.{Parameter, Length, Leaf, Exchange as Differs, SameLeaf}
+use Rattle.answers.specs.declared.Refusal.the-variants.{Parameter, Length, Leaf, Exchange as Differs, SameLeaf, SamePoint}
 use Rattle.answers.specs.Checks.{checks}
 use Rattle.parameters.specs.declared.Parameters.{Parameters}
 use Rattle.parameters.specs.Limits.{withinLimits}
 use Rattle.layout.specs.Layout.{workLength}
 use Rattle.layout.specs.Runs.{runsWithin, message1Length, messages2Length, messages3Length, messages5Length, outputsLength}
 use Rattle.exchange.specs.Values.{Key}
+use Rattle.runs.specs.Points.{distinctPoints}
 use Rattle.runs.specs.Opening.{Transcript, verdict}
 use Rattle.runs.specs.Extractor.{Finding, unequal, states, extract}
 use Rattle.calls.specs.Lengths.{keyLengths, leavesBelow}
@@ -61,6 +63,9 @@ module _ (hash : List ℕ → ℕ → List ℕ) (p : Parameters) (runs : ℕ) (t
   extractLengths =
       messageLengths p runs t ++ (messageLengths p runs t′ ++ (keyLengths p key work ++ (eqb (length out) (outputsLength p runs) ∷ [])))
 
+  unfoldable pub bothDistinct : Bool
+  bothDistinct = distinctPoints p runs (t .message2) && distinctPoints p runs (t′ .message2)
+
   unfoldable pub sameStatement : Bool
   sameStatement = eqList (t .message1) (t′ .message1) && (eqList (t .message2) (t′ .message2) && eqList (t .message3) (t′ .message3))
 
@@ -69,6 +74,7 @@ module _ (hash : List ℕ → ℕ → List ℕ) (p : Parameters) (runs : ℕ) (t
       checks (
       (withinLimits p && runsWithin runs, Parameter)
       ∷ (allTrue extractLengths, Length)
+      ∷ (bothDistinct, SamePoint)
       ∷ (leavesBelow p (t .leaves) && leavesBelow p (t′ .leaves), Leaf)
       ∷ (sameStatement, Differs)
       ∷ (not (eqList (t .leaves) (t′ .leaves)), SameLeaf)

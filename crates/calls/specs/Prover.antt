@@ -26,7 +26,7 @@ use Rattle.lists.specs.Equal.{eqList}
 use Rattle.lists.specs.Checks.{allTrue}
 use Rattle.answers.specs.declared.Answer.{Answer}
 use Rattle.answers.specs.declared.Answer.the-variants.{Done, Refused}
-use Rattle.answers.specs.declared.Refusal.the-variants.{Parameter, Length, Weight, Leaf, NotDue, Closed as ExchangeClosed, Repeated}
+use Rattle.answers.specs.declared.Refusal.the-variants.{Parameter, Length, Weight, Leaf, NotDue, Closed as ExchangeClosed, Repeated, SamePoint}
 use Rattle.answers.specs.Number.{refusalNumber}
 use Rattle.answers.specs.Checks.{checks}
 use Rattle.parameters.specs.declared.Parameters.{Parameters}
@@ -37,6 +37,7 @@ use Rattle.layout.specs.Maxima.{mostMessages2}
 use Rattle.layout.specs.Runs.{runsWithin, messages2Length}
 use Rattle.exchange.specs.Values.{Key}
 use Rattle.runs.specs.Messages.{message1, message3, message5}
+use Rattle.runs.specs.Points.{distinctPoints}
 use Rattle.prover_phase.specs.declared.Phase.{Phase}
 use Rattle.prover_phase.specs.declared.Phase.the-variants.{Fresh, Begun, Answered, Closed}
 use Rattle.calls.specs.Lengths.{beginLengths, pointsLengths, leafLengths, leavesBelow}
@@ -156,6 +157,7 @@ module _ (hash : List ℕ → ℕ → List ℕ) (s : Prover) where
         (not (closed s), ExchangeClosed)
         ∷ (pointsDue s, NotDue)
         ∷ (allTrue (pointsLengths p (s .runs) m2 key work out), Length)
+        ∷ (distinctPoints p (s .runs) m2, SamePoint)
         ∷ []
         )
 

@@ -22,7 +22,7 @@ use Rattle.lists.specs.Checks.{allTrue}
 use Rattle.answers.specs.declared.Answer.{Answer}
 use Rattle.answers.specs.declared.Answer.the-variants.{Done, Refused}
 use Rattle.answers.specs.declared.Refusal.{Refusal}
-use Rattle.answers.specs.declared.Refusal.the-variants.{Parameter, Length, Leaf, NotDue, Closed as ExchangeClosed}
+use Rattle.answers.specs.declared.Refusal.the-variants.{Parameter, Length, Leaf, NotDue, Closed as ExchangeClosed, SamePoint}
 use Rattle.answers.specs.Number.{refusalNumber, answerNumber}
 use Rattle.answers.specs.Checks.{checks}
 use Rattle.parameters.specs.declared.Parameters.{Parameters}
@@ -31,6 +31,7 @@ use Rattle.layout.specs.Layout.{workLength}
 use Rattle.layout.specs.Maxima.{mostRuns, mostMessage1, mostMessages2, mostMessages3}
 use Rattle.layout.specs.Runs.{runsWithin, message1Length, messages2Length, messages3Length}
 use Rattle.exchange.specs.Values.{Key}
+use Rattle.runs.specs.Points.{distinctPoints}
 use Rattle.runs.specs.Opening.{Transcript, transcript, verdict}
 use Rattle.verifier_phase.specs.declared.Phase.{Phase}
 use Rattle.verifier_phase.specs.declared.Phase.the-variants.{Fresh, Begun, Pointed, Responded, Chosen, Closed}
@@ -133,7 +134,9 @@ unfoldable pub begin : Verifier → Parameters → ℕ → List ℕ → Outcome
 begin s p runs m1 = settle (beginChecks p runs m1) s (begun p runs m1)
 
 unfoldable pub pointsChecks : Verifier → List ℕ → Answer
-pointsChecks s m2 = afterBegin s Begun ((eqb (length m2) (messages2Length (s .parameters) (s .runs)), Length) ∷ [])
+pointsChecks s m2 =
+    afterBegin s Begun
+    ((eqb (length m2) (messages2Length (s .parameters) (s .runs)), Length) ∷ (distinctPoints (s .parameters) (s .runs) m2, SamePoint) ∷ [])
 
 unfoldable pub pointed : Verifier → List ℕ → Verifier
 pointed s m2 = record {

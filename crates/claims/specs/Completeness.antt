@@ -1,7 +1,8 @@
 -- Demand 2, its last clause: 'with a valid key, its matrix and y unchanged throughout, every root and salt that an exchange may start
 -- with, all points and multipliers and every leaf of the cube lead to acceptance.' It is about the calls, after any calls of the prover
 -- and from any session of the verifier, so that a second exchange counts like the first; of the hash only the length of what it gives is used.
--- It holds for every run count, 1 to 32, with points and multipliers and a leaf for each run (document 02, request 01).
+-- It holds for every run count, 1 to 32, with points and multipliers and a leaf for each run (document 02, request 01). 'The always-accepted
+-- clause .. [is] then about exchanges with distinct points' (request 02): that is a premise on message 2; multipliers may repeat.
 --
 -- ValidKey p key xA     'a valid key': parameters within their limits, matrix, y and x_A of the lengths that document 01 gives them,
 --                       y and x_A of bytes, and x of at most w nonzero entries
@@ -28,6 +29,7 @@ use Rattle.layout.specs.Runs.{message1Length, messages2Length, messages3Length,
 use Rattle.layout.specs.Runs.Laws.{RunsWithin}
 use Rattle.exchange.specs.Values.{Key}
 use Rattle.runs.specs.Messages.{leafAt}
+use Rattle.runs.specs.Points.{DistinctPoints}
 use Rattle.calls.specs.Prover as prover
 use Rattle.calls.specs.Prover.{Prover}
 use Rattle.calls.specs.Prover.History.{Begin, Call, after, Made, made, lastBegin}
@@ -120,7 +122,7 @@ module _ (hash : List ℕ → ℕ → List ℕ) (p : Parameters) (runs : ℕ) (k
 abbrev pub Complete : (List ℕ → ℕ → List ℕ) → Type 0
 Complete hash = (p : Parameters) (runs : ℕ) → RunsWithin runs → (key : Key) (xA : List ℕ) → ValidKey p key xA
     → (cs : List Call) (v : Verifier) (salt root : List ℕ) → MayStart (made hash cs) salt root
-    → (m2 : List ℕ) → length m2 ≡ messages2Length p runs
+    → (m2 : List ℕ) → length m2 ≡ messages2Length p runs → DistinctPoints p runs m2
     → (is : List ℕ) → Leaves p runs is
     → (lent : Slices) → Fitting p runs is lent
     → LeadsToAcceptance hash p runs key xA (after hash cs) v salt root m2 is lent

@@ -1,13 +1,13 @@
 -- Demand 2 at SHAKE256: 'The prover's messages equal, byte for byte, those that document 01 defines from the hypercube paper over FIPS 202,
 -- and the verifier accepts an opening exactly when document 01's checks hold; with a valid key, its matrix and y unchanged throughout, every
 -- root and salt that an exchange may start with, all points and multipliers and every leaf of the cube lead to acceptance.' Over exchanges of several
--- runs (document 02, request 01).
+-- runs (document 02, request 01); 'The always-accepted clause .. [is] then about exchanges with distinct points' (request 02).
 --
 -- MessagesDefined   a call of the prover that is carried out, after any calls from a fresh session, writes the message that document 01 defines:
 --                   message 1 of its own arguments, message 3 and 5 of the last begin's x, salt and root, and message 5 of the points call since
 -- AcceptedExactly   after any calls from a fresh session the verifier accepts an opening exactly when since the last begin carried out points,
 --                   response and leaf were, in this order and nothing else, and document 01's three checks hold of every run of their messages
--- Demand2           these, the checks on any session, and the clause on valid keys
+-- Demand2           these, the checks on any session, and the clause on valid keys, whose points are distinct
 -- demand2           they hold
 use mathlib.Core.Path.{_≡_, ap, sym, _∙_}
 use mathlib.Core.List.{List}

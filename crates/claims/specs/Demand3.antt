@@ -5,7 +5,8 @@
 -- and for every list of such pairs under one key, salt and commitment, free of such strings among them all, that meets m + w different points
 -- at one position, each with two unequal multipliers, x is the same in all the pairs and has at most w nonzero entries.'
 -- Over exchanges of several runs (document 02, request 01): the hidden leaves differ in at least one run, every such run is extracted, and the points of
--- the second half are counted 'at one position of one run, only from pairs whose hidden leaves differ in that run'.
+-- the second half are counted 'at one position of one run, only from pairs whose hidden leaves differ in that run'. 'The always-accepted clause and
+-- demand 3 are then about exchanges with distinct points' (request 02): both halves are, by what makes two openings comparable.
 --
 -- Demand3       the demand
 -- demand-3      it holds

@@ -7,4 +7,5 @@ pub mod Acceptance
 pub mod Completeness
 pub mod Demand2
 pub mod Demand3
+pub mod Request02
 pub mod Request05

@@ -8,7 +8,8 @@
 -- refusedWith6           the lowest refused run, with that check in its place; the run count where none is refused
 -- conditionsWith6        5, 6 and 7 of that run
 -- openingWith6           the conditions of the verifier's opening after the calls h, with 6 among them
--- with6 ns, orderWith6   the numbers with 6 straight after 5; so the order as document 01 has it (`as-document-01`)
+-- straightAfter a n ns   the numbers ns with n straight after a
+-- orderWith6             the order with 6 straight after 5: so document 01's, with 14 'straight after 2' (`as-document-01`)
 -- answerWith6 cs         the answer by that order
 -- SameAnswers hash       'no verdict changes': every verdict, every opening of the verifier after any calls and every call of the extractor has
 --                        the number that it has with the check in its place
@@ -87,20 +88,20 @@ module _ (hash : List ℕ → ℕ → List ℕ) where
       ∷ (11, not (isSome (leafSince h)))
       ∷ ofExchange h m5 [] (λ p runs t. (2, not (allTrue (openingLengths p (t .leaves) m5 key work))) ∷ conditionsWith6 p runs t key)
 
-unfoldable pub with6 : List ℕ → List ℕ
-with6 [] = []
-with6 (n ∷ ns) = n ∷ cond (eqb n 5) (6 ∷ ns) (with6 ns)
+unfoldable pub straightAfter : ℕ → ℕ → List ℕ → List ℕ
+straightAfter a n [] = []
+straightAfter a n (k ∷ ns) = k ∷ cond (eqb k a) (n ∷ ns) (straightAfter a n ns)
 
 unfoldable pub orderWith6 : List ℕ
-unfolding with6
-orderWith6 = with6 order
+unfolding straightAfter
+orderWith6 = straightAfter 5 6 order
 
 unfoldable pub answerWith6 : Conditions → ℕ
 answerWith6 cs = firstOf orderWith6 (holds cs)
 
--- 'Order: 10, 12, 11, 1, 2, 3, 4, 13, 8, 9, 5, 6, 7'
-as-document-01 : orderWith6 ≡ 10 ∷ 12 ∷ 11 ∷ 1 ∷ 2 ∷ 3 ∷ 4 ∷ 13 ∷ 8 ∷ 9 ∷ 5 ∷ 6 ∷ 7 ∷ []
-unfolding orderWith6
+-- 'Order: 10, 12, 11, 1, 2, 3, 4, 13, 8, 9, 5, 6, 7', and of 14 'checked straight after 2' (document 02, request 02)
+as-document-01 : orderWith6 ≡ straightAfter 2 14 (10 ∷ 12 ∷ 11 ∷ 1 ∷ 2 ∷ 3 ∷ 4 ∷ 13 ∷ 8 ∷ 9 ∷ 5 ∷ 6 ∷ 7 ∷ [])
+unfolding orderWith6 straightAfter
 as-document-01 = refl
 
 -- ---- what is shown of it

@@ -8,7 +8,7 @@
 -- Pair                 two exchanges of one run count
 -- In q qs              the element stands in the list
 -- Differ e q           the pair's hidden leaves differ in run e: it counts
--- Under e salt h q     the pair is comparable, the salt of both is salt and run e's h is h
+-- Under e salt h q     the pair is comparable, so its points are distinct (document 02, request 02); the salt of both is salt and run e's h is h
 -- openings e qs        run e of all openings of the pairs that count
 -- Hashed y l n         a string of layer l and number n is hashed in checking the run y
 -- Free ys              'no two unequal strings of one layer, 4 to 7, and one number, hashed in checking its openings, be they of one pair or

@@ -5,7 +5,8 @@
 -- Sent p runs t            messages 1 to 5 have theirs, and the leaves of message 4 are below n
 -- Apart t t′ e             the hidden leaves of run e differ
 -- Comparable               two openings 'that are accepted under the same key, salt, commitment, points, multipliers and response digest
---                          and hide different leaves', in at least one run; 'An exchange is accepted when all runs are'
+--                          and hide different leaves', in at least one run; 'An exchange is accepted when all runs are'; 'demand 3 [is] then about
+--                          exchanges with distinct points' (request 02), which are the same in both
 -- runPart p out e          the part of run e: 'The extractor's output has a part for each run'
 -- leafState, auxState      'A leaf's state: its seed and rho, and for leaf n−1 also aux', as the part of a run holds them
 -- leafShare                'its shares follow by layer 3 and aux'
@@ -40,6 +41,7 @@ use Rattle.exchange.specs.Values.{Key, xAOf, POf, aOf, bOf, cOf, pointOf, multi
 use Rattle.exchange.specs.Parties.{sums}
 use Rattle.exchange.specs.Opening.{Exchange, auxOf, openedState, leafCommitment}
 use Rattle.runs.specs.Messages.{leafAt}
+use Rattle.runs.specs.Points.{DistinctPoints}
 use Rattle.runs.specs.Opening.{Transcript, Accepted}
 use Rattle.runs.specs.Extractor.{compared, stringAt}
 
@@ -68,6 +70,7 @@ pub record Comparable (hash : List ℕ → ℕ → List ℕ) (p : Parameters) (r
   pub sent′ : Sent p runs t′
   pub salt-and-h : t .message1 ≡ t′ .message1
   pub points-and-multipliers : t .message2 ≡ t′ .message2
+  pub distinct : DistinctPoints p runs (t .message2)
   pub response : t .message3 ≡ t′ .message3
   pub hidden : t .leaves ≡ t′ .leaves → ⊥
   pub accepted : Accepted hash p runs t key

@@ -78,10 +78,10 @@ pub fn extract(
         (keyOf (now (matrix .entry)) (now (y .entry))) (now (work .entry)) (now (out .entry)) ⌝ }
 {
     let same = same_statement(first1, first2, first3, second1, second2, second3);
-    let first = exchange_lengths(first1, first2, first3, first5);
-    let second = exchange_lengths(second1, second2, second3, second5);
-    let rest = lent_lengths(matrix, y, work, out);
-    let early = early_checks(p, runs, first, first4, second, second4, rest, same);
+    let first = exchange_lengths(first1, first3, first5);
+    let second = exchange_lengths(second1, second3, second5);
+    let rest = lent_lengths(first, second, matrix, y, work, out);
+    let early = early_checks(p, runs, rest, first2, first4, second2, second4, same);
     match early {
         Answer::Done => {}
         Answer::Refused(r) => return Extraction::Refused(r),

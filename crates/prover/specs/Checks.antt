@@ -18,7 +18,7 @@ use Rattle.lists.specs.Checks.{allTrue}
 use Rattle.lists.specs.Checks.Laws.{all-at, and-left, and-right}
 use Rattle.answers.specs.declared.Answer.{Answer}
 use Rattle.answers.specs.declared.Answer.the-variants.{Done, Refused}
-use Rattle.answers.specs.declared.Refusal.the-variants.{Parameter, Length, Weight, Leaf, NotDue, Closed as ExchangeClosed}
+use Rattle.answers.specs.declared.Refusal.the-variants.{Parameter, Length, Weight, Leaf, NotDue, Closed as ExchangeClosed, SamePoint}
 use Rattle.answers.specs.Checks.{check, checks}
 use Rattle.answers.specs.Checks.Laws.{check-true, check-rest}
 use Rattle.parameters.specs.declared.Parameters.{Parameters}
@@ -28,6 +28,7 @@ use Rattle.relation.specs.Key.{weightOf, vectorOf}
 use Rattle.layout.specs.Runs.{runsWithin, messages2Length, messages3Length, messages5Length}
 use Rattle.layout.specs.Runs.Laws.{runs-within}
 use Rattle.exchange.specs.Values.{Key}
+use Rattle.runs.specs.Points.{distinctPoints}
 use Rattle.layout.specs.Lent.{lent, Lent}
 use Rattle.layout.specs.Lent.Laws.{test-lent}
 use Rattle.prover.specs.Arguments.{Limited, beginTests, beginRow, lengthsOf}
@@ -61,11 +62,11 @@ module _ (hash : List ℕ → ℕ → List ℕ) (s : Prover) (work out : List �
     unfolding leafDue
     leaf-is b e = ap isAnswered (sym told) ∙ e
 
-    pub points-row : (message2 : List ℕ) (key : Key) (ended due lengths : Bool) → isClosed counted ≡ ended → isBegun counted ≡ due
-        → allTrue (pointsLengths (s .parameters) (s .runs) message2 key work out) ≡ lengths
-        → check (not ended) ExchangeClosed (check due NotDue (check lengths Length Done)) ≡ pointsChecks hash s message2 key work out
+    pub points-row : (message2 : List ℕ) (key : Key) (ended due lengths distinct : Bool) → isClosed counted ≡ ended → isBegun counted ≡ due
+        → allTrue (pointsLengths (s .parameters) (s .runs) message2 key work out) ≡ lengths → distinctPoints (s .parameters) (s .runs) message2 ≡ distinct
+        → check (not ended) ExchangeClosed (check due NotDue (check lengths Length (check distinct SamePoint Done))) ≡ pointsChecks hash s message2 key work out
     unfolding pointsChecks
-    points-row message2 key ended due lengths e f g = rw (← ended-is ended e, ← points-is due f, ← g)
+    points-row message2 key ended due lengths distinct e f g h = rw (← ended-is ended e, ← points-is due f, ← g, ← h)
 
     pub leaf-row : (is : List ℕ) (key : Key) (ended due lengths below : Bool) → isClosed counted ≡ ended → isAnswered counted ≡ due
         → allTrue (leafLengths (s .parameters) (s .runs) is key work out) ≡ lengths → leavesBelow (s .parameters) is ≡ below
@@ -159,7 +160,7 @@ module _ (hash : List ℕ → ℕ → List ℕ) (s : Prover) (work out : List �
       let k : ℕ = messages3Length (s .runs) in
       let tests = pointsLengths (s .parameters) (s .runs) message2 key work out in
       let due = check-rest (not (closed s)) ExchangeClosed _ e in
-      let sized = check-true (allTrue tests) Length Done (check-rest (pointsDue s) NotDue _ due) in
+      let sized = check-true (allTrue tests) Length _ (check-rest (pointsDue s) NotDue _ due) in
       record {
         ready = points-ready s (check-true (pointsDue s) NotDue _ due);
         message2-is = eqb-true (length message2) n (all-at tests sized 0);

@@ -2,6 +2,7 @@
 use crate::arguments::points_lengths;
 use answers::Answer;
 use answers::Refusal;
+use challenge::distinct_points;
 use parameters::Parameters;
 use prover_phase::Phase;
 use prover_phase::due::is_begun;
@@ -50,6 +51,9 @@ pub fn points_checks(
         out.len(),
     ) {
         return Answer::Refused(Refusal::Length);
+    }
+    if !distinct_points(p, runs, message2) {
+        return Answer::Refused(Refusal::SamePoint);
     }
     Answer::Done
 }

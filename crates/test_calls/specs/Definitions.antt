@@ -19,7 +19,7 @@ unfolding exchanges.definitions leavesBelow
     verifier.begun verifier.begin verifier.pointsChecks verifier.pointed verifier.points verifier.responseChecks
     verifier.responded verifier.response verifier.leafChecks verifier.chosen verifier.leaf verifier.ended
     verifier.openingChecks verifier.judge verifier.opening
-    extractor.extractLengths extractor.sameStatement extractor.earlyChecks extractor.found
+    extractor.extractLengths extractor.bothDistinct extractor.sameStatement extractor.earlyChecks extractor.found
     extractor.second extractor.first extractor.early extractor.extraction
 definitions = 0
 

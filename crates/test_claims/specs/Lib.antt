@@ -3,6 +3,7 @@ pub mod Meetings
 pub mod Named
 pub mod Openings
 pub mod Pairs
+pub mod Points
 pub mod Rows
 pub mod StandIn
 pub mod TwoAxes

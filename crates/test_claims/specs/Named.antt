@@ -18,8 +18,9 @@ use Rattle.runs.specs.Messages.{leafAt, message1, message3, message5}
 use Rattle.runs.specs.Opening.{Transcript, verdict}
 use Rattle.runs.specs.Opening.Laws.{accepted-then}
 use Rattle.calls.specs.Lengths.{leavesBelow}
-use Rattle.calls.specs.Extractor.{pair, extractLengths, sameStatement, earlyChecks, found, second, first, early, extraction}
+use Rattle.calls.specs.Extractor.{pair, extractLengths, bothDistinct, sameStatement, earlyChecks, found, second, first, early, extraction}
 use Rattle.claims.specs.Words.{Sent, Comparable}
+use Rattle.claims.specs.Completeness.Sample.{one-position}
 use Rattle.test_standin.specs.StandIn.{weak}
 use Rattle.test_standin.specs.Definitions.{definitions}
 use Rattle.test_claims.specs.Pairs.{p as parameters, key, x, salt, root, messages2}
@@ -75,6 +76,7 @@ comparable = record {
   sent′ = sent-bent;
   salt-and-h = refl;
   points-and-multipliers = refl;
+  distinct = one-position p refl 2 (messages2 16 1);
   response = refl;
   hidden = λ e. let z : _≡_ {A = ℕ} 0 1 = ap (λ (l : List ℕ). getD l 1 0) e in omega arith;
   accepted = accepted-then (weak 7) p 2 (honest 0) key (accepted .0);
@@ -82,5 +84,6 @@ comparable = record {
 }
 
 pub names-7 : extraction (weak 7) p 2 (honest 0) bent key (replicate 32 1) (replicate 142 0) .answer ≡ pair 1 7 0
-unfolding bent honest leavesBelow extractLengths sameStatement earlyChecks found second first early extraction definitions
+unfolding bent honest leavesBelow extractLengths bothDistinct sameStatement earlyChecks
+    found second first early extraction definitions
 names-7 = refl

@@ -5,7 +5,8 @@
 -- opened u                    the prover's messages, with leaf u hidden in run 1
 -- comparable                  the two openings are comparable
 -- right                       so the extractor's outcome is right
-use mathlib.Core.Path.{_≡_, refl, ap}
+-- leads                       the calls that send the first of them, two points a run, lead to acceptance: demand 2's last clause speaks of them
+use mathlib.Core.Path.{_≡_, refl, sym, ap, subst}
 use mathlib.Core.List.{List, [], _∷_}
 use Prim.Native.Nat.{ℕ, zero, suc, _≤_, _<_}
 use native.Mathlib.Omega.{arith}
@@ -13,15 +14,22 @@ use lib.Dec.{lit<, lit≤}
 use lib.ListN.{length, getD, replicate}
 use Rattle.parameters.specs.declared.Parameters.{Parameters}
 use Rattle.parameters.specs.Limits.{Within}
-use Rattle.relation.specs.Key.{vectorOf}
+use Rattle.relation.specs.Key.{weightOf, vectorOf}
 use Rattle.layout.specs.Layout.{leaves, workLength}
 use Rattle.layout.specs.Runs.{outputsLength}
 use Rattle.exchange.specs.Values.{Key}
 use Rattle.exchange.specs.Messages.Laws.{Secret}
 use Rattle.runs.specs.Messages.{leafAt}
 use Rattle.runs.specs.Messages.Laws.{length-message1, length-message3, length-message5}
+use Rattle.runs.specs.Points.{DistinctPoints}
+use Rattle.runs.specs.Points.Laws.{points-distinct}
 use Rattle.runs.specs.Opening.{Transcript}
+use Rattle.calls.specs.Prover.History.{after, made}
+use Rattle.calls.specs.Verifier.{Verifier}
 use Rattle.claims.specs.Words.{Sent, Comparable}
+use Rattle.claims.specs.Completeness.{ValidKey, LeadsToAcceptance}
+use Rattle.claims.specs.Completeness.Calls.{completeness}
+use Rattle.claims.specs.Completeness.Sample.{fresh-start, blank, blank-fits}
 use Rattle.claims.specs.Extraction.{Extracts}
 use Rattle.claims.specs.Extraction.Proof.{extracts}
 use Rattle.test_standin.specs.StandIn.{standIn}
@@ -91,6 +99,10 @@ sent u h = record {
   message5 = length-message5 standIn length-standIn p 2 x secret salt root key m2 (1 ∷ u ∷ []) refl;
 }
 
+distinct : DistinctPoints p 2 m2
+unfolding definitions
+distinct = points-distinct p 2 m2 refl
+
 pub comparable : Comparable standIn p 2 key (opened 2) (opened 3)
 unfolding opened
 comparable = record {
@@ -101,6 +113,7 @@ comparable = record {
   sent′ = sent 3 (lit< tt);
   salt-and-h = refl;
   points-and-multipliers = refl;
+  distinct = distinct;
   response = refl;
   hidden = λ e. let z : _≡_ {A = ℕ} 2 3 = ap (λ (l : List ℕ). getD l 1 0) e in omega arith;
   accepted = honest-accepted p 2 key salt root m2 (1 ∷ 2 ∷ []) (5 ∷ 0 ∷ []) x refl refl x-is secret refl refl (below 2 (lit< tt));
@@ -110,3 +123,22 @@ comparable = record {
 pub right : (work out : List ℕ) → workLength p ≤ length work → length out ≡ outputsLength p 2
     → Extracts standIn p 2 key (opened 2) (opened 3) work out
 right work out work-length out-length = extracts standIn length-standIn p 2 key (opened 2) (opened 3) work out comparable work-length out-length
+
+-- ---- the calls
+
+valid : ValidKey p key (5 ∷ 0 ∷ [])
+valid = record {
+  within = within;
+  lent = record { matrix = refl; y = refl };
+  long = refl;
+  light = subst (λ (x : List ℕ). weightOf x ≤ 2) (sym x-is) (secret .light);
+  bytes-y = (lit< tt, (lit< tt, tt));
+  bytes-xA = (lit< tt, (lit< tt, tt));
+}
+
+pub leads : (v : Verifier) → LeadsToAcceptance standIn p 2 key (5 ∷ 0 ∷ []) (after standIn []) v salt root m2 (1 ∷ 2 ∷ []) (blank p 2 (1 ∷ 2 ∷ []))
+unfolding made
+leads v =
+    completeness standIn length-standIn p 2 (record { least = lit≤ tt; most = lit≤ tt }) key (5 ∷ 0 ∷ []) valid [] v salt root
+    (fresh-start salt root refl refl) m2 refl distinct (1 ∷ 2 ∷ []) (record { one-a-run = refl; below = below 2 (lit< tt) })
+    (blank p 2 (1 ∷ 2 ∷ [])) (blank-fits p 2 (1 ∷ 2 ∷ []))

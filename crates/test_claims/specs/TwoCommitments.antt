@@ -24,6 +24,7 @@ use Rattle.runs.specs.Messages.{leafAt}
 use Rattle.runs.specs.Opening.{Transcript, verdict}
 use Rattle.runs.specs.Opening.Laws.{accepted-then}
 use Rattle.claims.specs.Words.{Sent}
+use Rattle.claims.specs.Completeness.Sample.{one-position}
 use Rattle.claims.specs.Weight.{Pair, In, here, later, MeetsTwice, Under, Meeting, OneX}
 use Rattle.claims.specs.Weight.Proof.{low-claim}
 use Rattle.test_standin.specs.StandIn.{standIn}
@@ -92,6 +93,7 @@ under-joint = record {
     sent′ = sent .1;
     salt-and-h = refl;
     points-and-multipliers = refl;
+    distinct = one-position (p 1) refl 2 (messages2 16 1);
     response = refl;
     hidden = λ e. let z : _≡_ {A = ℕ} 0 1 = ap (λ (l : List ℕ). getD l 1 0) e in omega arith;
     accepted = accepted-then standIn (p 1) 2 (joint 0) key (judged .0);

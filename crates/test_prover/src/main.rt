@@ -110,6 +110,12 @@ fn points_short(s: Prover, matrix: &[u8], y: &[u8]) -> Prover {
     points_with(s, &message2, matrix, y)
 }
 
+// The call points with zeros, so with equal points in each run.
+fn points_equal(s: Prover, matrix: &[u8], y: &[u8]) -> Prover {
+    let message2 = [0u8; 48];
+    points_with(s, &message2, matrix, y)
+}
+
 // The call leaf with an output.
 fn leaf_with(s: Prover, leaves: &[u8], matrix: &[u8], y: &[u8], out: &mut [u8]) -> Prover {
     let mut work = [0xa5u8; 5120];
@@ -145,18 +151,19 @@ fn refusals(s: Prover, x_a: &[u8], matrix: &[u8], y: &[u8]) -> Prover
     begin(d, set_of(230), &heavy, b"root", matrix, y)
 }
 
-// A first exchange, with calls that are not due, of wrong lengths, and after its end.
+// A first exchange, with calls that are not due, of wrong lengths, with equal points, and after its end.
 fn first(s: Prover, x_a: &[u8], matrix: &[u8], y: &[u8]) -> Prover {
     let a = begin(s, set_of(230), x_a, b"root", matrix, y);
     let b = leaf_664(a, &[77, 255], matrix, y);
     let c = points_short(b, matrix, y);
-    let d = points(c, matrix, y);
+    let d = points_equal(c, matrix, y);
     let e = points(d, matrix, y);
-    let f = leaf_368(e, &[77, 255], matrix, y);
-    let g = leaf_664(f, &[77], matrix, y);
-    let h = leaf_664(g, &[77, 255], matrix, y);
+    let f = points(e, matrix, y);
+    let g = leaf_368(f, &[77, 255], matrix, y);
+    let h = leaf_664(g, &[77], matrix, y);
     let i = leaf_664(h, &[77, 255], matrix, y);
-    points(i, matrix, y)
+    let j = leaf_664(i, &[77, 255], matrix, y);
+    points(j, matrix, y)
 }
 
 // A second exchange: refused with the first one's salt and root, carried out with another root.

@@ -35,6 +35,7 @@ use Rattle.exchange.specs.Opening.{exchange, pathOf, commitmentOf, alphaOf, bet
 use Rattle.exchange.specs.Extractor.{Finding, unequal, states, openedInBoth, compared, axis, auxFrom, stateFrom, output, stringAt, unequalAt, finding, extract}
 use Rattle.runs.specs.Run.{runPrefix, string8, runRoot}
 use Rattle.runs.specs.Messages as sent
+use Rattle.runs.specs.Points.{newPoint, distinctIn, distinctPoints}
 use Rattle.runs.specs.Opening as opened
 use Rattle.runs.specs.Extractor as extracted
 use Rattle.test_standin.specs.StandIn.{hex, absorb, emitted, standIn, weak, weakLeaves}
@@ -53,6 +54,7 @@ unfolding _⊕_ xorList eqList part putAt zeroed eval plus scale times expand pr
     disclosed partyAlpha partyBeta formulaV partyV announced responseString verdict
     openedInBoth compared axis auxFrom stateFrom output stringAt unequalAt finding extract
     runPrefix string8 runRoot sent.message2At sent.digestOf sent.message1 sent.message3 sent.message5
+    newPoint distinctIn distinctPoints
     opened.message1At opened.message3At opened.message5At opened.exchangeAt opened.lowest opened.verdict
     extracted.gathered extracted.differs extracted.compared extracted.lowestRun extracted.outputs extracted.stringAt
     extracted.unequalAt extracted.finding extracted.extract

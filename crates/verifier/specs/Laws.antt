@@ -22,7 +22,7 @@ use Rattle.lists.specs.Checks.Laws.{and-left, and-right}
 use Rattle.answers.specs.declared.Answer.{Answer}
 use Rattle.answers.specs.declared.Answer.the-variants.{Done, Refused}
 use Rattle.answers.specs.declared.Refusal.{Refusal}
-use Rattle.answers.specs.declared.Refusal.the-variants.{Parameter, Length, Leaf, NotDue, Closed as ExchangeClosed}
+use Rattle.answers.specs.declared.Refusal.the-variants.{Parameter, Length, Leaf, NotDue, Closed as ExchangeClosed, SamePoint}
 use Rattle.answers.specs.Number.{answerNumber}
 use Rattle.answers.specs.Checks.{check}
 use Rattle.answers.specs.Checks.Laws.{Done≢Refused, check-true, check-rest, check-passed}
@@ -33,6 +33,7 @@ use Rattle.layout.specs.Layout.{leaves, workLength}
 use Rattle.layout.specs.Maxima.{mostRuns, mostMessage1, mostMessages2, mostMessages3}
 use Rattle.layout.specs.Runs.{runsWithin, message1Length, messages2Length, messages3Length, messages5Length}
 use Rattle.layout.specs.Runs.Laws.{RunsWithin, runs-within, messages2-most}
+use Rattle.runs.specs.Points.{distinctPoints}
 use Rattle.runs.specs.Opening.{verdict}
 use Rattle.exchange.specs.Values.{Key}
 use Rattle.layout.specs.Lent.{lent, Lent}
@@ -123,23 +124,24 @@ module _ (s : Verifier) (h : intact s ≡ true) where
 
 -- ---- the checks of each call
 
-length-passed : (n m : ℕ) → check (eqb n m) Length Done ≡ Done → n ≡ m
-length-passed n m e = eqb-true n m (check-true (eqb n m) Length Done e)
+length-passed : (n m : ℕ) (behind : Answer) → check (eqb n m) Length behind ≡ Done → n ≡ m
+length-passed n m behind e = eqb-true n m (check-true (eqb n m) Length behind e)
 
 pub begin-passed : (p : Parameters) (runs : ℕ) (m1 : List ℕ) → beginChecks p runs m1 ≡ Done → length m1 ≤ mostMessage1
 unfolding beginChecks
 begin-passed p runs m1 e =
     let first : Bool = withinLimits p && runsWithin runs in
     let rest : Answer = check (eqb (length m1) (message1Length runs)) Length Done in
-    let size = length-passed (length m1) (message1Length runs) (check-rest first Parameter rest e) in
+    let size = length-passed (length m1) (message1Length runs) Done (check-rest first Parameter rest e) in
     let few = runs-within runs (and-right (withinLimits p) (runsWithin runs) (check-true first Parameter rest e)) in
     omega (arith, size, few .most)
 
 pub points-passed : (s : Verifier) (m2 : List ℕ) → pointsChecks s m2 ≡ Done → length m2 ≤ mostMessages2
 unfolding pointsChecks
 points-passed s m2 e =
-    let rest : Answer = check (eqb (length m2) (messages2Length (s .parameters) (s .runs))) Length Done in
-    let size = length-passed (length m2) (messages2Length (s .parameters) (s .runs)) (rest-done s Begun rest e) in
+    let behind : Answer = check (distinctPoints (s .parameters) (s .runs) m2) SamePoint Done in
+    let rest : Answer = check (eqb (length m2) (messages2Length (s .parameters) (s .runs))) Length behind in
+    let size = length-passed (length m2) (messages2Length (s .parameters) (s .runs)) behind (rest-done s Begun rest e) in
     let whole = due-intact s Begun rest e record { begun = refl; still = refl } in
     omega (arith, size, messages2-most (s .parameters) (held-within s whole) (s .runs) (held-runs s whole .most))
 
@@ -147,7 +149,7 @@ pub response-passed : (s : Verifier) (m3 : List ℕ) → responseChecks s m3 ≡
 unfolding responseChecks
 response-passed s m3 e =
     let rest : Answer = check (eqb (length m3) (messages3Length (s .runs))) Length Done in
-    let size = length-passed (length m3) (messages3Length (s .runs)) (rest-done s Pointed rest e) in
+    let size = length-passed (length m3) (messages3Length (s .runs)) Done (rest-done s Pointed rest e) in
     let few = held-runs s (due-intact s Pointed rest e record { begun = refl; still = refl }) .most in
     omega (arith, size, few)
 
@@ -156,7 +158,7 @@ unfolding leafChecks
 leaf-passed s is e =
     let behind : Answer = check (leavesBelow (s .parameters) is) Leaf Done in
     let rest : Answer = check (eqb (length is) (s .runs)) Length behind in
-    let size = eqb-true (length is) (s .runs) (check-true (eqb (length is) (s .runs)) Length behind (rest-done s Responded rest e)) in
+    let size = length-passed (length is) (s .runs) behind (rest-done s Responded rest e) in
     let few = held-runs s (due-intact s Responded rest e record { begun = refl; still = refl }) .most in
     omega (arith, size, few)
 

@@ -2,6 +2,7 @@
 // session that holds these.
 use answers::Answer;
 use answers::Refusal;
+use challenge::distinct_points;
 use layout::lent;
 use layout::runs::leaves_below;
 use layout::runs::message1_length;
@@ -130,6 +131,9 @@ pub fn points_checks(
     };
     if message2.len() != messages2_length(p, runs) {
         return Answer::Refused(Refusal::Length);
+    }
+    if !distinct_points(p, runs, message2) {
+        return Answer::Refused(Refusal::SamePoint);
     }
     Answer::Done
 }

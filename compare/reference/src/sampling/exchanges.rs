@@ -1,12 +1,15 @@
 //! Whole exchanges through the sessions.
 
+use crate::challenge::Challenge;
 use crate::extractor::{extract, Answer};
 use crate::key::PublicKey;
 use crate::lent::Lent;
-use crate::messages::Messages;
+use crate::messages::{part, Messages};
 use crate::numbers::{Number, CARRIED_OUT};
 use crate::parameters::Parameters;
+use crate::points_field::POINT_BYTES;
 use crate::prover::Prover;
+use crate::sampling::damage::nearly_repeat_point;
 use crate::sampling::keys::Key;
 use crate::sampling::Random;
 use crate::strings::{Salt, Seed, DIGEST_BYTES, SALT_BYTES};
@@ -87,10 +90,35 @@ impl Start {
     }
 }
 
-/// A message 2, sometimes with points or multipliers that are zero, bytes or repeated.
+/// A message 2 whose points differ in each run, sometimes in one byte only. Sometimes points or multipliers are zero or bytes,
+/// multipliers repeat or equal points, and a run has the points of the run before.
 pub fn random_message_2(random: &mut Random, parameters: &Parameters, runs: usize) -> Vec<u8> {
-    let mut message = random.bytes(parameters.message_2_bytes(runs));
-    for point in message.chunks_exact_mut(4) {
+    let mut message: Vec<u8> = Vec::new();
+    for run in 0..runs {
+        let mut challenge = distinct_challenge(random, parameters);
+        if run > 0 && random.once_in(4) {
+            let points = parameters.position_bytes();
+            challenge[..points].copy_from_slice(&part(&message, run - 1, parameters.challenge_bytes())[..points]);
+        }
+        message.extend(challenge);
+    }
+    message
+}
+
+/// A run's part of message 2, drawn again until its points differ.
+fn distinct_challenge(random: &mut Random, parameters: &Parameters) -> Vec<u8> {
+    loop {
+        let challenge = any_challenge(random, parameters);
+        if Challenge::from_bytes(&challenge).check_points().is_ok() {
+            return challenge;
+        }
+    }
+}
+
+/// A run's part of message 2, whose points may repeat.
+fn any_challenge(random: &mut Random, parameters: &Parameters) -> Vec<u8> {
+    let mut challenge = random.bytes(parameters.challenge_bytes());
+    for point in challenge.chunks_exact_mut(POINT_BYTES) {
         match random.below(8) {
             0 => point.fill(0),
             1 => point[1..].fill(0),
@@ -98,7 +126,10 @@ pub fn random_message_2(random: &mut Random, parameters: &Parameters, runs: usiz
             _ => (),
         }
     }
-    message
+    if parameters.t > 1 && random.once_in(4) {
+        nearly_repeat_point(random, &mut challenge[..parameters.position_bytes()]);
+    }
+    challenge
 }
 
 /// The messages that an honest prover gives where these leaves are hidden, one a run.

@@ -4,11 +4,11 @@
 use crate::commitment::Committed;
 use crate::extractor::{differing_runs, first_differing_axis, Answer};
 use crate::messages::{challenges, message_1};
-use crate::numbers::{Number, CARRIED_OUT, COMMITMENT_DIFFERS, EXCHANGES_DIFFER, RESPONSE_DIFFERS};
+use crate::numbers::{Number, CARRIED_OUT, COMMITMENT_DIFFERS, EXCHANGES_DIFFER, POINT_REPEATED, RESPONSE_DIFFERS};
 use crate::parameters::Parameters;
 use crate::parties::AlphaBeta;
 use crate::points_field::{points_from_bytes, Point, POINT_BYTES};
-use crate::sampling::damage::flip_bit;
+use crate::sampling::damage::{flip_bit, flip_challenge_bit, repeat_point};
 use crate::sampling::exchanges::{random_message_2, Exchange};
 use crate::sampling::keys::Key;
 use crate::sampling::simulated::{fitted, leaf_first, PointsFirst};
@@ -103,6 +103,14 @@ pub fn openings(random: &mut Random, key: &Key, leaves: &[u8]) -> Vec<(Exchange,
     all
 }
 
+/// A made-up exchange that hides these leaves and would be accepted if two points of some run were not equal; none with one
+/// position.
+pub fn with_repeated_point(random: &mut Random, key: &Key, leaves: &[u8]) -> Option<Exchange> {
+    let mut exchange = leaf_first(random, &key.parameters, key.public(), leaves);
+    let repeated = repeat_point(random, &key.parameters, &mut exchange.message_2);
+    repeated.then(|| fitted(&key.parameters, key.public(), exchange))
+}
+
 fn random_points(random: &mut Random, number: usize) -> Vec<Point> {
     points_from_bytes(&random.bytes(POINT_BYTES * number))
 }
@@ -172,9 +180,9 @@ fn spoiled(random: &mut Random, set: &Parameters, first: &Exchange, second: &Exc
     let first_7 = with_other_alpha(random, set, first, run);
     let second_5 = with_other_commitment(random, set, second, other);
     let second_7 = with_other_alpha(random, set, second, other);
-    let mut multiplier = second.clone();
-    flip_bit(random, multiplier.challenge_mut(set, other));
-    let apart = [with_other_h(random, second, other), multiplier, with_other_response(random, second, other)];
+    let mut challenge = second.clone();
+    flip_challenge_bit(random, set, challenge.challenge_mut(set, other));
+    let apart = [with_other_h(random, second, other), challenge, with_other_response(random, second, other)];
     let mut all = vec![
         ([first_7.clone(), second_5.clone()], Answer::Refused(RESPONSE_DIFFERS)),
         ([first_5, second_7.clone()], Answer::Refused(COMMITMENT_DIFFERS)),
@@ -185,8 +193,25 @@ fn spoiled(random: &mut Random, set: &Parameters, first: &Exchange, second: &Exc
     all
 }
 
-/// Made-up exchanges that differ in leaves and message 5 alone, but for the last three, each pair with what the extractor
-/// answers: both are accepted; both have another h' or another h; they misfit; one run is spoiled.
+/// Two exchanges that hide these leaves and would be extracted if two points of some run were not equal, and pairs of which
+/// only the first or only the second repeats a point; none with one position.
+fn repeating(random: &mut Random, key: &Key, leaves: &[Vec<u8>; 2]) -> Vec<([Exchange; 2], Answer)> {
+    let set = key.parameters;
+    let distinct = random_message_2(random, &set, leaves[0].len());
+    let mut message_2 = distinct.clone();
+    if !repeat_point(random, &set, &mut message_2) {
+        return Vec::new();
+    }
+    let prover = PointsFirst::new(random, &set, key.public(), &message_2);
+    let [first, second] = leaves.each_ref().map(|leaves| prover.exchange(leaves));
+    let [other_first, other_second] =
+        [&first, &second].map(|exchange| Exchange { message_2: distinct.clone(), ..exchange.clone() });
+    let pairs = [[first.clone(), second.clone()], [first, other_second], [other_first, second]];
+    pairs.map(|pair| (pair, Answer::Refused(POINT_REPEATED))).into()
+}
+
+/// Made-up exchanges that mostly differ in leaves and message 5 alone, each pair with what the extractor answers: both are
+/// accepted; both have another h' or another h; they misfit; one run is spoiled; a point is repeated.
 pub fn pairs(random: &mut Random, key: &Key, runs: usize) -> Vec<([Exchange; 2], Answer)> {
     let (set, public) = (key.parameters, key.public());
     let leaves = two_leaf_lists(random, &set, runs);
@@ -205,5 +230,6 @@ pub fn pairs(random: &mut Random, key: &Key, runs: usize) -> Vec<([Exchange; 2],
     ];
     all.extend(misfits(random, key, &leaves));
     all.extend(spoiled(random, &set, &first, &second));
+    all.extend(repeating(random, key, &leaves));
     all
 }

@@ -1,6 +1,6 @@
 -- What document 01 says of the extractor's call.
 --
--- earlyConditions      the conditions of the numbers that stand before 5: 1, 2, 4, 8, 9
+-- earlyConditions      the conditions of the numbers that stand before 5: 1, 2, 14, 4, 8, 9
 -- orThen n n′          n, or n′ where n is 0
 -- expectedNumber       'in the extractor 5, 6, 7 of the first opening come before those of the second'
 -- shown f              'The first unequal pair is the answer', 'output untouched. Otherwise the output holds' the states 'and the answer names'
@@ -20,6 +20,7 @@ use Rattle.parameters.specs.Limits.{withinLimits}
 use Rattle.layout.specs.Layout.{workLength}
 use Rattle.layout.specs.Runs.{runsWithin}
 use Rattle.exchange.specs.Values.{Key}
+use Rattle.runs.specs.Points.{distinctPoints}
 use Rattle.runs.specs.Opening.{Transcript}
 use Rattle.runs.specs.Extractor.{Finding, unequal, states, extract}
 use Rattle.calls.specs.Lengths.{leavesBelow}
@@ -34,6 +35,7 @@ module _ (hash : List ℕ → ℕ → List ℕ) (p : Parameters) (runs : ℕ) (t
   earlyConditions =
       (1, not (withinLimits p && runsWithin runs))
       ∷ (2, not (allTrue (extractLengths hash p runs t t′ key work out)))
+      ∷ (14, not (distinctPoints p runs (t .message2) && distinctPoints p runs (t′ .message2)))
       ∷ (4, not (leavesBelow p (t .leaves) && leavesBelow p (t′ .leaves)))
       ∷ (8, not (eqList (t .message1) (t′ .message1) && (eqList (t .message2) (t′ .message2) && eqList (t .message3) (t′ .message3))))
       ∷ (9, eqList (t .leaves) (t′ .leaves))

@@ -16,7 +16,7 @@ use Rattle.lists.specs.Checks.{allTrue}
 use Rattle.answers.specs.declared.Answer.{Answer as Checked}
 use Rattle.answers.specs.declared.Answer.the-variants.{Done, Refused}
 use Rattle.answers.specs.declared.Refusal.{Refusal}
-use Rattle.answers.specs.declared.Refusal.the-variants.{Parameter, Length, Leaf, Exchange as Differs, SameLeaf}
+use Rattle.answers.specs.declared.Refusal.the-variants.{Parameter, Length, Leaf, Exchange as Differs, SameLeaf, SamePoint}
 use Rattle.answers.specs.Number.{refusalNumber, answerNumber}
 use Rattle.answers.specs.Number.Laws.{refused-not-0}
 use Rattle.answers.specs.Checks.{checks}
@@ -31,7 +31,7 @@ use Rattle.runs.specs.Extractor.{Finding, unequal, states, extract}
 use Rattle.calls.specs.Lengths.{leavesBelow}
 use Rattle.calls.specs.Judging.{openingConditions, judged}
 use Rattle.calls.specs.Judging.Laws.{verdict-told, verdict-judged}
-use Rattle.calls.specs.Extractor.{extractLengths, sameStatement, earlyChecks, found, second, first, early, extraction, Outcome, refused, numberOf}
+use Rattle.calls.specs.Extractor.{extractLengths, bothDistinct, sameStatement, earlyChecks, found, second, first, early, extraction, Outcome, refused, numberOf}
 use Rattle.calls.specs.Extractor.Expected.{orThen, earlyConditions, expectedNumber, shown, expected}
 
 module _ (hash : List ℕ → ℕ → List ℕ) (p : Parameters) (runs : ℕ) (t t′ : Transcript) (key : Key) (work out : List ℕ) where
@@ -65,25 +65,26 @@ module _ (hash : List ℕ → ℕ → List ℕ) (p : Parameters) (runs : ℕ) (t
   first-given (Refused r) j = rw (ne-eqb (refusalNumber r) 0 (refused-not-0 r)) (refused-given r j)
 
   -- the checks before 5 in their order, then those of the openings
-  early-given : (a b c d e : Bool)
-      → early hash p runs t t′ key work out (checks ((a, Parameter) ∷ (b, Length) ∷ (c, Leaf) ∷ (d, Differs) ∷ (not e, SameLeaf) ∷ []))
+  early-given : (a b c d e f : Bool)
+      → early hash p runs t t′ key work out (checks ((a, Parameter) ∷ (b, Length) ∷ (c, SamePoint) ∷ (d, Leaf) ∷ (e, Differs) ∷ (not f, SameLeaf) ∷ []))
       ≡ Given
-      (orThen (answerOf (((1, not a) ∷ (2, not b) ∷ (4, not c) ∷ (8, not d) ∷ (9, e) ∷ []) ++ openingConditions hash p runs t key))
+      (orThen (answerOf (((1, not a) ∷ (2, not b) ∷ (14, not c) ∷ (4, not d) ∷ (8, not e) ∷ (9, f) ∷ []) ++ openingConditions hash p runs t key))
       (answerOf (openingConditions hash p runs t′ key)))
   unfolding early openingConditions answerOf firstOf holds
-  early-given false b c d e = refl
-  early-given true false c d e = refl
-  early-given true true false d e = refl
-  early-given true true true false e = refl
-  early-given true true true true true = refl
-  early-given true true true true false =
+  early-given false b c d e f = refl
+  early-given true false c d e f = refl
+  early-given true true false d e f = refl
+  early-given true true true false e f = refl
+  early-given true true true true false f = refl
+  early-given true true true true true true = refl
+  early-given true true true true true false =
       first-given (verdict hash p runs t key) (verdict-judged hash p runs t key)
       ∙ ap Given (ap₂ orThen (verdict-told hash p runs t key) (verdict-told hash p runs t′ key))
 
   pub told : extraction hash p runs t t′ key work out ≡ expected hash p runs t t′ key work out
-  unfolding extraction earlyChecks expected expectedNumber earlyConditions sameStatement
+  unfolding extraction earlyChecks expected expectedNumber earlyConditions bothDistinct sameStatement
   told =
-      early-given (withinLimits p && runsWithin runs) (allTrue (extractLengths hash p runs t t′ key work out))
+      early-given (withinLimits p && runsWithin runs) (allTrue (extractLengths hash p runs t t′ key work out)) (bothDistinct hash p runs t t′ key work out)
       (leavesBelow p (t .leaves) && leavesBelow p (t′ .leaves)) (sameStatement hash p runs t t′ key work out) (eqList (t .leaves) (t′ .leaves))
 
   shown-number : (f : Finding) → numberOf (shown hash p runs t t′ key work out f .answer) ≡ 0

@@ -14,7 +14,7 @@ use borrow.Author.Tests.{not-false, leb-true}
 use Rattle.lists.specs.Checks.{allTrue}
 use Rattle.lists.specs.Checks.Laws.{and-left, and-right}
 use Rattle.answers.specs.declared.Answer.the-variants.{Done}
-use Rattle.answers.specs.declared.Refusal.the-variants.{Parameter, Length, Weight, Leaf, NotDue, Closed as ExchangeClosed, Repeated}
+use Rattle.answers.specs.declared.Refusal.the-variants.{Parameter, Length, Weight, Leaf, NotDue, Closed as ExchangeClosed, Repeated, SamePoint}
 use Rattle.answers.specs.Number.{answerNumber}
 use Rattle.answers.specs.Checks.{checks}
 use Rattle.answers.specs.Order.{holds, firstOf, answerOf}
@@ -25,6 +25,7 @@ use Rattle.relation.specs.Key.{weightOf}
 use Rattle.layout.specs.Runs.{runsWithin}
 use Rattle.layout.specs.Runs.Laws.{RunsWithin, runs-within}
 use Rattle.exchange.specs.Values.{Key}
+use Rattle.runs.specs.Points.{distinctPoints}
 use Rattle.calls.specs.Lengths.{beginLengths, pointsLengths, leafLengths, leavesBelow}
 use Rattle.calls.specs.Prover.{Prover, closed, pointsDue, leafDue, repeated, beginChecks, pointsChecks, leafChecks}
 use Rattle.calls.specs.Prover.History.{Begin, secretOf}
@@ -42,10 +43,10 @@ begin-row : (a b c d : Bool) → answerNumber (checks ((a, Parameter) ∷ (b, Le
 unfolding told picked absent
 begin-row a b c d = picked-order ((a, Parameter) ∷ (b, Length) ∷ (c, Weight) ∷ (d, Repeated) ∷ []) refl
 
-points-row : (a b c : Bool) → answerNumber (checks ((a, ExchangeClosed) ∷ (b, NotDue) ∷ (c, Length) ∷ []))
-    ≡ answerOf ((12, not a) ∷ (11, not b) ∷ (2, not c) ∷ [])
+points-row : (a b c d : Bool) → answerNumber (checks ((a, ExchangeClosed) ∷ (b, NotDue) ∷ (c, Length) ∷ (d, SamePoint) ∷ []))
+    ≡ answerOf ((12, not a) ∷ (11, not b) ∷ (2, not c) ∷ (14, not d) ∷ [])
 unfolding told picked absent
-points-row a b c = picked-order ((a, ExchangeClosed) ∷ (b, NotDue) ∷ (c, Length) ∷ []) refl
+points-row a b c d = picked-order ((a, ExchangeClosed) ∷ (b, NotDue) ∷ (c, Length) ∷ (d, SamePoint) ∷ []) refl
 
 leaf-row : (a b c d : Bool) → answerNumber (checks ((a, ExchangeClosed) ∷ (b, NotDue) ∷ (c, Length) ∷ (d, Leaf) ∷ []))
     ≡ answerOf ((12, not a) ∷ (11, not b) ∷ (2, not c) ∷ (4, not d) ∷ [])
@@ -68,10 +69,13 @@ module _ (hash : List ℕ → ℕ → List ℕ) (s : Prover) (work out : List �
 
   module _ (key : Key) where
     pub points-ordered : (m2 : List ℕ) → answerNumber (pointsChecks hash s m2 key work out)
-        ≡ answerOf ((12, closed s) ∷ (11, not (pointsDue s)) ∷ (2, not (allTrue (pointsLengths (s .parameters) (s .runs) m2 key work out))) ∷ [])
+        ≡ answerOf ((12, closed s) ∷ (11, not (pointsDue s)) ∷ (2, not (allTrue (pointsLengths (s .parameters) (s .runs) m2 key work out)))
+        ∷ (14, not (distinctPoints (s .parameters) (s .runs) m2)) ∷ [])
     unfolding pointsChecks
     points-ordered m2 =
-        points-row (not (closed s)) (pointsDue s) (allTrue (pointsLengths (s .parameters) (s .runs) m2 key work out)) ∙ rw (Bool·not-not (closed s))
+        points-row (not (closed s)) (pointsDue s) (allTrue (pointsLengths (s .parameters) (s .runs) m2 key work out))
+        (distinctPoints (s .parameters) (s .runs) m2)
+        ∙ rw (Bool·not-not (closed s))
 
     pub leaf-ordered : (is : List ℕ) → answerNumber (leafChecks hash s is key work out)
         ≡ answerOf ((12, closed s) ∷ (11, not (leafDue s)) ∷ (2, not (allTrue (leafLengths (s .parameters) (s .runs) is key work out)))
@@ -98,12 +102,14 @@ begin-by false false false true false q = absurd (omega arith)
 begin-by false false false false true q = absurd (omega arith)
 begin-by false false false false false q = (refl, refl, refl, refl)
 
-pub points-by : (a b c : Bool) → answerOf ((12, a) ∷ (11, b) ∷ (2, c) ∷ []) ≡ 0 → (a ≡ false) × (b ≡ false) × (c ≡ false)
+pub points-by : (a b c d : Bool) → answerOf ((12, a) ∷ (11, b) ∷ (2, c) ∷ (14, d) ∷ []) ≡ 0
+    → (a ≡ false) × (b ≡ false) × (c ≡ false) × (d ≡ false)
 unfolding answerOf firstOf holds
-points-by true b c q = absurd (omega arith)
-points-by false true c q = absurd (omega arith)
-points-by false false true q = absurd (omega arith)
-points-by false false false q = (refl, refl, refl)
+points-by true b c d q = absurd (omega arith)
+points-by false true c d q = absurd (omega arith)
+points-by false false true d q = absurd (omega arith)
+points-by false false false true q = absurd (omega arith)
+points-by false false false false q = (refl, refl, refl, refl)
 
 pub leaf-by : (a b c d : Bool) → answerOf ((12, a) ∷ (11, b) ∷ (2, c) ∷ (4, d) ∷ []) ≡ 0
     → (a ≡ false) × (b ≡ false) × (c ≡ false) × (d ≡ false)
@@ -134,9 +140,10 @@ module _ (hash : List ℕ → ℕ → List ℕ) (s : Prover) (work out : List �
   module _ (key : Key) where
     pub points-passed : (m2 : List ℕ) → pointsChecks hash s m2 key work out ≡ Done
         → (pointsDue s ≡ true) × (allTrue (pointsLengths (s .parameters) (s .runs) m2 key work out) ≡ true)
+        × (distinctPoints (s .parameters) (s .runs) m2 ≡ true)
     points-passed m2 e =
-        let t = points-by _ _ _ (sym (points-ordered hash s work out key m2) ∙ ap answerNumber e) in
-        (not-false _ (t .1), not-false _ (t .2))
+        let t = points-by _ _ _ _ (sym (points-ordered hash s work out key m2) ∙ ap answerNumber e) in
+        (not-false _ (t .1), not-false _ (t .2), not-false _ (t .3))
 
     pub leaf-passed : (is : List ℕ) → leafChecks hash s is key work out ≡ Done → leafDue s ≡ true
     leaf-passed is e = not-false _ (leaf-by _ _ _ _ (sym (leaf-ordered hash s work out key is) ∙ ap answerNumber e) .1)

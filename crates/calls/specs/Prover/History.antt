@@ -32,6 +32,7 @@ use Rattle.layout.specs.Layout.{workLength}
 use Rattle.layout.specs.Runs.{runsWithin}
 use Rattle.exchange.specs.Values.{Key}
 use Rattle.runs.specs.Messages.{message1, message3, message5}
+use Rattle.runs.specs.Points.{distinctPoints}
 use Rattle.calls.specs.Lengths.{beginLengths, pointsLengths, leafLengths, leavesBelow}
 use Rattle.calls.specs.Held.{isSome, orElse, told}
 use Rattle.calls.specs.Prover.{Prover, Outcome, fresh, begin, points, leaf}
@@ -141,7 +142,8 @@ conditions h (beginCall b work out) =
 conditions h (pointsCall m2 key work out) =
     (12, leafSince h)
     ∷ (11, not (isSome (lastBegin h)) || isSome (pointsSince h))
-    ∷ told (lastBegin h) [] (λ b. (2, not (allTrue (pointsLengths (b .parameters) (b .runs) m2 key work out))) ∷ [])
+    ∷ told (lastBegin h) []
+    (λ b. (2, not (allTrue (pointsLengths (b .parameters) (b .runs) m2 key work out))) ∷ (14, not (distinctPoints (b .parameters) (b .runs) m2)) ∷ [])
 conditions h (leafCall is key work out) =
     (12, leafSince h)
     ∷ (11, not (isSome (lastBegin h)) || not (isSome (pointsSince h)))

@@ -28,6 +28,7 @@ use Rattle.relation.specs.Key.{weightOf}
 use Rattle.layout.specs.Runs.{runsWithin}
 use Rattle.layout.specs.Runs.Laws.{within-runs}
 use Rattle.exchange.specs.Values.{Key}
+use Rattle.runs.specs.Points.{distinctPoints}
 use Rattle.calls.specs.Lengths.{beginLengths, pointsLengths, leafLengths, leavesBelow}
 use Rattle.calls.specs.Held.{isSome, told}
 use Rattle.calls.specs.Prover.History.{Begin, Call, beginCall, pointsCall, leafCall, Made, outcome, after, made, beginIn, begun, pointed, opened, lastBegin, pointsSince, leafSince, secretOf, repeats, conditions}
@@ -55,6 +56,7 @@ pub record PointsDue (h : List Made) (m2 : List ℕ) (key : Key) (work out : Lis
   pub first : pointsSince h ≡ none
   pub unopened : leafSince h ≡ false
   pub sized : allTrue (pointsLengths (held .parameters) (held .runs) m2 key work out) ≡ true
+  pub distinct : distinctPoints (held .parameters) (held .runs) m2 ≡ true
 
 pub record LeafDue (h : List Made) (is : List ℕ) (key : Key) (work out : List ℕ) : Type 0 where
   pub held : Begin
@@ -72,7 +74,7 @@ unfolding answerOf firstOf holds
 begin-of true = refl
 begin-of false = refl
 
-points-of : answerOf ((12, false) ∷ (11, false) ∷ (2, false) ∷ []) ≡ 0
+points-of : answerOf ((12, false) ∷ (11, false) ∷ (2, false) ∷ (14, false) ∷ []) ≡ 0
 unfolding answerOf firstOf holds
 points-of = refl
 
@@ -175,16 +177,18 @@ module _ (hash : List ℕ → ℕ → List ℕ) (cs : List Call) where
       where
         go : (o : Option Begin) → lastBegin h ≡ o
             → answerOf ((12, leafSince h) ∷ (11, not (isSome o) || isSome (pointsSince h))
-            ∷ told o [] (λ b. (2, not (allTrue (pointsLengths (b .parameters) (b .runs) m2 key work out))) ∷ [])) ≡ 0 → PointsDue h m2 key work out
+            ∷ told o []
+            (λ b. (2, not (allTrue (pointsLengths (b .parameters) (b .runs) m2 key work out))) ∷ (14, not (distinctPoints (b .parameters) (b .runs) m2)) ∷ []))
+            ≡ 0 → PointsDue h m2 key work out
         go none same q = absurd (unstarted-not-0 (leafSince h) q)
         go (some b) same q =
-            let t = points-by _ _ _ q in
-            record { held = b; is-held = same; first = is-none _ (t .1); unopened = t .0; sized = not-false _ (t .2) }
+            let t = points-by _ _ _ _ q in
+            record { held = b; is-held = same; first = is-none _ (t .1); unopened = t .0; sized = not-false _ (t .2); distinct = not-false _ (t .3) }
 
     pub points-due-after-begin : PointsDue (made hash cs) m2 key work out → outcome hash (after hash cs) (pointsCall m2 key work out) .answer ≡ 0
     unfolding conditions
     points-due-after-begin d =
-        number-told hash cs (pointsCall m2 key work out) ∙ rw (d .unopened, d .is-held, d .first, d .sized) points-of
+        number-told hash cs (pointsCall m2 key work out) ∙ rw (d .unopened, d .is-held, d .first, d .sized, d .distinct) points-of
 
   module _ (is : List ℕ) (key : Key) (work out : List ℕ) where
     pub leaf-carried : outcome hash (after hash cs) (leafCall is key work out) .answer ≡ 0 → LeafDue (made hash cs) is key work out
@@ -238,12 +242,13 @@ leaf-adds h is key work out n e = rw (eq-eqb n 0 e) (refl, refl)
 module _ (hash : List ℕ → ℕ → List ℕ) (cs : List Call) where
   pub points-after-begin : (b : Begin) (work out : List ℕ) → outcome hash (after hash cs) (beginCall b work out) .answer ≡ 0
       → (m2 : List ℕ) (key : Key) (work′ out′ : List ℕ) → allTrue (pointsLengths (b .parameters) (b .runs) m2 key work′ out′) ≡ true
+      → distinctPoints (b .parameters) (b .runs) m2 ≡ true
       → outcome hash (after hash (beginCall b work out ∷ cs)) (pointsCall m2 key work′ out′) .answer ≡ 0
   unfolding made
-  points-after-begin b work out e m2 key work′ out′ sized =
+  points-after-begin b work out e m2 key work′ out′ sized distinct =
       let told = begin-adds (made hash cs) b work out _ e in
       points-due-after-begin hash (beginCall b work out ∷ cs) m2 key work′ out′
-      (record { held = b; is-held = told .0; first = told .1; unopened = told .2; sized = sized })
+      (record { held = b; is-held = told .0; first = told .1; unopened = told .2; sized = sized; distinct = distinct })
 
   pub leaf-after-points : (m2 : List ℕ) (key : Key) (work out : List ℕ) → outcome hash (after hash cs) (pointsCall m2 key work out) .answer ≡ 0
       → (b : Begin) → lastBegin (made hash cs) ≡ some b

@@ -28,6 +28,7 @@ use Rattle.layout.specs.Maxima.{mostMessages2}
 use Rattle.layout.specs.Runs.{runsWithin, messages2Length}
 use Rattle.exchange.specs.Values.{Key}
 use Rattle.runs.specs.Messages.{message3, message5}
+use Rattle.runs.specs.Points.{distinctPoints}
 use Rattle.prover_phase.specs.declared.Phase.{Phase}
 use Rattle.calls.specs.Lengths.{beginLengths, pointsLengths, leafLengths, leavesBelow}
 use Rattle.calls.specs.Held.{isSome, told}
@@ -40,10 +41,10 @@ use Rattle.calls.specs.Prover.Reached.{Orderly, unstarted, started, chal
 
 -- ---- 11 and 12 before all others
 
--- before the first begin 11 is the answer, whatever the lengths
-unstarted-points : (c : Bool) → answerOf ((12, false) ∷ (11, true) ∷ (2, c) ∷ []) ≡ answerOf ((12, false) ∷ (11, true) ∷ [])
+-- before the first begin 11 is the answer, whatever the message
+unstarted-points : (c d : Bool) → answerOf ((12, false) ∷ (11, true) ∷ (2, c) ∷ (14, d) ∷ []) ≡ answerOf ((12, false) ∷ (11, true) ∷ [])
 unfolding answerOf firstOf holds
-unstarted-points c = refl
+unstarted-points c d = refl
 
 unstarted-leaf : (c d : Bool) → answerOf ((12, false) ∷ (11, true) ∷ (2, c) ∷ (4, d) ∷ []) ≡ answerOf ((12, false) ∷ (11, true) ∷ [])
 unfolding answerOf firstOf holds
@@ -108,12 +109,14 @@ module _ (hash : List ℕ → ℕ → List ℕ) (o : Option Begin) (q : Option (
     pointsBy o q l =
         (12, l)
         ∷ (11, not (isSome o) || isSome q)
-        ∷ told o [] (λ b. (2, not (allTrue (pointsLengths (b .parameters) (b .runs) m2 key work out))) ∷ [])
+        ∷ told o []
+        (λ b. (2, not (allTrue (pointsLengths (b .parameters) (b .runs) m2 key work out))) ∷ (14, not (distinctPoints (b .parameters) (b .runs) m2)) ∷ [])
 
     points-due : (o : Option Begin) (q : Option (List ℕ)) (l : Bool) → Orderly o q l
         → answerOf ((12, l) ∷ (11, not (isSome o) || isSome q)
-        ∷ (2, not (allTrue (pointsLengths (sessionTold o q l .parameters) (sessionTold o q l .runs) m2 key work out))) ∷ []) ≡ answerOf (pointsBy o q l)
-    points-due o q l unstarted = unstarted-points _
+        ∷ (2, not (allTrue (pointsLengths (sessionTold o q l .parameters) (sessionTold o q l .runs) m2 key work out)))
+        ∷ (14, not (distinctPoints (sessionTold o q l .parameters) (sessionTold o q l .runs) m2)) ∷ []) ≡ answerOf (pointsBy o q l)
+    points-due o q l unstarted = unstarted-points _ _
     points-due o q l (started b ok) = refl
     points-due o q l (challenged b m l′ ok e) = refl
 

@@ -29,6 +29,7 @@ use Rattle.parameters.specs.Limits.{withinLimits}
 use Rattle.layout.specs.Layout.{workLength}
 use Rattle.layout.specs.Runs.{runsWithin, message1Length, messages2Length, messages3Length}
 use Rattle.exchange.specs.Values.{Key}
+use Rattle.runs.specs.Points.{distinctPoints}
 use Rattle.runs.specs.Opening.{Transcript, transcript}
 use Rattle.calls.specs.Lengths.{openingLengths, leavesBelow}
 use Rattle.calls.specs.Judging.{openingConditions, judged}
@@ -183,7 +184,8 @@ conditions hash h (beginCall b) =
 conditions hash h (pointsCall m2) =
     (12, openedSince h)
     ∷ (11, not (isSome (lastBegin h)) || isSome (pointsSince h))
-    ∷ told (lastBegin h) [] (λ b. (2, not (eqb (length m2) (messages2Length (b .parameters) (b .runs)))) ∷ [])
+    ∷ told (lastBegin h) []
+    (λ b. (2, not (eqb (length m2) (messages2Length (b .parameters) (b .runs)))) ∷ (14, not (distinctPoints (b .parameters) (b .runs) m2)) ∷ [])
 conditions hash h (responseCall m3) =
     (12, openedSince h)
     ∷ (11, not (isSome (pointsSince h)) || isSome (responseSince h))

@@ -17,6 +17,7 @@ use Rattle.parameters.specs.Limits.{withinLimits}
 use Rattle.layout.specs.Maxima.{mostRuns, mostMessage1, mostMessages2, mostMessages3}
 use Rattle.layout.specs.Runs.{runsWithin, message1Length, messages2Length, messages3Length}
 use Rattle.exchange.specs.Values.{Key}
+use Rattle.runs.specs.Points.{distinctPoints}
 use Rattle.verifier_phase.specs.declared.Phase.{Phase}
 use Rattle.verifier_phase.specs.declared.Phase.the-variants.{Begun, Pointed, Responded, Chosen, Closed}
 use Rattle.calls.specs.Lengths.{leavesBelow}
@@ -80,6 +81,7 @@ pub record Passed (t : Telling) : Type 0 where
   pub limits : told (t .begin) true (λ b. withinLimits (b .parameters) && runsWithin (b .runs)) ≡ true
   pub sized1 : told (t .begin) true (λ b. eqb (length (b .message1)) (message1Length (b .runs))) ≡ true
   pub sized2 : told (t .begin) true (λ b. told (t .points) true (λ m2. eqb (length m2) (messages2Length (b .parameters) (b .runs)))) ≡ true
+  pub distinct : told (t .begin) true (λ b. told (t .points) true (λ m2. distinctPoints (b .parameters) (b .runs) m2)) ≡ true
   pub sized3 : told (t .begin) true (λ b. told (t .response) true (λ m3. eqb (length m3) (messages3Length (b .runs)))) ≡ true
   pub sized4 : told (t .begin) true (λ b. told (t .leaf) true (λ is. eqb (length is) (b .runs))) ≡ true
   pub below : told (t .begin) true (λ b. told (t .leaf) true (λ is. leavesBelow (b .parameters) is)) ≡ true

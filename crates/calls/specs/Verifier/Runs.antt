@@ -20,6 +20,7 @@ use Rattle.answers.specs.Order.{holds, firstOf, answerOf}
 use Rattle.parameters.specs.Limits.{withinLimits}
 use Rattle.layout.specs.Runs.{runsWithin, message1Length, messages2Length, messages3Length}
 use Rattle.exchange.specs.Values.{Key}
+use Rattle.runs.specs.Points.{distinctPoints}
 use Rattle.runs.specs.Opening.{transcript, verdict, Accepted}
 use Rattle.runs.specs.Opening.Laws.{accepted-then, accepted-when}
 use Rattle.calls.specs.Lengths.{openingLengths, leavesBelow}
@@ -111,10 +112,12 @@ module _ (hash : List ℕ → ℕ → List ℕ) where
 
   module _ (cs : List Call) (b : Begin) where
     pub points-taken : since (made hash cs) ≡ beginCall b ∷ [] → (m2 : List ℕ) → length m2 ≡ messages2Length (b .parameters) (b .runs)
+        → distinctPoints (b .parameters) (b .runs) m2 ≡ true
         → outcome hash (after hash cs) (pointsCall m2) .answer ≡ 0
     unfolding historyAt conditions answerOf firstOf holds
-    points-taken e m2 q =
-        number-at cs (atBegin b) (since-stage hash cs (atBegin b) e) (pointsCall m2) ∙ rw (eq-eqb (length m2) (messages2Length (b .parameters) (b .runs)) q)
+    points-taken e m2 q d =
+        number-at cs (atBegin b) (since-stage hash cs (atBegin b) e) (pointsCall m2)
+        ∙ rw (eq-eqb (length m2) (messages2Length (b .parameters) (b .runs)) q, d)
 
     module _ (m2 : List ℕ) where
       pub response-taken : since (made hash cs) ≡ pointsCall m2 ∷ beginCall b ∷ [] → (m3 : List ℕ) → length m3 ≡ messages3Length (b .runs)

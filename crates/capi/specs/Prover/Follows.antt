@@ -128,7 +128,7 @@ module _ (b : List ℕ) (size : length b ≡ proverSize) where
         let open-still = check-rest (not (closed s)) ExchangeClosed _ e in
         let ready = points-ready s (check-true (pointsDue s) NotDue _ open-still) in
         let tests = pointsLengths (s .parameters) (s .runs) m2 key work out in
-        let passed = check-true (allTrue tests) Length Done (check-rest (pointsDue s) NotDue _ open-still) in
+        let passed = check-true (allTrue tests) Length _ (check-rest (pointsDue s) NotDue _ open-still) in
         let long = eqb-true (length m2) (messages2Length (s .parameters) (s .runs)) (all-at tests passed 0) in
         let most = messages2-most (s .parameters) (ready .limits .within) (s .runs) (ready .limits .counted .most) in
         let held = read-lengths .message2 in

@@ -14,6 +14,7 @@ use Rattle.layout.specs.Runs.{message1Length, messages2Length, messages3Length}
 use Rattle.layout.specs.Runs.Laws.{RunsWithin}
 use Rattle.exchange.specs.Values.{Key}
 use Rattle.runs.specs.Messages.{message1, message3, message5}
+use Rattle.runs.specs.Points.{DistinctPoints}
 use Rattle.runs.specs.Messages.Laws.{length-message1, length-message3, length-message5, messages-accepted}
 use Rattle.runs.specs.Opening.{transcript}
 use Rattle.runs.specs.Opening.Laws.{accepted-when}
@@ -28,8 +29,8 @@ use Rattle.claims.specs.Completeness.Sessions.{secret, begunProver, answ
 
 module _ (hash : List ℕ → ℕ → List ℕ) (hash-length : (s : List ℕ) (n : ℕ) → length (hash s n) ≡ n)
     (p : Parameters) (runs : ℕ) (counted : RunsWithin runs) (key : Key) (xA : List ℕ) (valid : ValidKey p key xA) (cs : List Call) (v : Verifier)
-    (salt root : List ℕ) (start : MayStart (made hash cs) salt root) (m2 : List ℕ) (size : length m2 ≡ messages2Length p runs) (is : List ℕ)
-    (inside : Leaves p runs is) (lent : Slices) (fit : Fitting p runs is lent) where
+    (salt root : List ℕ) (start : MayStart (made hash cs) salt root) (m2 : List ℕ) (size : length m2 ≡ messages2Length p runs)
+    (distinct : DistinctPoints p runs m2) (is : List ℕ) (inside : Leaves p runs is) (lent : Slices) (fit : Fitting p runs is lent) where
   abbrev s : Prover
   s = after hash cs
 
@@ -65,13 +66,14 @@ module _ (hash : List ℕ → ℕ → List ℕ) (hash-length : (s : List ℕ) (n
       ≡ record { answer = 0; verifier = pointedVerifier p runs m1 m2 }
   call3 =
       ap (λ (o : verifier.Outcome). verifier.points (o .verifier) m2) call2
-      ∙ verifierPoints-is p (valid .within) runs counted m1 m2 m3 is size
+      ∙ verifierPoints-is p (valid .within) runs counted m1 m2 m3 is size distinct
 
   call4 : proverPoints hash p runs key xA s v salt root m2 is lent
       ≡ record { answer = 0; prover = answeredProver p runs x salt root m2; out = m3; work = zeroed (workLength p) (lent .points-work) }
   call4 =
       ap (λ (o : prover.Outcome). prover.points hash (o .prover) m2 key (lent .points-work) (lent .points-out)) call1
-      ∙ proverPoints-is hash p runs counted key xA valid salt root m2 size (lent .points-work) (lent .points-out) (fit .points-work) (fit .points-out)
+      ∙ proverPoints-is hash p runs counted key xA valid salt root m2 size (lent .points-work) (lent .points-out) (fit .points-work) distinct
+      (fit .points-out)
 
   call5 : verifierResponse hash p runs key xA s v salt root m2 is lent
       ≡ record { answer = 0; verifier = respondedVerifier p runs m1 m2 m3 }

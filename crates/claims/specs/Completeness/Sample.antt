@@ -1,9 +1,10 @@
 -- What demand 2's last clause supposes can be had: document 01's sample key is valid, before the first begin an exchange may start with
--- every salt and root, after a begin with every other salt, and there are slices that fit.
+-- every salt and root, after a begin with every other salt, at one position any points are distinct, and there are slices that fit.
 --
 -- sample, sampleKey, sampleXA   the set, matrix, syndrome and key of document 01's key listing
 -- sample-valid                  they are a valid key
 -- fresh-start                   before the first begin no salt and root is refused
+-- one-position                  at one position, as document 01's sample has it, any points are distinct
 -- blank, blank-fits             slices of zeros, of the least lengths that fit
 -- sample-leaves                 a leaf for each of two runs
 -- begunWith salt root           one begin, of two runs
@@ -29,6 +30,7 @@ use Rattle.layout.specs.Layout.{bits, leaves, workLength}
 use Rattle.layout.specs.Runs.{message1Length, messages3Length, messages5Length}
 use Rattle.layout.specs.Runs.Laws.{RunsWithin}
 use Rattle.exchange.specs.Values.{Key}
+use Rattle.runs.specs.Points.{DistinctPoints}
 use Rattle.calls.specs.Prover.{Outcome}
 use Rattle.calls.specs.Prover.History.{Begin, Call, beginCall, outcome, after, made, begun, lastBegin}
 use Rattle.claims.specs.Completeness.{ValidKey, MayStart, Slices, Leaves, Fitting}
@@ -65,6 +67,9 @@ sample-valid = record {
 pub fresh-start : (salt root : List ℕ) → length salt ≡ 32 → length root ≡ 16 → MayStart [] salt root
 unfolding lastBegin
 fresh-start salt root h k = record { salt-length = h; root-length = k; not-repeated = λ b e r. Option·none-ne-some b e }
+
+pub one-position : (p : Parameters) → p .t ≡ 1 → (runs : ℕ) (m2 : List ℕ) → DistinctPoints p runs m2
+one-position p one runs m2 e i l k a b q c = q (omega arith)
 
 abbrev pub blank : Parameters → ℕ → List ℕ → Slices
 blank p runs is = record {

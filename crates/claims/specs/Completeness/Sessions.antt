@@ -23,7 +23,7 @@ use Rattle.lists.specs.Checks.{allTrue}
 use Rattle.lists.specs.Zeroed.{zeroed}
 use Rattle.answers.specs.declared.Answer.the-variants.{Done}
 use Rattle.answers.specs.declared.Refusal.{Refusal}
-use Rattle.answers.specs.declared.Refusal.the-variants.{Length, Leaf}
+use Rattle.answers.specs.declared.Refusal.the-variants.{Length, Leaf, SamePoint}
 use Rattle.answers.specs.Number.{answerNumber}
 use Rattle.answers.specs.Checks.{checks}
 use Rattle.parameters.specs.declared.Parameters.{Parameters}
@@ -38,6 +38,8 @@ use Rattle.layout.specs.Runs.Laws.{RunsWithin, within-runs}
 use Rattle.exchange.specs.Values.{Key}
 use Rattle.exchange.specs.Messages.Laws.{Secret}
 use Rattle.runs.specs.Messages.{message1, message3, message5}
+use Rattle.runs.specs.Points.{distinctPoints, DistinctPoints}
+use Rattle.runs.specs.Points.Laws.{distinct-points}
 use Rattle.runs.specs.Opening.{transcript, verdict}
 use Rattle.prover_phase.specs.declared.Phase.{Phase}
 use Rattle.prover_phase.specs.declared.Phase.the-variants.{Begun, Answered, Closed}
@@ -125,7 +127,7 @@ module _ (hash : List ℕ → ℕ → List ℕ) (p : Parameters) (runs : ℕ) (c
   held-stands phase m2 e = rw (e, heldX-is, within-test p (valid .within), within-runs runs counted, le-leb (weightOf x) (p .w) (valid .light))
 
   module _ (m2 : List ℕ) (size : length m2 ≡ messages2Length p runs) (work out : List ℕ) (hw : workLength p ≤ length work) where
-    pub proverPoints-is : length out ≡ messages3Length runs
+    pub proverPoints-is : DistinctPoints p runs m2 → length out ≡ messages3Length runs
         → prover.points hash (begunProver p runs x salt root) m2 key work out
         ≡ record {
           answer = 0;
@@ -134,12 +136,13 @@ module _ (hash : List ℕ → ℕ → List ℕ) (p : Parameters) (runs : ℕ) (c
           work = zeroed (workLength p) work;
         }
     unfolding prover.points prover.pointsChecks prover.closed prover.pointsDue prover.answered prover.heldX
-    proverPoints-is ho =
+    proverPoints-is distinct ho =
         rw (
           held-stands Begun (replicate mostMessages2 0) refl,
           eq-eqb (length m2) (messages2Length p runs) size,
           eq-eqb (length out) (messages3Length runs) ho,
           keyLengths-pass p key (valid .lent) work hw,
+          distinct-points p runs m2 distinct,
           heldX-is,
         )
 
@@ -191,14 +194,16 @@ module _ (p : Parameters) (within : Within p) (runs : ℕ) (counted : RunsWithin
   verifierBegin-is v m1 e = rw (within-test p within, within-runs runs counted, eq-eqb (length m1) (message1Length runs) e)
 
   module _ (m1 m2 m3 is : List ℕ) where
-    pub verifierPoints-is : length m2 ≡ messages2Length p runs
+    pub verifierPoints-is : length m2 ≡ messages2Length p runs → DistinctPoints p runs m2
         → verifier.points (verifier.begun p runs m1) m2 ≡ record { answer = 0; verifier = pointedVerifier p runs m1 m2 }
     unfolding verifier.points verifier.pointsChecks verifier.begun
-    verifierPoints-is e =
+    verifierPoints-is e distinct =
         rw (
-          due-passes (verifier.begun p runs m1) phase.Begun ((eqb (length m2) (messages2Length p runs), Length) ∷ []) within counted
+          due-passes (verifier.begun p runs m1) phase.Begun
+              ((eqb (length m2) (messages2Length p runs), Length) ∷ (distinctPoints p runs m2, SamePoint) ∷ []) within counted
               (below-zeros p runs mostRuns) refl refl refl,
           eq-eqb _ _ e,
+          distinct-points p runs m2 distinct,
         )
 
     pub verifierResponse-is : length m3 ≡ messages3Length runs

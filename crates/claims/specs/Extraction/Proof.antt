@@ -23,13 +23,15 @@ use Rattle.exchange.specs.Sequences.Laws.{those-none, none-those, those-first}
 use Rattle.exchange.specs.Values.{Key}
 use Rattle.exchange.specs.Extractor.{axis, output}
 use Rattle.runs.specs.Messages.{leafAt}
+use Rattle.runs.specs.Points.{DistinctPoints}
+use Rattle.runs.specs.Points.Laws.{distinct-points}
 use Rattle.runs.specs.Opening.{Transcript, exchangeAt}
 use Rattle.runs.specs.Opening.Laws.{accepted-when}
 use Rattle.runs.specs.Extractor.{compared, differs, lowestRun, outputs, stringAt, unequalAt, finding, extract}
 use Rattle.runs.specs.Extractor.Laws.{differs-when, differs-then, differs-not, lowest-run, none-then, first-then}
 use Rattle.runs.specs.Extractor.Output.{length-outputs, part-extracted, part-untouched}
 use Rattle.calls.specs.Lengths.Laws.{below-leaves}
-use Rattle.calls.specs.Extractor.{pair, filled, Outcome, extractLengths, sameStatement, earlyChecks, found, second, first, early, extraction}
+use Rattle.calls.specs.Extractor.{pair, filled, Outcome, extractLengths, bothDistinct, sameStatement, earlyChecks, found, second, first, early, extraction}
 use Rattle.claims.specs.Words.{Apart, Comparable, runPart, Same, Clash, States}
 use Rattle.claims.specs.Extraction.{Filled, Extracts}
 use Rattle.claims.specs.Extraction.Compared.{at-member, member-at, Equal, OneDigest, first-unequal}
@@ -47,7 +49,7 @@ not-equal a b n = go (eqList a b) refl
 module _ (hash : List ℕ → ℕ → List ℕ) (p : Parameters) (runs : ℕ) (key : Key) (t t′ : Transcript) (c : Comparable hash p runs key t t′) where
   module _ (work out : List ℕ) (work-length : workLength p ≤ length work) (out-length : length out ≡ outputsLength p runs) where
     checks-pass : earlyChecks hash p runs t t′ key work out ≡ Done
-    unfolding earlyChecks extractLengths sameStatement
+    unfolding earlyChecks extractLengths bothDistinct sameStatement
     checks-pass =
         simp (
           within-test p (c .within),
@@ -66,6 +68,8 @@ module _ (hash : List ℕ → ℕ → List ℕ) (p : Parameters) (runs : ℕ) (k
           eq-eqb _ _ (c .lent .y),
           le-leb _ _ work-length,
           eq-eqb _ _ out-length,
+          distinct-points p runs (t .message2) (c .distinct),
+          distinct-points p runs (t′ .message2) (subst (DistinctPoints p runs) (c .points-and-multipliers) (c .distinct)),
           below-leaves p (t .leaves) (λ e l. c .sent .below e (let k = c .sent .message4 in omega arith)),
           below-leaves p (t′ .leaves) (λ e l. c .sent′ .below e (let k = c .sent′ .message4 in omega arith)),
           eqList-of _ _ (c .salt-and-h),

@@ -1,5 +1,6 @@
 -- Each return has the answers of the steps before it (`Given.Laws`); the loop over the runs keeps what they give so far (`Loop`).
 use mathlib.Core.Path.{_≡_, sym, ap, ap₂, _∙_, subst, subst₂}
+use mathlib.Core.Bool.{Bool}
 use mathlib.Core.List.{List, _++_}
 use Prim.Native.Nat.{ℕ, _+_, _-_, _≤_, _<_}
 use native.Mathlib.Omega.{arith}
@@ -19,11 +20,12 @@ use Rattle.calls.specs.Extractor.{earlyChecks}
 use Rattle.openings.specs.Statement.{statementAt}
 use Rattle.extractor.specs.declared.best.Best.{Best}
 use Rattle.extractor.specs.declared.checks.Lengths.{Lengths}
+use Rattle.extractor.specs.declared.checks.Lent.{Lent}
 use Rattle.extractor.specs.declared.findings.Extraction.{Extraction}
 use Rattle.extractor.specs.declared.pairs.Pair.{Pair}
 use Rattle.extractor.specs.Best.{isDone}
 use Rattle.extractor.specs.Best.Laws.{first-more}
-use Rattle.extractor.specs.Early.{lengthsOf, earlyOf, early-is, Early, early-passed}
+use Rattle.extractor.specs.Early.{lentOf, earlyOf, early-is, Early, early-passed}
 use Rattle.extractor.specs.Given.{given}
 use Rattle.extractor.specs.Given.Laws.{refused-early, answered-first, answered, lowest-inside, filled}
 use Rattle.extractor.specs.Loop.{statement-asked, places, checked-at, asked-at, Loop, loop-starts, loop-turns, outputs-asked, lies, lies′}
@@ -70,10 +72,12 @@ early-answer : (c : tie.After-early-checks Inv-loop μ-loop) → c .early-checks
 early-answer c = let lent : tie.After-lent-lengths Inv-loop μ-loop = search in let second : tie.After-exchange-lengths2 Inv-loop μ-loop = search in
     let first : tie.After-exchange-lengths Inv-loop μ-loop = search in let s = start (same c) in
     c .early-checks .ensures
-    ∙ ap₂ (λ (a b : Lengths). earlyOf (s .args .p) (s .args .runs) a (s .args .first4 .now) b (s .args .second4 .now) (lent .lent-lengths .result) (same c .same-statement .result))
-    (first .exchange-lengths .ensures) (second .exchange-lengths2 .ensures)
-    ∙ ap₂ (earlyOf (s .args .p) (s .args .runs) (lengthsOf (first-of s)) (s .args .first4 .now) (lengthsOf (second-of s)) (s .args .second4 .now))
-    (lent .lent-lengths .ensures) (same c .same-statement .ensures)
+    ∙ ap₂ (λ (l : Lent) (b : Bool). earlyOf (s .args .p) (s .args .runs) l (s .args .first2 .now) (s .args .first4 .now) (s .args .second2 .now)
+    (s .args .second4 .now) b)
+    (lent .lent-lengths .ensures
+    ∙ ap₂ (λ (a b : Lengths). lentOf a b (key-of s) (s .args .work .now) (s .args .out .now)) (first .exchange-lengths .ensures)
+    (second .exchange-lengths2 .ensures))
+    (same c .same-statement .ensures)
     ∙ early-is SHAKE256 (s .args .p) (s .args .runs) (first-of s) (second-of s) (key-of s) (s .args .work .now) (s .args .out .now)
 
 abbrev checks : tie.After-enum-told Inv-loop μ-loop → tie.After-early-checks Inv-loop μ-loop

@@ -33,6 +33,7 @@ use Rattle.runs.specs.Messages.{message2At, leafAt, message1, message5}
 use Rattle.runs.specs.Messages.Laws.{length-message1, length-message3, length-message5}
 use Rattle.runs.specs.Opening.{Accepted}
 use Rattle.claims.specs.Words.{Sent}
+use Rattle.claims.specs.Completeness.Sample.{one-position}
 use Rattle.claims.specs.Weight.{Pair, InBytes, In, Meets, MeetsTwice, Under}
 use Rattle.test_standin.specs.StandIn.{standIn}
 use Rattle.test_standin.specs.Definitions.{definitions}
@@ -103,6 +104,7 @@ module _ (d : ℕ) (axes : Axes d) where
         sent′ = sent i′ u′ hi′ hu′;
         salt-and-h = refl;
         points-and-multipliers = refl;
+        distinct = one-position (p d) refl 2 (messages2 r ε);
         response = refl;
         hidden = n;
         accepted = accepted i u hi hu;

@@ -33,6 +33,9 @@ pub(super) const DAMAGE: usize = 4;
 /// How often a call takes something else than what fits the exchange: once in so many.
 pub(super) const STRAY: usize = 8;
 
+/// How often points are made to repeat, beside all other damage: once in so many.
+pub(super) const REPEAT: usize = 4;
+
 /// A leaf below n, the last one often.
 fn random_leaf(random: &mut Random, parameters: &Parameters) -> u8 {
     match random.below(8) {

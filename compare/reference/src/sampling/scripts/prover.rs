@@ -1,12 +1,12 @@
 //! Scripts of a prover's session.
 
-use super::{damage_leaves, fitting_lent, pool_of_keys, random_leaves, resize_lent, Size, DAMAGE, STRAY};
+use super::{damage_leaves, fitting_lent, pool_of_keys, random_leaves, resize_lent, Size, DAMAGE, REPEAT, STRAY};
 use crate::numbers::CARRIED_OUT;
 use crate::parameters::Parameters;
 use crate::prover::Prover;
 use crate::runs::GREATEST_RUNS;
 use crate::sampling::calls::{LentBytes, ProverCall, ProverInput};
-use crate::sampling::damage::resize;
+use crate::sampling::damage::{damage_points, resize};
 use crate::sampling::exchanges::random_message_2;
 use crate::sampling::keys::Key;
 use crate::sampling::parameter_sets::{outside_runs, outside_set, random_runs};
@@ -33,12 +33,21 @@ impl ProverScript<'_> {
         ProverInput::Begin { parameters: key.parameters, runs, x_a: key.x_a.clone(), salt, root }
     }
 
+    /// A message 2 that fits the session, now and then with repeated points.
+    fn points(&mut self, set: &Parameters) -> ProverInput {
+        let mut message_2 = random_message_2(self.random, set, self.runs);
+        if self.random.once_in(REPEAT) {
+            damage_points(self.random, set, &mut message_2);
+        }
+        ProverInput::Points { message_2 }
+    }
+
     /// The call's own arguments and the length of its output.
     fn input(&mut self, kind: usize, key: &Key) -> (ProverInput, usize) {
         let set = self.key.parameters;
         let input = match kind {
             0 => self.begin(key),
-            1 => ProverInput::Points { message_2: random_message_2(self.random, &set, self.runs) },
+            1 => self.points(&set),
             _ => ProverInput::Leaf { leaves: random_leaves(self.random, &set, self.runs) },
         };
         let length = match &input {

@@ -1,11 +1,11 @@
 //! Scripts of a verifier's session.
 
 use super::{
-    damage_leaves, fitting_lent, pool_of_keys, random_exchange, random_leaves, resize_lent, Size, DAMAGE, STRAY,
+    damage_leaves, fitting_lent, pool_of_keys, random_exchange, random_leaves, resize_lent, Size, DAMAGE, REPEAT, STRAY,
 };
 use crate::numbers::CARRIED_OUT;
 use crate::sampling::calls::VerifierCall;
-use crate::sampling::damage::{flip_bit, resize};
+use crate::sampling::damage::{damage_points, flip_bit, resize};
 use crate::sampling::exchanges::Exchange;
 use crate::sampling::keys::Key;
 use crate::sampling::parameter_sets::{outside_runs, outside_set, random_runs};
@@ -33,11 +33,19 @@ impl VerifierScript<'_> {
                 let (runs, message_1) = (exchange.runs(), exchange.message_1);
                 VerifierCall::Begin { parameters: key.parameters, runs, message_1 }
             }
-            1 => VerifierCall::Points { message_2: exchange.message_2 },
+            1 => self.points(&key, exchange.message_2),
             2 => VerifierCall::Response { message_3: exchange.message_3 },
             3 => VerifierCall::Leaf { leaves: exchange.leaves },
             _ => VerifierCall::Opening { message_5: exchange.message_5, lent: fitting_lent(self.random, &key) },
         }
+    }
+
+    /// Points with a message 2, now and then with repeated points.
+    fn points(&mut self, key: &Key, mut message_2: Vec<u8>) -> VerifierCall {
+        if self.random.once_in(REPEAT) {
+            damage_points(self.random, &key.parameters, &mut message_2);
+        }
+        VerifierCall::Points { message_2 }
     }
 
     /// Changes a bit, which only the opening tells, or the leaves.

@@ -23,7 +23,7 @@ module _ (hash : List ℕ → ℕ → List ℕ) where
   unfolding after made fresh lastBegin pointsSince responseSince leafSince openedSince since
   reached [] = record {
     stage = unbegun;
-    passed = record { limits = refl; sized1 = refl; sized2 = refl; sized3 = refl; sized4 = refl; below = refl };
+    passed = record { limits = refl; sized1 = refl; sized2 = refl; distinct = refl; sized3 = refl; sized4 = refl; below = refl };
     tells = refl;
     session-at = refl;
   }

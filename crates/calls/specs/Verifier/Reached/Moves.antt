@@ -30,6 +30,7 @@ use Rattle.layout.specs.Maxima.{mostRuns, mostMessage1, mostMessages2, mostMess
 use Rattle.layout.specs.Runs.{runsWithin, message1Length, messages2Length, messages3Length}
 use Rattle.layout.specs.Layout.Laws.{leaves-pos}
 use Rattle.exchange.specs.Values.{Key}
+use Rattle.runs.specs.Points.{distinctPoints}
 use Rattle.runs.specs.Opening.{Transcript, transcript, verdict}
 use Rattle.calls.specs.Held.{isSome}
 use Rattle.calls.specs.Lengths.{openingLengths, leavesBelow}
@@ -163,7 +164,7 @@ module _ (hash : List ℕ → ℕ → List ℕ) where
       go : (x y : Bool) → (withinLimits (b .parameters) && runsWithin (b .runs)) ≡ x → eqb (length (b .message1)) (message1Length (b .runs)) ≡ y
           → Moves st (beginCall b)
       go true true p q =
-          takes (atBegin b) (record { limits = p; sized1 = q; sized2 = refl; sized3 = refl; sized4 = refl; below = refl }) refl
+          takes (atBegin b) (record { limits = p; sized1 = q; sized2 = refl; distinct = refl; sized3 = refl; sized4 = refl; below = refl }) refl
           (rw (p, q)) refl (rw (p, q))
       go true false p q = refuses 2 k refl (rw (p, q)) (rw (p, q))
       go false y p q = refuses 1 k refl (rw p) (rw p)
@@ -173,13 +174,17 @@ module _ (hash : List ℕ → ℕ → List ℕ) where
   points-moves : (st : Stage) → Passed (at st) → (m2 : List ℕ) → Moves st (pointsCall m2)
   unfolding outcome verifier.points verifier.pointsChecks verifier.pointed closed due fresh historyAt conditions answerOf firstOf holds counted
   points-moves unbegun k m2 = refuses 11 k refl (rw (standing-at unbegun k)) refl
-  points-moves (atBegin b) k m2 = go (eqb (length m2) (messages2Length (b .parameters) (b .runs))) refl
+  points-moves (atBegin b) k m2 =
+      go (eqb (length m2) (messages2Length (b .parameters) (b .runs))) (distinctPoints (b .parameters) (b .runs) m2) refl refl
     where
-      go : (x : Bool) → eqb (length m2) (messages2Length (b .parameters) (b .runs)) ≡ x → Moves (atBegin b) (pointsCall m2)
-      go true p =
-          takes (atPoints b m2) (record { limits = k .limits; sized1 = k .sized1; sized2 = p; sized3 = refl; sized4 = refl; below = refl }) refl
-          (rw (standing-at (atBegin b) k, p)) refl (rw p)
-      go false p = refuses 2 k refl (rw (standing-at (atBegin b) k, p)) (rw p)
+      go : (x y : Bool) → eqb (length m2) (messages2Length (b .parameters) (b .runs)) ≡ x → distinctPoints (b .parameters) (b .runs) m2 ≡ y
+          → Moves (atBegin b) (pointsCall m2)
+      go true true p q =
+          takes (atPoints b m2)
+          (record { limits = k .limits; sized1 = k .sized1; sized2 = p; distinct = q; sized3 = refl; sized4 = refl; below = refl }) refl
+          (rw (standing-at (atBegin b) k, p, q)) refl (rw (p, q))
+      go true false p q = refuses 14 k refl (rw (standing-at (atBegin b) k, p, q)) (rw (p, q))
+      go false y p q = refuses 2 k refl (rw (standing-at (atBegin b) k, p)) (rw p)
   points-moves (atPoints b m2′) k m2 = refuses 11 k refl (rw (standing-at (atPoints b m2′) k)) refl
   points-moves (atResponse b m2′ m3) k m2 = refuses 11 k refl (rw (standing-at (atResponse b m2′ m3) k)) refl
   points-moves (atLeaf b m2′ m3 is) k m2 = refuses 11 k refl (rw (standing-at (atLeaf b m2′ m3 is) k)) refl
@@ -195,7 +200,7 @@ module _ (hash : List ℕ → ℕ → List ℕ) where
     where
       go : (x : Bool) → eqb (length m3) (messages3Length (b .runs)) ≡ x → Moves (atPoints b m2) (responseCall m3)
       go true p =
-          takes (atResponse b m2 m3) (record { limits = k .limits; sized1 = k .sized1; sized2 = k .sized2; sized3 = p; sized4 = refl; below = refl }) refl
+          takes (atResponse b m2 m3) (record { limits = k .limits; sized1 = k .sized1; sized2 = k .sized2; distinct = k .distinct; sized3 = p; sized4 = refl; below = refl }) refl
           (rw (standing-at (atPoints b m2) k, p)) refl (rw p)
       go false p = refuses 2 k refl (rw (standing-at (atPoints b m2) k, p)) (rw p)
   response-moves (atResponse b m2 m3′) k m3 = refuses 11 k refl (rw (standing-at (atResponse b m2 m3′) k)) refl
@@ -214,7 +219,7 @@ module _ (hash : List ℕ → ℕ → List ℕ) where
       go : (x y : Bool) → eqb (length is) (b .runs) ≡ x → leavesBelow (b .parameters) is ≡ y → Moves (atResponse b m2 m3) (leafCall is)
       go true true p q =
           takes (atLeaf b m2 m3 is)
-          (record { limits = k .limits; sized1 = k .sized1; sized2 = k .sized2; sized3 = k .sized3; sized4 = p; below = q }) refl
+          (record { limits = k .limits; sized1 = k .sized1; sized2 = k .sized2; distinct = k .distinct; sized3 = k .sized3; sized4 = p; below = q }) refl
           (rw (standing-at (atResponse b m2 m3) k, p, q)) refl (rw (p, q))
       go true false p q = refuses 4 k refl (rw (standing-at (atResponse b m2 m3) k, p, q)) (rw (p, q))
       go false y p q = refuses 2 k refl (rw (standing-at (atResponse b m2 m3) k, p)) (rw p)
@@ -275,7 +280,7 @@ module _ (hash : List ℕ → ℕ → List ℕ) where
       unfolding expected area historyAt
       judges n j o e = record {
         to = there;
-        passed = record { limits = k .limits; sized1 = k .sized1; sized2 = k .sized2; sized3 = k .sized3; sized4 = k .sized4; below = k .below };
+        passed = record { limits = k .limits; sized1 = k .sized1; sized2 = k .sized2; distinct = k .distinct; sized3 = k .sized3; sized4 = k .sized4; below = k .below };
         session-to = ap (λ (r : Called). r .verifier) o;
         tells = ap (λ (r : Called). next (record { call = call; number = r .answer }) (at here)) o ∙ judged-next n j;
         gives = ap seen o ∙ rw (e, j);
