@@ -19,7 +19,7 @@ use lib.ListN.{length, getD}
 use Rattle.lists.specs.Part.{part}
 use Rattle.lists.specs.Equal.{eqList}
 use Rattle.lists.specs.Checks.{allTrue}
-use Rattle.lists.specs.Checks.Laws.{and-left, and-right}
+use Rattle.lists.specs.Checks.Laws.{and-left, and-right, not-so}
 use Rattle.tower.specs.Field.{point, bytesOf}
 use Rattle.tower.specs.Field.Laws.{bytesOf-point}
 use Rattle.shake256.specs.Fips.{SHAKE256}
@@ -69,16 +69,12 @@ same-test true false h k = sym (h refl)
 same-test false true h k = k refl
 same-test false false h k = refl
 
-is-false : (b : Bool) → (b ≡ true → ⊥) → b ≡ false
-is-false true h = absurd (h refl)
-is-false false h = refl
-
 module _ (p : Parameters) (n : ℕ) (m2 : List ℕ) where
   not-distinct : distinctPoints p n m2 ≡ false → DistinctPoints p n m2 → ⊥
   not-distinct e d = false≢true (sym e ∙ distinct-points p n m2 d)
 
   test-fails : (DistinctPoints p n m2 → ⊥) → distinctPoints p n m2 ≡ false
-  test-fails h = is-false (distinctPoints p n m2) (λ e. h (points-distinct p n m2 e))
+  test-fails h = sym (not-so (distinctPoints p n m2) (λ e. h (points-distinct p n m2 e)))
 
   agreeing : (m2′ : List ℕ) → ((e l : ℕ) → e < n → l < p .t → pointBytes (message2At p m2 e) l ≡ pointBytes (message2At p m2′ e) l)
       → distinctPoints p n m2 ≡ true → distinctPoints p n m2′ ≡ true
@@ -238,7 +234,7 @@ module _ (hash : List ℕ → ℕ → List ℕ) (p : Parameters) (runs : ℕ) (t
         within-test p (r .within),
         within-runs runs (r .counted),
         r .lengths-right,
-        is-false both (λ b. r .not-both-distinct (both-then p runs (t .message2) (t′ .message2) b)),
+        sym (not-so both (λ b. r .not-both-distinct (both-then p runs (t .message2) (t′ .message2) b))),
       )
 
 -- ---- accepted openings

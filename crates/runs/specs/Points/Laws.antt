@@ -14,7 +14,7 @@ use native.Mathlib.Numerals.{add-one}
 use native.Mathlib.Decide.{decLt, ℕ-discrete}
 use native.Mathlib.Omega.{arith}
 use Rattle.lists.specs.Checks.{allTrue}
-use Rattle.lists.specs.Checks.Laws.{and-left, and-right}
+use Rattle.lists.specs.Checks.Laws.{and-left, and-right, not-so}
 use Rattle.lists.specs.Equal.{eqList}
 use Rattle.lists.specs.Equal.Laws.{eqList-true, eqList-of}
 use Rattle.parameters.specs.declared.Parameters.{Parameters}
@@ -49,11 +49,7 @@ module _ (f : ℕ → Bool) where
       go (no q) ih = ih (omega arith)
 
   pub some-fails : (n i : ℕ) → i < n → f i ≡ false → allTrue (listed f n) ≡ false
-  some-fails n i l e = go (allTrue (listed f n)) refl
-    where
-      go : (b : Bool) → allTrue (listed f n) ≡ b → b ≡ false
-      go true q = absurd (false≢true (sym e ∙ listed-all n q i l))
-      go false q = refl
+  some-fails n i l e = sym (not-so (allTrue (listed f n)) (λ q. false≢true (sym e ∙ listed-all n q i l)))
 
   pub all-none : allTrue (listed f 0) ≡ true
   unfolding listed
