@@ -17,7 +17,7 @@ core code     level, bytes of code and constants, bytes of variables
 """
 import sys
 
-CALLS = ["begin", "points", "leaf", "opening", "extract", "verifier begin"]
+CALLS = ["begin", "points", "leaf", "opening", "extract"]
 HEAD = ["call", "time to C", "instructions", "outside permutation", "permutations", "products", "stack"]
 CORE_HEAD = ["call", "instructions", "painted stack", "stack bound", "estimated cycles", "ms at 120 MHz"]
 FUNCTIONS = {
@@ -26,7 +26,6 @@ FUNCTIONS = {
     "leaf": "unlock_prover_leaf",
     "opening": "unlock_verifier_opening",
     "extract": "unlock_extract",
-    "verifier begin": "unlock_verifier_begin",
 }
 CYCLES_A_MS = 120_000
 
@@ -42,10 +41,9 @@ def number(word):
 
 
 def call_row(call, figures):
-    (total, inside, times), (stack,) = (figures[kind, call] for kind in ("instructions", "stack"))
-    (time,), (products,) = figures.get(("time", call), ["-"]), figures.get(("products", call), ["0"])
+    time, (total, inside, times), products, stack = (figures[kind, call] for kind in ("time", "instructions", "products", "stack"))
     outside = 100 * (int(total) - int(inside)) / int(inside)
-    return [call, time, number(total), f"{outside:.1f} %", number(times), number(products), number(stack)]
+    return [call, time[0], number(total), f"{outside:.1f} %", number(times), number(products[0]), number(stack[0])]
 
 
 def core_row(call, figures, bounds):

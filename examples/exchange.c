@@ -91,8 +91,7 @@ static uint8_t commitment(void)
                             matrix, sizeof matrix, y, sizeof y, work, sizeof work, message1, sizeof message1));
     report("1 commitment", message1, sizeof message1);
     TRY(unlock_verifier_new(verifier, sizeof verifier));
-    return unlock_verifier_begin(verifier, sizeof verifier, set, UNLOCK_SET_LENGTH, RUNS, message1, sizeof message1,
-                                 matrix, sizeof matrix, y, sizeof y);
+    return unlock_verifier_begin(verifier, sizeof verifier, set, UNLOCK_SET_LENGTH, RUNS, message1, sizeof message1);
 }
 
 /* Messages 2 and 3: the target asks for the values at its points, the probe answers with a digest. The points of a run have to
@@ -128,20 +127,8 @@ static void wipe(volatile uint8_t *bytes, size_t length)
     while (length > 0) bytes[--length] = 0;
 }
 
-/* What both sessions hold of set, matrix and y: probe and target can tell by it whether they have the same key. */
-static uint8_t key(void)
-{
-    uint8_t digest[32];
-    TRY(unlock_key_digest(set, UNLOCK_SET_LENGTH, matrix, sizeof matrix, y, sizeof y, digest, sizeof digest));
-    print("key digest\t");
-    print_bytes(digest, sizeof digest);
-    print("\n");
-    return UNLOCK_DONE;
-}
-
 static uint8_t exchange(void)
 {
-    TRY(key());
     TRY(commitment());
     TRY(response());
     return opening();

@@ -10,8 +10,7 @@
  * another length gives UNLOCK_LENGTH. A refused call leaves the buffer as it was; of the verifier's opening, UNLOCK_COMMITMENT and
  * UNLOCK_RESPONSE close the exchange. Any bytes are some session, and a damaged one is closed: it answers UNLOCK_CLOSED to every
  * call but begin where its phase is none, or where it was begun and its parameters or its run count are outside their limits, its x
- * is too heavy or a leaf of its runs not below n. Its salt and root still give UNLOCK_REPEATED. A key digest that is damaged shows
- * as UNLOCK_OTHER_KEY.
+ * is too heavy or a leaf of its runs not below n. Its salt and root still give UNLOCK_REPEATED.
  *
  * Wiping. A prover's session holds the secret x and root: overwrite the buffer when the exchange is over. Bytes that are all 00 or
  * all ff read as a closed session; unlock_prover_new makes it fresh again. Salt and root, which UNLOCK_REPEATED goes by, go with it.
@@ -31,16 +30,11 @@
  * and unlock_extract give UNLOCK_SAME_POINT otherwise. Multipliers may repeat and may equal points, and points of different runs may
  * be equal.
  *
- * Key. Both begins take the matrix and y, and both sessions hold a digest of set, matrix and y, which enters every h: without it one
- * commitment suited two public keys. unlock_prover_points, unlock_prover_leaf and unlock_verifier_opening give UNLOCK_OTHER_KEY for
- * a matrix or y with another digest. This changes nothing, and the call can be made again with the right ones, any number of times.
- * An opening that was made under another key is judged UNLOCK_COMMITMENT.
- *
- * Lengths. x_a k, salt 32, root 16, matrix (m - k) k, row after row, y m - k, key digest 32. Message 1 is the salt and a digest of
- * 32 bytes a run, message 2 for one run after another t points, then t multipliers, four bytes each, message 3 a digest of 32 bytes
- * a run, message 4 a leaf of one byte a run, message 5 has unlock_opening_size() bytes. The work area has unlock_work_size() bytes
- * or more, whatever the run count; past all checks that length of it ends as zeros. A refused call writes no output. The macros give
- * the same lengths as constants, for static arrays; their parameters have to be within their limits.
+ * Lengths. x_a k, salt 32, root 16, matrix (m - k) k, row after row, y m - k. Message 1 is the salt and a digest of 32 bytes a run,
+ * message 2 for one run after another t points, then t multipliers, four bytes each, message 3 a digest of 32 bytes a run, message 4
+ * a leaf of one byte a run, message 5 has unlock_opening_size() bytes. The work area has unlock_work_size() bytes or more, whatever
+ * the run count; past all checks that length of it ends as zeros. A refused call writes no output. The macros give the same lengths
+ * as constants, for static arrays; their parameters have to be within their limits.
  */
 #ifndef UNLOCK_H
 #define UNLOCK_H
@@ -52,8 +46,8 @@ extern "C" {
 #endif
 
 /*
- * What a call answers. A call that several refusals would fit gives the first of 12, 11, 1, 2, 14, 15, 3, 4, 13, 8, 9, 5, 7. Without
- * a session 12 and 11 cannot be told: a session buffer of wrong length gives 2 before them, but at begin 1 before 2. Without a set 1
+ * What a call answers. A call that several refusals would fit gives the first of 12, 11, 1, 2, 14, 3, 4, 13, 8, 9, 5, 7. Without a
+ * session 12 and 11 cannot be told: a session buffer of wrong length gives 2 before them, but at begin 1 before 2. Without a set 1
  * cannot be told: a set of wrong length gives 2 before it. No call answers 6, nor 10, which is the programs'.
  */
 enum {
@@ -70,8 +64,7 @@ enum {
     UNLOCK_NOT_DUE = 11,    /* the call is not due */
     UNLOCK_CLOSED = 12,     /* the exchange is closed, only begin is due */
     UNLOCK_REPEATED = 13,   /* salt and root both equal those of the exchange held */
-    UNLOCK_SAME_POINT = 14, /* two points of one run are equal */
-    UNLOCK_OTHER_KEY = 15   /* matrix or y is not that of the exchange held */
+    UNLOCK_SAME_POINT = 14  /* two points of one run are equal */
 };
 
 /* ---- lengths */
@@ -83,8 +76,8 @@ enum {
 #define UNLOCK_RUNS_MAX 32
 
 /* The bytes of a session, for any set and run count. */
-#define UNLOCK_PROVER_SIZE 2390
-#define UNLOCK_VERIFIER_SIZE 4199
+#define UNLOCK_PROVER_SIZE 2358
+#define UNLOCK_VERIFIER_SIZE 4167
 uint64_t unlock_prover_size(void);
 uint64_t unlock_verifier_size(void);
 
@@ -107,14 +100,6 @@ uint64_t unlock_opening_size(const uint64_t *set, uint64_t set_length, const uin
 #define UNLOCK_EXTRACT_SIZE(k, w, D, t, runs) ((runs) * ((32 << (D)) + (k) + 2 * (w) + 4 * (t)))
 uint64_t unlock_extract_size(const uint64_t *set, uint64_t set_length, uint64_t runs);
 
-/* ---- key */
-
-/* The key digest that a session under this key holds: fills out. A refused call leaves it. */
-uint8_t unlock_key_digest(const uint64_t *set, uint64_t set_length,
-                          const uint8_t *matrix, uint64_t matrix_length,
-                          const uint8_t *y, uint64_t y_length,
-                          uint8_t *out, uint64_t out_length);
-
 /* ---- prover */
 
 /* A fresh session, before its first begin. */
@@ -132,8 +117,7 @@ uint8_t unlock_prover_begin(uint8_t *session, uint64_t session_length,
                             uint8_t *work, uint64_t work_length,
                             uint8_t *out, uint64_t out_length);
 
-/* Takes message 2 and gives message 3. UNLOCK_SAME_POINT where two points of one run are equal, UNLOCK_OTHER_KEY for another matrix
-   or y than at begin. */
+/* Takes message 2 and gives message 3. UNLOCK_SAME_POINT where two points of one run are equal. */
 uint8_t unlock_prover_points(uint8_t *session, uint64_t session_length,
                              const uint8_t *message2, uint64_t message2_length,
                              const uint8_t *matrix, uint64_t matrix_length,
@@ -141,7 +125,7 @@ uint8_t unlock_prover_points(uint8_t *session, uint64_t session_length,
                              uint8_t *work, uint64_t work_length,
                              uint8_t *out, uint64_t out_length);
 
-/* Takes message 4, the leaf of each run that stays hidden, gives message 5 and closes the exchange. UNLOCK_OTHER_KEY as above. */
+/* Takes message 4, the leaf of each run that stays hidden, gives message 5 and closes the exchange. */
 uint8_t unlock_prover_leaf(uint8_t *session, uint64_t session_length,
                            const uint8_t *leaves, uint64_t leaves_length,
                            const uint8_t *matrix, uint64_t matrix_length,
@@ -154,14 +138,11 @@ uint8_t unlock_prover_leaf(uint8_t *session, uint64_t session_length,
 /* A fresh session, before its first begin. */
 uint8_t unlock_verifier_new(uint8_t *session, uint64_t session_length);
 
-/* Begins an exchange with its parameters, its run count, message 1 and the key that the opening is to be judged by, dropping the one
-   held. */
+/* Begins an exchange with its parameters, its run count and message 1, dropping the one held. */
 uint8_t unlock_verifier_begin(uint8_t *session, uint64_t session_length,
                               const uint64_t *set, uint64_t set_length,
                               uint64_t runs,
-                              const uint8_t *message1, uint64_t message1_length,
-                              const uint8_t *matrix, uint64_t matrix_length,
-                              const uint8_t *y, uint64_t y_length);
+                              const uint8_t *message1, uint64_t message1_length);
 
 /* Takes message 2, which the verifier sends: points and multipliers have to be random. UNLOCK_SAME_POINT where two points of one run
    are equal: draw them again and repeat the call, before message 2 is sent. */
@@ -177,7 +158,7 @@ uint8_t unlock_verifier_leaf(uint8_t *session, uint64_t session_length,
                              const uint8_t *leaves, uint64_t leaves_length);
 
 /* Judges message 5, run after run, and closes the exchange: UNLOCK_DONE where all runs are accepted, else the number of the lowest
-   that is refused. UNLOCK_OTHER_KEY, which judges nothing, for another matrix or y than at begin. */
+   that is refused. */
 uint8_t unlock_verifier_opening(uint8_t *session, uint64_t session_length,
                                 const uint8_t *message5, uint64_t message5_length,
                                 const uint8_t *matrix, uint64_t matrix_length,

@@ -51,26 +51,21 @@ static void print_sizes(void) {
         printf("size\t%s\t%s\t%" PRIu64 "\n", set_words, lent_size(i).name, lent_size(i).bytes);
 }
 
-static void make_call(const struct call *call, const char *measured) {
-    if (!strcmp(measured, "stack")) use_of_stack(call);
-    else if (!strcmp(measured, call->name)) counted(call->make);
-    else call->make();
-    expect(call->name, answer, call->expected);
-}
-
 static void make_calls(const char *measured) {
     for (int i = 0; i < CALLS; i++) {
         expect("what comes before", prepare_call(i), 0);
-        make_call(&calls[i], measured);
+        if (!strcmp(measured, "stack")) use_of_stack(&calls[i]);
+        else if (!strcmp(measured, calls[i].name)) counted(calls[i].make);
+        else calls[i].make();
+        expect(calls[i].name, answer, calls[i].expected);
     }
-    make_call(&verifier_begin, measured);
 }
 
 int main(int words, char **word) {
     uint64_t numbers[UNLOCK_SET_LENGTH + 1]; /* of the set, then the run count */
     const char *measured = word[words - 1];
     if (words != UNLOCK_SET_LENGTH + 3) {
-        fprintf(stderr, "usage: calls M K W D T RUNS begin|points|leaf|opening|extract|'verifier begin'|stack|sizes\n");
+        fprintf(stderr, "usage: calls M K W D T RUNS begin|points|leaf|opening|extract|stack|sizes\n");
         return 2;
     }
     for (int i = 0; i <= UNLOCK_SET_LENGTH; i++) {

@@ -63,7 +63,7 @@ void prepare_exchange(const uint64_t *numbers, uint64_t runs, const char *varian
     draw("salt", exchange.salt, sizeof exchange.salt);
     draw("root", exchange.root, sizeof exchange.root);
     draw("points", MESSAGE2);
-    answer = unlock_prover_new(prover, sizeof prover) | unlock_verifier_new(verifier, sizeof verifier);
+    answer = unlock_prover_new(prover, sizeof prover);
 }
 
 static uint64_t opening_size(int which) { return unlock_opening_size(SET, LEAVES(which)); }
@@ -98,16 +98,10 @@ const struct call calls[CALLS] = {
     { "begin", begin, 0 }, { "points", points, 0 }, { "leaf", open_first, 0 }, { "opening", judge, 0 }, { "extract", extract, 257 },
 };
 
-static void begin_verifier(void)
-{
-    answer = unlock_verifier_begin(verifier, sizeof verifier, SET, exchange.runs, MESSAGE1, KEY);
-}
-const struct call verifier_begin = { "verifier begin", begin_verifier, 0 };
-
 static uint32_t open_verifier(void)
 {
-    begin_verifier();
-    uint32_t answers = answer;
+    uint32_t answers = unlock_verifier_new(verifier, sizeof verifier);
+    answers |= unlock_verifier_begin(verifier, sizeof verifier, SET, exchange.runs, MESSAGE1);
     answers |= unlock_verifier_points(verifier, sizeof verifier, MESSAGE2);
     answers |= unlock_verifier_response(verifier, sizeof verifier, MESSAGE3);
     return answers | unlock_verifier_leaf(verifier, sizeof verifier, LEAVES(0));

@@ -34,9 +34,6 @@ struct call {
 /* begin, points, leaf, opening, extract: to be made in this order, each after its prepare_call. */
 extern const struct call calls[CALLS];
 
-/* The verifier's begin, to be made after the prover's. */
-extern const struct call verifier_begin;
-
 /* What the last call answered. */
 extern uint32_t answer;
 

@@ -36,7 +36,7 @@ static uint32_t compare(const struct set *set, const struct opening *first, cons
     if (memcmp(first->response.digests, second->response.digests, PREFIX + DIGEST * set->D)) return unequal(7, 0);
     unsigned axis = unequal_axis(set, first, second);
     if (axis) return unequal(6, axis);
-    if (memcmp(first->commitments, second->commitments, COMMITMENTS + DIGEST * leaves(set))) return unequal(5, 0);
+    if (memcmp(first->commitments, second->commitments, PREFIX + DIGEST * leaves(set))) return unequal(5, 0);
     unsigned leaf = unequal_leaf(set, first, second);
     return leaf < leaves(set) ? unequal(4, leaf) : 0;
 }
@@ -71,10 +71,8 @@ static void put_states(const struct set *set, const struct opening *one, const s
 uint32_t opponent_extract(const struct opponent_verifier *first, const uint8_t *first5, const struct opponent_verifier *second,
                           const uint8_t *second5, const struct key *key, uint8_t *out)
 {
-    uint8_t digest[DIGEST];
-    opponent_digest(&first->set, key, digest);
-    uint32_t answer = check_opening(first, first5, key, digest, ones, 1);
-    if (answer == 0) answer = check_opening(second, second5, key, digest, others, 1);
+    uint32_t answer = check_opening(first, first5, key, ones, 1);
+    if (answer == 0) answer = check_opening(second, second5, key, others, 1);
     if (answer == 0) answer = compare_runs(first, second);
     if (answer) return answer;
     for (unsigned run = first->runs; run-- > 0;) {

@@ -3,21 +3,6 @@
 #include <string.h>
 
 #include "field.h"
-#include "strings.h"
-
-void opponent_digest(const struct set *set, const struct key *key, uint8_t digest[32])
-{
-    const uint8_t numbers[5] = { (uint8_t)set->m, (uint8_t)set->k, (uint8_t)set->w, (uint8_t)set->D, (uint8_t)set->t };
-    unsigned rows = set->m - set->k;
-    hash_key(numbers, key->matrix, rows * set->k, key->y, rows, digest);
-}
-
-int other_key(const struct set *set, const struct key *key, const uint8_t held[32])
-{
-    uint8_t digest[32];
-    opponent_digest(set, key, digest);
-    return memcmp(digest, held, 32) != 0;
-}
 
 /* Entries first to first + width - 1 of x_A times their columns of the matrix. */
 static inline void add_block(const struct set *set, const uint8_t *matrix, const uint8_t *x_a, unsigned first, unsigned width,

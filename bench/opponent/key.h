@@ -1,11 +1,8 @@
-/* What the sessions hold of a key: its digest, and the prover x, Q and P (document 01, Key and polynomials). */
+/* What the prover holds (document 01, Key and polynomials): x, Q and P. */
 #ifndef OPPONENT_KEY_H
 #define OPPONENT_KEY_H
 
 #include "layout.h"
-
-/* Whether the key's digest is another than the one held. */
-int other_key(const struct set *set, const struct key *key, const uint8_t held[32]);
 
 /* x_A followed by H' x_A. */
 void image(const struct set *set, const uint8_t *matrix, const uint8_t *x_a, uint8_t *x);

@@ -12,15 +12,14 @@ static const uint8_t *aux_in(const struct set *set, const uint8_t *message5) { r
 /* What a run's opening is held to. */
 struct statement {
     const struct set *set;
-    const uint8_t *digest, *salt, *h, *message2, *response;
+    const uint8_t *salt, *h, *message2, *response;
     unsigned run, leaf;
 };
 
-static struct statement statement_of(const struct opponent_verifier *verifier, const uint8_t *digest, unsigned run)
+static struct statement statement_of(const struct opponent_verifier *verifier, unsigned run)
 {
     struct statement statement = {
         .set = &verifier->set,
-        .digest = digest,
         .salt = verifier->message1,
         .h = verifier->message1 + 32 + DIGEST * run,
         .message2 = verifier->message2 + 8 * verifier->set.t * run,
@@ -39,14 +38,15 @@ static void recompute_leaves(const struct statement *statement, const uint8_t *m
     pass->apart = statement->leaf;
     pass->aux = statement->leaf == last_leaf(set) ? 0 : aux_in(set, message5);
     pass->parties = opening->parties;
-    pass->commitments = opening->commitments + COMMITMENTS;
+    pass->commitments = opening->commitments + PREFIX;
     pass->siblings = 0;
     pass->share = 0;
     salt_strings(&pass->salted, statement->salt, statement->run);
     memset(opening->parties, 0, sizeof opening->parties);
     pass_siblings(pass, message5, opening->sum);
     memcpy(pass->commitments + DIGEST * statement->leaf, commitment_in(set, message5), DIGEST);
-    hash_commitments(&pass->salted, statement->digest, opening->commitments, leaves(set), h);
+    put_prefix(opening->commitments, 5, &pass->salted);
+    hash_string(opening->commitments, PREFIX + DIGEST * leaves(set), h);
 }
 
 /* alpha and beta summed over the parties of an axis: those of the sum of all leaves but the hidden one, and its own. */
@@ -83,12 +83,12 @@ static unsigned check_run(const struct statement *statement, const struct factor
 }
 
 unsigned check_opening(const struct opponent_verifier *verifier, const uint8_t *message5, const struct key *key,
-                       const uint8_t digest[DIGEST], struct opening *openings, unsigned step)
+                       struct opening *openings, unsigned step)
 {
     struct factors factors;
     make_factors(&factors, &verifier->set);
     for (unsigned run = 0; run < verifier->runs; run++) {
-        struct statement statement = statement_of(verifier, digest, run);
+        struct statement statement = statement_of(verifier, run);
         unsigned answer = check_run(&statement, &factors, message5, key, openings + step * run);
         if (answer) return answer;
         message5 += opening_length(&verifier->set, statement.leaf);
@@ -99,6 +99,5 @@ unsigned check_opening(const struct opponent_verifier *verifier, const uint8_t *
 unsigned opponent_opening(const struct opponent_verifier *verifier, const uint8_t *message5, const struct key *key)
 {
     struct opening opening;
-    if (other_key(&verifier->set, key, verifier->digest)) return 15;
-    return check_opening(verifier, message5, key, verifier->digest, &opening, 0);
+    return check_opening(verifier, message5, key, &opening, 0);
 }

@@ -3,11 +3,10 @@
  * timed against. It is written from document 01 and shares no code with the library.
  *
  * It gives the same messages and answers, and keeps the same between calls: each call of the prover makes the leaves again from
- * salt and root, and each call that is lent the key makes its digest again. What all runs have in common, Q and P of the key and the
- * derivatives of F, it makes once a call. Unlike the library it trusts its caller: it looks at no parameter, run count, length, phase
- * or leaf number, so it never answers 1, 2, 4, 8, 9, 11, 12 or 13; an opening whose h differs it refuses at once. It takes no work
- * area and wipes nothing, its tables (64 KB) are made once, and its extractor keeps all that both openings give in static arrays
- * (2 MB).
+ * salt and root. What all runs have in common, Q and P of the key and the derivatives of F, it makes once a call. Unlike the library
+ * it trusts its caller: it looks at no parameter, run count, length, phase or leaf number, so it never answers 1, 2, 4, 8, 9, 11, 12
+ * or 13; an opening whose h differs it refuses at once. It takes no work area and wipes nothing, its tables (64 KB) are made once,
+ * and its extractor keeps all that both openings give in static arrays (2 MB).
  */
 #ifndef OPPONENT_H
 #define OPPONENT_H
@@ -29,38 +28,33 @@ enum { OPPONENT_RUNS = 32 };
 struct opponent_prover {
     struct set set;
     unsigned runs;
-    uint8_t x[255], salt[32], root[16], digest[32], message2[64 * OPPONENT_RUNS];
+    uint8_t x[255], salt[32], root[16], message2[64 * OPPONENT_RUNS];
 };
 
-/* Messages 1 to 4 and the key digest, as the verifier's calls before the opening leave them. */
+/* Messages 1 to 4, as the verifier's calls before the opening leave them. */
 struct opponent_verifier {
     struct set set;
     unsigned runs;
     uint8_t message1[32 + 32 * OPPONENT_RUNS], message2[64 * OPPONENT_RUNS], message3[32 * OPPONENT_RUNS], leaves[OPPONENT_RUNS];
-    uint8_t digest[32];
 };
 
 /* Makes the tables of the field. To be called once, before everything else. */
 void opponent_prepare(void);
 
-/* The key digest. */
-void opponent_digest(const struct set *set, const struct key *key, uint8_t digest[32]);
-
 /* Gives message 1. Answers 0, or 3 where x has more than w nonzero entries. */
 unsigned opponent_begin(struct opponent_prover *prover, const struct set *set, unsigned runs, const uint8_t *x_a,
                         const uint8_t *salt, const uint8_t *root, const struct key *key, uint8_t *message1);
 
-/* Gives message 3. Answers 0, or 15 for another key than at begin. */
-unsigned opponent_points(struct opponent_prover *prover, const uint8_t *message2, const struct key *key, uint8_t *message3);
+/* Gives message 3. */
+void opponent_points(struct opponent_prover *prover, const uint8_t *message2, const struct key *key, uint8_t *message3);
 
-/* Gives message 5. Answers 0, or 15 for another key than at begin. */
-unsigned opponent_leaf(const struct opponent_prover *prover, const uint8_t *leaves, const struct key *key, uint8_t *message5);
+/* Gives message 5. */
+void opponent_leaf(const struct opponent_prover *prover, const uint8_t *leaves, const struct key *key, uint8_t *message5);
 
-/* Answers 15 for another key than the verifier holds; 0 where all runs are accepted; of the lowest that is not, 5 where the
-   recomputed h differs, 7 where h' does. */
+/* Answers 0 where all runs are accepted; of the lowest that is not, 5 where the recomputed h differs, 7 where h' does. */
 unsigned opponent_opening(const struct opponent_verifier *verifier, const uint8_t *message5, const struct key *key);
 
-/* Two openings of one exchange under this key that hide different leaves in some run; what is answered is what unlock_extract answers. */
+/* Two openings of one exchange that hide different leaves in some run; what is answered is what unlock_extract answers. */
 uint32_t opponent_extract(const struct opponent_verifier *first, const uint8_t *first5, const struct opponent_verifier *second,
                           const uint8_t *second5, const struct key *key, uint8_t *out);
 

@@ -51,15 +51,16 @@ static void commit_run(const struct opponent_prover *prover, const struct witnes
 {
     const struct set *set = &prover->set;
     struct pass pass;
-    uint8_t aux[MAX_AUX], commitments[COMMITMENTS + DIGEST * MAX_LEAVES];
+    uint8_t aux[MAX_AUX], commitments[PREFIX + DIGEST * MAX_LEAVES];
     uint64_t sum[SHARE_WORDS], seed[2];
     unsigned last = last_leaf(set);
     start_pass(&pass, prover, run, last, seed);
-    pass.commitments = commitments + COMMITMENTS;
+    pass.commitments = commitments + PREFIX;
     pass_tree(&pass, seed, sum);
     make_aux(prover, witness, sum, aux);
     hash_last_state(&pass.salted, last, pass.states[last], aux, aux_length(set), pass.commitments + DIGEST * last);
-    hash_commitments(&pass.salted, prover->digest, commitments, leaves(set), h);
+    put_prefix(commitments, 5, &pass.salted);
+    hash_string(commitments, PREFIX + DIGEST * leaves(set), h);
 }
 
 unsigned opponent_begin(struct opponent_prover *prover, const struct set *set, unsigned runs, const uint8_t *x_a,
@@ -74,7 +75,6 @@ unsigned opponent_begin(struct opponent_prover *prover, const struct set *set, u
     memcpy(prover->x, x, set->m);
     memcpy(prover->salt, salt, 32);
     memcpy(prover->root, root, 16);
-    opponent_digest(set, key, prover->digest);
     make_witness(prover, &witness);
     memcpy(message1, salt, 32);
     for (unsigned run = 0; run < runs; run++) commit_run(prover, &witness, run, message1 + 32 + DIGEST * run);
@@ -101,16 +101,14 @@ static void answer_run(const struct opponent_prover *prover, const uint8_t *q, c
     memcpy(h, response.h, DIGEST);
 }
 
-unsigned opponent_points(struct opponent_prover *prover, const uint8_t *message2, const struct key *key, uint8_t *message3)
+void opponent_points(struct opponent_prover *prover, const uint8_t *message2, const struct key *key, uint8_t *message3)
 {
     struct factors factors;
     uint8_t q[256];
-    if (other_key(&prover->set, key, prover->digest)) return 15;
     memcpy(prover->message2, message2, 8 * prover->set.t * prover->runs);
     make_factors(&factors, &prover->set);
     make_q(&prover->set, prover->x, q);
     for (unsigned run = 0; run < prover->runs; run++) answer_run(prover, q, &factors, run, key, message3 + DIGEST * run);
-    return 0;
 }
 
 /* alpha and beta of the hidden leaf, without constants. */
@@ -150,13 +148,12 @@ static void open_run(const struct opponent_prover *prover, const struct witness 
     }
 }
 
-unsigned opponent_leaf(const struct opponent_prover *prover, const uint8_t *leaves, const struct key *key, uint8_t *message5)
+void opponent_leaf(const struct opponent_prover *prover, const uint8_t *leaves, const struct key *key, uint8_t *message5)
 {
     const struct set *set = &prover->set;
     struct witness witness;
     struct factors factors;
     uint64_t share[SHARE_WORDS];
-    if (other_key(set, key, prover->digest)) return 15;
     make_witness(prover, &witness);
     make_factors(&factors, set);
     for (unsigned run = 0; run < prover->runs; run++) {
@@ -164,5 +161,4 @@ unsigned opponent_leaf(const struct opponent_prover *prover, const uint8_t *leav
         put_blinded(prover, &factors, run, key, share, message5 + 16 * set->D + DIGEST);
         message5 += opening_length(set, leaves[run]);
     }
-    return 0;
 }

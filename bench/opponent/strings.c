@@ -103,49 +103,6 @@ void hash_last_state(const struct salted *salted, unsigned leaf, const uint64_t 
     hash_string(string, PREFIX + 33 + aux_length, digest);
 }
 
-void hash_commitments(const struct salted *salted, const uint8_t key_digest[DIGEST], uint8_t *string, unsigned leaves,
-                      uint8_t h[DIGEST])
-{
-    put_prefix(string, 5, salted);
-    memcpy(string + PREFIX, key_digest, DIGEST);
-    hash_string(string, COMMITMENTS + DIGEST * leaves, h);
-}
-
-/* A string that is taken in piece by piece, and how much of the block is filled. */
-struct sponge {
-    union {
-        uint64_t lanes[25];
-        uint8_t bytes[200];
-    } state;
-    size_t filled;
-};
-
-static void take_in(struct sponge *sponge, const uint8_t *piece, size_t length)
-{
-    while (length > 0) {
-        size_t room = RATE - sponge->filled, part = length < room ? length : room;
-        uint8_t *to = sponge->state.bytes + sponge->filled;
-        for (size_t i = 0; i < part; i++) to[i] ^= piece[i];
-        sponge->filled += part, piece += part, length -= part;
-        if (sponge->filled < RATE) return;
-        opponent_permute(sponge->state.lanes);
-        sponge->filled = 0;
-    }
-}
-
-void hash_key(const uint8_t numbers[5], const uint8_t *matrix, size_t matrix_length, const uint8_t *y, size_t y_length,
-              uint8_t digest[DIGEST])
-{
-    struct sponge sponge = { { { 9 } }, 1 };
-    take_in(&sponge, numbers, 5);
-    take_in(&sponge, matrix, matrix_length);
-    take_in(&sponge, y, y_length);
-    sponge.state.bytes[sponge.filled] ^= 0x1f;
-    sponge.state.bytes[RATE - 1] ^= 0x80;
-    opponent_permute(sponge.state.lanes);
-    memcpy(digest, sponge.state.lanes, DIGEST);
-}
-
 void put_prefix(uint8_t *string, uint8_t layer, const struct salted *salted)
 {
     memcpy(string, salted->words, 32);

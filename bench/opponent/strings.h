@@ -1,14 +1,13 @@
-/* The strings hashed, layers 1 to 9 (document 01, Strings hashed; document 02, requests 01 and 04), for little-endian machines: lanes
-   are bytes as they stand in memory. The strings of layers 1 to 3 and 8, and of 4 without aux, are shorter than a block and are put
-   together in the lanes; that of layer 9 is taken in from where its parts stand. */
+/* The strings hashed, layers 1 to 8 (document 01, Strings hashed; document 02, request 01), for little-endian machines: lanes are
+   bytes as they stand in memory. The strings of layers 1 to 3 and 8, and of 4 without aux, are shorter than a block and are put
+   together in the lanes. */
 #ifndef OPPONENT_STRINGS_H
 #define OPPONENT_STRINGS_H
 
 #include <stddef.h>
 #include <stdint.h>
 
-/* In the string of layer 5 the key digest follows the prefix, and the commitments follow that. */
-enum { PREFIX = 34, DIGEST = 32, COMMITMENTS = PREFIX + DIGEST };
+enum { PREFIX = 34, DIGEST = 32 };
 
 /* What all strings of a run start with: the salt behind a byte that is left for the layer, and the run byte. */
 struct salted {
@@ -36,14 +35,6 @@ void hash_state(const struct salted *salted, unsigned leaf, const uint64_t state
 /* Layer 4 with aux. */
 void hash_last_state(const struct salted *salted, unsigned leaf, const uint64_t state[4], const uint8_t *aux, size_t aux_length,
                      uint8_t digest[DIGEST]);
-
-/* Layer 5: h, of a string whose commitments stand; writes what is before them. */
-void hash_commitments(const struct salted *salted, const uint8_t key_digest[DIGEST], uint8_t *string, unsigned leaves,
-                      uint8_t h[DIGEST]);
-
-/* Layer 9: the key digest, from the numbers of the set, the matrix and y. */
-void hash_key(const uint8_t numbers[5], const uint8_t *matrix, size_t matrix_length, const uint8_t *y, size_t y_length,
-              uint8_t digest[DIGEST]);
 
 /* Writes layer, salt and run byte to the front of a string. */
 void put_prefix(uint8_t *string, uint8_t layer, const struct salted *salted);

@@ -1,13 +1,12 @@
-/* Session buffers of another length: 2, at begin 1 before 2, also for the run count; sets of another length: 2 before 1; the key
-   digest likewise; and nothing is written. */
+/* Session buffers of another length: 2, at begin 1 before 2, also for the run count; sets of another length: 2 before 1; and
+   nothing is written. */
 #include <stdio.h>
 #include <string.h>
 
 #include "unlock.h"
 
 static uint8_t session[UNLOCK_VERIFIER_SIZE + 1], held[sizeof session], work[UNLOCK_WORK_SIZE(1, 1, 1, 1)];
-static const uint8_t x_a[1] = {5}, matrix[2] = {1}, y[2] = {5}, salt[32], root[16], message1[64], message2[8];
-static const uint8_t key_string[] = { 9, 2, 1, 1, 1, 1, 1, 5 }; /* layer 9, the set, the matrix, y */
+static const uint8_t x_a[1] = {5}, matrix[1] = {1}, y[1] = {5}, salt[32], root[16], message1[64], message2[8];
 static const uint8_t leaves[1];
 static uint8_t out[64], message5[UNLOCK_OPENING_MAX(1, 1, 1, 1, 1)];
 static const uint64_t set[] = { 2, 1, 1, 1, 1, 1 }, long_m[] = { 256, 1, 1, 1, 1, 1 }, many_t[] = { 2, 1, 1, 1, 9, 1 };
@@ -31,7 +30,7 @@ static void try_begins(const char *name, struct lengths of, const uint64_t *numb
 {
     expect(name, unlock_prover_begin(session, of.prover, numbers, length, runs, x_a, 1, salt, 32, root, 16, matrix, 1, y, 1,
                                      work, sizeof work, out, 64), number);
-    expect(name, unlock_verifier_begin(session, of.verifier, numbers, length, runs, message1, 64, matrix, 1, y, 1), number);
+    expect(name, unlock_verifier_begin(session, of.verifier, numbers, length, runs, message1, 64), number);
 }
 
 static void try_sets(struct lengths of)
@@ -64,33 +63,6 @@ static void try_lengths(struct lengths of)
     expect("verifier opening", unlock_verifier_opening(session, verifier, message5, sizeof message5, matrix, 1, y, 1, work, sizeof work), 2);
 }
 
-/* The key digest, where the matrix, y and the output have these lengths. */
-static void try_digest(const char *name, const uint64_t *numbers, uint64_t length, const uint64_t lent[3], unsigned number)
-{
-    static uint8_t digest[33], before[sizeof digest];
-    memset(digest, 0xa5, sizeof digest);
-    memset(before, 0xa5, sizeof before);
-    expect(name, unlock_key_digest(numbers, length, matrix, lent[0], y, lent[1], digest, lent[2]), number);
-    if (number == UNLOCK_DONE) unlock_shake256(key_string, sizeof key_string, before, 32);
-    if (memcmp(digest, before, sizeof digest) == 0) return;
-    printf("%s: other bytes\n", name);
-    passed = 0;
-}
-
-static void try_digests(void)
-{
-    const uint64_t lengths[] = { 0, 1, 4, 6 }, fitting[] = { 1, 1, 32 }, misfits[][3] = {
-        { 0, 1, 32 }, { 2, 1, 32 }, { 1, 0, 32 }, { 1, 2, 32 }, { 1, 1, 31 }, { 1, 1, 33 }, { 1, 1, 0 },
-    };
-    try_digest("key digest", set, UNLOCK_SET_LENGTH, fitting, 0);
-    for (int i = 0; i < 4; i++) try_digest("key digest, a set of another length, m 256", long_m, lengths[i], fitting, 2);
-    try_digest("key digest, m 256", long_m, UNLOCK_SET_LENGTH, fitting, 1);
-    for (int i = 0; i < 7; i++) {
-        try_digest("key digest, another length", set, UNLOCK_SET_LENGTH, misfits[i], 2);
-        try_digest("key digest, another length, t 9", many_t, UNLOCK_SET_LENGTH, misfits[i], 1);
-    }
-}
-
 int main(void)
 {
     memset(session, 0xa5, sizeof session);
@@ -98,6 +70,5 @@ int main(void)
     try_lengths((struct lengths){ UNLOCK_PROVER_SIZE - 1, UNLOCK_VERIFIER_SIZE - 1 });
     try_lengths((struct lengths){ UNLOCK_PROVER_SIZE + 1, UNLOCK_VERIFIER_SIZE + 1 });
     try_sets((struct lengths){ UNLOCK_PROVER_SIZE, UNLOCK_VERIFIER_SIZE });
-    try_digests();
     return !passed;
 }

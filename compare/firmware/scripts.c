@@ -1,9 +1,9 @@
 /*
  * Random scripts of calls through unlock.h, the same on every core. A script is an exchange at a random set and run count and an
  * extraction from two openings of its commitment. Most have faults: parameters and run counts of up to 64 bits, lengths that are
- * off, damaged messages and sessions, repeated points, other keys, leaves out of range, calls that are not due. A line for each
- * script has its set, its run count and a digest of every answer and of every byte that a call could write; the last line says
- * how often each number was answered. SCRIPTS and SEED, how many and which, come from the compiler's command.
+ * off, damaged messages and sessions, repeated points, leaves out of range, calls that are not due. A line for each script has its
+ * set, its run count and a digest of every answer and of every byte that a call could write; the last line says how often each
+ * number was answered. SCRIPTS and SEED, how many and which, come from the compiler's command.
  */
 #include <string.h>
 
@@ -18,7 +18,7 @@ enum { RUNS = UNLOCK_RUNS_MAX, SMALL_M = 31, SMALL_AXES = 4, SMALL_T = 4, LARGE_
 
 /* Longer than any set asks, so that a slice can be too long. */
 static uint8_t prover[UNLOCK_PROVER_SIZE + 8], answered[sizeof prover], verifier[UNLOCK_VERIFIER_SIZE + 8];
-static uint8_t matrix[128 * 127 + 8], x[255], y[254 + 8], x_a[254 + 8], salt[32 + 8], root[16 + 8], key_digest[32 + 8];
+static uint8_t matrix[128 * 127 + 8], x[255], y[254 + 8], x_a[254 + 8], salt[32 + 8], root[16 + 8];
 static uint8_t work[UNLOCK_WORK_SIZE(254, 255, 8, 8) + 8], states[ROOM(UNLOCK_EXTRACT_SIZE)];
 static struct transcript {
     uint8_t message1[UNLOCK_MESSAGE1_SIZE(RUNS) + 8], message2[UNLOCK_MESSAGE2_SIZE(8, RUNS) + 8];
@@ -51,7 +51,7 @@ static void damage(uint8_t *at, uint64_t length)
 
 /* ---- what is noted */
 
-enum { NUMBERS = UNLOCK_OTHER_KEY + 1 };
+enum { NUMBERS = UNLOCK_SAME_POINT + 1 };
 static uint64_t digest;
 static uint32_t answers[NUMBERS], extractions; /* how often each number was answered, and any with which something was extracted */
 
@@ -108,20 +108,6 @@ static void draw_key(void)
     syndrome(matrix, x, m, k, y);
 }
 
-static struct {
-    uint8_t *at, bits;
-} change; /* of the key */
-
-/* Now and then another key, until it is put back: one bit of the matrix or of y. */
-static void change_key(void)
-{
-    change.at = below(2) == 0 ? matrix + below((m - k) * k) : y + below(m - k);
-    change.bits = chance(8) ? (uint8_t)(1u << below(8)) : 0;
-    *change.at ^= change.bits;
-}
-
-static void put_back_key(void) { *change.at ^= change.bits; }
-
 static void draw_set(uint32_t number)
 {
     uint32_t large = number % 25 == 1;
@@ -140,7 +126,7 @@ static void draw_set(uint32_t number)
 
 static uint64_t set[UNLOCK_SET_LENGTH + 1], run_count;
 static struct {
-    uint64_t prover, verifier, set, x_a, salt, root, matrix, y, digest, work, message1, message2, message3, leaves, message5, states;
+    uint64_t prover, verifier, set, x_a, salt, root, matrix, y, work, message1, message2, message3, leaves, message5, states;
 } length;
 
 static uint64_t bent(uint64_t number)
@@ -168,7 +154,6 @@ static void draw_lent(const uint8_t *leaves)
     length.root = off(16, sizeof root);
     length.matrix = off((m - k) * k, sizeof matrix);
     length.y = off(m - k, sizeof y);
-    length.digest = off(32, sizeof key_digest);
     length.work = off(unlock_work_size(right, UNLOCK_SET_LENGTH), sizeof work);
     length.message1 = off(UNLOCK_MESSAGE1_SIZE(runs), sizeof first.message1);
     length.message2 = off(UNLOCK_MESSAGE2_SIZE(t, runs), sizeof first.message2);
@@ -179,8 +164,6 @@ static void draw_lent(const uint8_t *leaves)
     note_number(unlock_work_size(set, length.set));
     note_number(unlock_opening_size(set, length.set, leaves, length.leaves));
     note_number(unlock_extract_size(set, length.set, run_count));
-    note_number(unlock_key_digest(set, length.set, matrix, length.matrix, y, length.y, key_digest, length.digest));
-    note_bytes(key_digest, sizeof key_digest);
 }
 
 /* ---- the calls */
@@ -196,7 +179,7 @@ static uint8_t prover_begin(void)
 static uint8_t verifier_begin(void)
 {
     damage(first.message1, UNLOCK_MESSAGE1_SIZE(runs));
-    return unlock_verifier_begin(verifier, length.verifier, set, length.set, run_count, first.message1, length.message1, KEY);
+    return unlock_verifier_begin(verifier, length.verifier, set, length.set, run_count, first.message1, length.message1);
 }
 /* Puts a point of a run at another position of it too, now and then but for one bit. */
 static void repeat_point(uint8_t *message2)
@@ -257,16 +240,6 @@ static uint8_t (*const calls[])(void) = {
 };
 enum { CALLS = sizeof calls / sizeof *calls };
 
-/* Makes a call, now and then with another key. One that got 15 is made again with the right one. */
-static void make(uint32_t call)
-{
-    change_key();
-    uint8_t answer = calls[call]();
-    put_back_key();
-    note_answer(answer);
-    if (answer == UNLOCK_OTHER_KEY) note_answer(calls[call]());
-}
-
 /* Other leaves in some of the runs, now and then in none. */
 static void draw_other_leaves(void)
 {
@@ -297,13 +270,11 @@ static void extract(void)
     damage(second.message1, UNLOCK_MESSAGE1_SIZE(runs));
     damage(second.message5, length5);
     draw_lent(first.leaves);
-    change_key();
     note_answer(unlock_extract(set, length.set, run_count, first.message1, length.message1, first.message2, length.message2,
                                first.message3, length.message3, first.leaves, length.leaves, first.message5, length.message5,
                                second.message1, UNLOCK_MESSAGE1_SIZE(runs), second.message2, UNLOCK_MESSAGE2_SIZE(t, runs),
                                second.message3, UNLOCK_MESSAGE3_SIZE(runs), second.leaves, runs, second.message5, length5,
                                KEY, WORK, states, length.states));
-    put_back_key();
 }
 
 /* ---- a script */
@@ -329,7 +300,7 @@ static void run_script(uint32_t number)
     for (uint32_t step = 0; step < CALLS; step++) {
         uint32_t call = fault() ? below(CALLS) : step == 1 && chance(8) ? 0 : step;
         draw_lent(first.leaves);
-        make(call);
+        note_answer(calls[call]());
         damage(prover, sizeof prover);
         damage(verifier, sizeof verifier);
     }

@@ -1,5 +1,5 @@
-//! What `unlock` prints for a key: a line for the parameters, one for the run count, one for the key digest, one for each
-//! message, the verdict, with an accepted one the chance of a prover without the key, and what is proved.
+//! What `unlock` prints for a key: a line for the parameters, one for the run count, one for each message, the verdict, with
+//! an accepted one the chance of a prover without the key, and what is proved.
 
 use crate::default_key::{expand, leaves, message_2};
 use reference::keylist::to_hex;
@@ -33,7 +33,6 @@ pub fn text(key: &Key, runs: usize) -> String {
         return format!("refused\t{number}\n");
     }
     program.set();
-    program.key_digest();
     program.message("1 commitment", &message_1);
     let verdict = match program.exchange(&mut prover, &message_1) {
         Ok(()) => format!("verdict\taccepted\n{}", chance(runs * key.parameters.axes)),
@@ -56,11 +55,6 @@ impl Program<'_> {
         self.text += &format!("set\t{m}\t{k}\t{w}\t{axes}\t{t}\nruns\t{}\n", self.runs);
     }
 
-    fn key_digest(&mut self) {
-        let digest = self.key.public().digest(&self.key.parameters);
-        self.text += &format!("key digest\t{}\n", to_hex(&digest));
-    }
-
     fn message(&mut self, name: &str, message: &[u8]) {
         self.text += &format!("{name}\t{}\t{}\n", message.len(), to_hex(&shake256(message, 32)));
     }
@@ -69,7 +63,7 @@ impl Program<'_> {
     fn exchange(&mut self, prover: &mut Prover, message_1: &[u8]) -> Result<(), Number> {
         let (parameters, runs) = (self.key.parameters, self.runs);
         let mut verifier = Verifier::default();
-        done(verifier.begin(parameters, runs, message_1, self.key.public()))?;
+        done(verifier.begin(parameters, runs, message_1))?;
         let message_2 = message_2(&parameters, runs);
         done(verifier.points(&message_2))?;
         self.message("2 points", &message_2);

@@ -73,7 +73,7 @@ pub fn recompute(parameters: &Parameters, key: PublicKey, messages: &RunMessages
     let axis_digests: Vec<Digest> = axis_strings.iter().map(|string| digest(string)).collect();
     let strings = OpeningStrings {
         leaves: leaf_strings,
-        commitments: commitments_string(prefix, &key.digest(parameters), &commitments),
+        commitments: commitments_string(prefix, &commitments),
         axes: axis_strings,
         response: axes_string(prefix, &axis_digests),
     };

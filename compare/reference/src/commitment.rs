@@ -73,9 +73,9 @@ impl Committed {
         &self.leaves
     }
 
-    /// h, the digest of all leaf commitments behind a key digest.
-    pub fn h(&self, key_digest: &Digest) -> Digest {
-        digest(&commitments_string(&self.prefix, key_digest, &self.commitments))
+    /// h, the digest of all leaf commitments.
+    pub fn h(&self) -> Digest {
+        digest(&commitments_string(&self.prefix, &self.commitments))
     }
 
     /// h', the digest of the digests of all axes, under a key as lent.

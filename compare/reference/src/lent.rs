@@ -1,5 +1,4 @@
-//! The matrix, y and work area that the prover's calls, the verifier's opening and the extractor are lent. (The verifier's
-//! begin is lent matrix and y alone.)
+//! The matrix, y and work area that the prover's calls, the verifier's opening and the extractor are lent.
 
 use crate::key::PublicKey;
 use crate::numbers::{require, Number, WRONG_LENGTH};

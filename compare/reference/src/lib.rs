@@ -19,7 +19,6 @@ pub mod shake256;
 pub mod stand_in;
 
 pub mod key;
-pub mod key_digest;
 pub mod numbers;
 pub mod parameters;
 pub mod runs;

@@ -33,8 +33,6 @@ pub const CLOSED: Number = 12;
 pub const SALT_AND_ROOT_HELD: Number = 13;
 /// Two points of one run are equal (document 02, request 02). Checked straight after 2.
 pub const POINT_REPEATED: Number = 14;
-/// Matrix or y are not those of the exchange held (document 02, request 04). Checked straight after 14.
-pub const OTHER_KEY: Number = 15;
 
 /// Refuses with the number unless the condition holds.
 pub fn require(condition: bool, number: Number) -> Result<(), Number> {

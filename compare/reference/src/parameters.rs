@@ -38,8 +38,7 @@ impl Parameters {
         require(within, PARAMETER_OUTSIDE_LIMITS)
     }
 
-    /// The parameters in the set line's order, a byte each, once `check` has passed: as a session stores them and as the
-    /// key digest takes them.
+    /// The parameters as a session stores them, a byte each, once `check` has passed.
     pub fn to_bytes(&self) -> [u8; 5] {
         [self.m, self.k, self.w, self.axes, self.t].map(|parameter| parameter as u8)
     }

@@ -3,7 +3,6 @@
 //!
 //! A session may be damaged where it is stored. It fails closed: one that is not fresh counts as closed if its parameters
 //! or its run count are outside their limits or its x is too heavy, and its salt and root still count as those of the exchange held.
-//! A damaged key digest closes nothing: it shows as 15.
 
 use crate::challenge::Challenge;
 use crate::commitment::{Committed, Witness};
@@ -45,7 +44,6 @@ pub struct Prover {
     x: [u8; X_BYTES],
     salt: Salt,
     root: Seed,
-    key_digest: Digest,
     message_2: [u8; MESSAGE_2_BYTES],
 }
 
@@ -58,7 +56,6 @@ impl Default for Prover {
             x: [0; X_BYTES],
             salt: Salt::default(),
             root: Seed::default(),
-            key_digest: Digest::default(),
             message_2: [0; MESSAGE_2_BYTES],
         }
     }
@@ -118,10 +115,9 @@ impl Prover {
             x: padded(&x),
             salt: front(salt),
             root: front(root),
-            key_digest: lent.key().digest(&parameters),
             message_2: [0; MESSAGE_2_BYTES],
         };
-        let h: Vec<Digest> = begun.committed().iter().map(|run| run.h(&begun.key_digest)).collect();
+        let h: Vec<Digest> = begun.committed().iter().map(Committed::h).collect();
         output.copy_from_slice(&message_1(&begun.salt, &h));
         lent.clear_work(&parameters);
         *self = begun;
@@ -134,7 +130,6 @@ impl Prover {
         lent.check(&self.parameters)?;
         require(output.len() == Parameters::message_3_bytes(self.runs), WRONG_LENGTH)?;
         check_points(&self.parameters, message_2)?;
-        lent.key().require_held(&self.parameters, &self.key_digest)?;
         let runs = self.committed().into_iter().zip(challenges(&self.parameters, message_2));
         let responses: Vec<Digest> = runs.map(|(run, challenge)| run.response(&challenge, lent.key())).collect();
         output.copy_from_slice(&responses.concat());
@@ -149,7 +144,6 @@ impl Prover {
         require(leaves.len() == self.runs, WRONG_LENGTH)?;
         lent.check(&self.parameters)?;
         require(output.len() == self.parameters.message_5_bytes(leaves), WRONG_LENGTH)?;
-        lent.key().require_held(&self.parameters, &self.key_digest)?;
         self.parameters.check_leaves(leaves)?;
         let message_2 = &self.message_2[..self.parameters.message_2_bytes(self.runs)];
         let runs = self.committed().into_iter().zip(challenges(&self.parameters, message_2)).zip(leaves);
@@ -194,12 +188,11 @@ impl Prover {
         self.phase != Phase::Fresh && self.salt == salt && self.root == root
     }
 
-    /// The session as it is stored: phase, m, k, w, D, t, run count, x, salt, root, key digest,
-    /// message 2.
+    /// The session as it is stored: phase, m, k, w, D, t, run count, x, salt, root, message 2.
     pub fn to_bytes(&self) -> Vec<u8> {
         let phase = [byte_of(&Phase::BYTES, self.phase)];
         let numbers = [&self.parameters.to_bytes()[..], &[number_byte(self.runs)]].concat();
-        [&phase[..], &numbers, &self.x, &self.salt, &self.root, &self.key_digest, &self.message_2].concat()
+        [&phase[..], &numbers, &self.x, &self.salt, &self.root, &self.message_2].concat()
     }
 
     /// The session that stored bytes stand for; a byte that is no phase reads as closed.
@@ -212,7 +205,6 @@ impl Prover {
             x: reader.array(),
             salt: reader.array(),
             root: reader.array(),
-            key_digest: reader.array(),
             message_2: reader.array(),
         }
     }

@@ -1,5 +1,5 @@
-//! The strings hashed, layers 1 to 9 (document 01, Strings hashed; document 02, requests 01 and 04). Each starts with its
-//! layer byte and, up to layer 8, the prefix of its run: the salt and the run byte. Layer 9 belongs to no run and has none.
+//! The strings hashed, layers 1 to 8 (document 01, Strings hashed; document 02, request 01). Each starts with its layer
+//! byte and the prefix of its run: the salt and the run byte.
 
 #[cfg(not(feature = "stand_in"))]
 use crate::shake256::shake256 as hash;
@@ -12,7 +12,7 @@ pub const SALT_BYTES: usize = 32;
 pub const PREFIX_BYTES: usize = SALT_BYTES + 1;
 /// Bytes of a seed and of a rho.
 pub const SEED_BYTES: usize = 16;
-/// Bytes of a commitment, of h, of H_axis, of h' and of a key digest.
+/// Bytes of a commitment, of h, of H_axis and of h'.
 pub const DIGEST_BYTES: usize = 32;
 
 /// A salt.
@@ -21,7 +21,7 @@ pub type Salt = [u8; SALT_BYTES];
 pub type Prefix = [u8; PREFIX_BYTES];
 /// A seed, or a rho.
 pub type Seed = [u8; SEED_BYTES];
-/// A digest of layers 4 to 7, or 9.
+/// A digest of layers 4 to 7.
 pub type Digest = [u8; DIGEST_BYTES];
 
 /// The prefix of a run, which is numbered from 0.
@@ -31,7 +31,7 @@ pub fn prefix(salt: &Salt, run: usize) -> Prefix {
     prefix
 }
 
-fn layer_string(layer: u8, prefix: &[u8], parts: &[&[u8]]) -> Vec<u8> {
+fn layer_string(layer: u8, prefix: &Prefix, parts: &[&[u8]]) -> Vec<u8> {
     let mut string = vec![layer];
     string.extend_from_slice(prefix);
     for part in parts {
@@ -75,9 +75,9 @@ pub fn leaf_string(prefix: &Prefix, leaf: usize, seed: &Seed, rho: &Seed, aux: &
     layer_string(4, prefix, &[&[number_byte(leaf)], seed, rho, aux])
 }
 
-/// The layer 5 string: the key digest, then all leaf commitments.
-pub fn commitments_string(prefix: &Prefix, key_digest: &Digest, commitments: &[Digest]) -> Vec<u8> {
-    layer_string(5, prefix, &[key_digest, &commitments.concat()])
+/// The layer 5 string: all leaf commitments.
+pub fn commitments_string(prefix: &Prefix, commitments: &[Digest]) -> Vec<u8> {
+    layer_string(5, prefix, &[&commitments.concat()])
 }
 
 /// The layer 6 string of an axis, from α, β, v of party 1 and then of party 2.
@@ -95,12 +95,7 @@ pub fn run_root(prefix: &Prefix, root: &Seed) -> Seed {
     front(&hash(&layer_string(8, prefix, &[root]), SEED_BYTES))
 }
 
-/// The layer 9 string of a key: the set's numbers, a byte each, then matrix and y.
-pub fn key_string(set: &[u8], matrix: &[u8], y: &[u8]) -> Vec<u8> {
-    layer_string(9, &[], &[set, matrix, y])
-}
-
-/// The 32 bytes to which a string of layers 4 to 7 or 9 is hashed.
+/// The 32 bytes to which a string of layers 4 to 7 is hashed.
 pub fn digest(string: &[u8]) -> Digest {
     front(&hash(string, DIGEST_BYTES))
 }

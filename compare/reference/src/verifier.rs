@@ -1,18 +1,16 @@
 //! The verifier's session: begin, points, response, leaf, and the opening that closes it.
 //!
 //! A session may be damaged where it is stored. It fails closed: one that is not fresh counts as closed if its parameters
-//! or its run count are outside their limits or a leaf of its runs is not below n. A damaged key digest closes nothing: it
-//! shows as 15.
+//! or its run count are outside their limits or a leaf of its runs is not below n.
 
 use crate::check::check;
-use crate::key::PublicKey;
 use crate::lent::Lent;
 use crate::messages::{check_points, Messages};
 use crate::numbers::{number_of, require, Number, CLOSED, NOT_DUE, WRONG_LENGTH};
 use crate::parameters::Parameters;
 use crate::runs::{check_run_count, GREATEST_RUNS};
 use crate::stored::{byte_of, padded, phase_of, write_front, Reader};
-use crate::strings::{number_byte, Digest, DIGEST_BYTES, SALT_BYTES};
+use crate::strings::{number_byte, DIGEST_BYTES, SALT_BYTES};
 
 /// The bytes that a session has for message 1: past 32 and 32 a run they are zeros.
 const MESSAGE_1_BYTES: usize = SALT_BYTES + DIGEST_BYTES * GREATEST_RUNS;
@@ -53,7 +51,6 @@ pub struct Verifier {
     message_1: [u8; MESSAGE_1_BYTES],
     message_2: [u8; MESSAGE_2_BYTES],
     message_3: [u8; MESSAGE_3_BYTES],
-    key_digest: Digest,
     leaves: [u8; GREATEST_RUNS],
 }
 
@@ -66,16 +63,15 @@ impl Default for Verifier {
             message_1: [0; MESSAGE_1_BYTES],
             message_2: [0; MESSAGE_2_BYTES],
             message_3: [0; MESSAGE_3_BYTES],
-            key_digest: Digest::default(),
             leaves: [0; GREATEST_RUNS],
         }
     }
 }
 
 impl Verifier {
-    /// Starts an exchange of so many runs with message 1 under a key.
-    pub fn begin(&mut self, parameters: Parameters, runs: usize, message_1: &[u8], key: PublicKey) -> Number {
-        number_of(self.try_begin(parameters, runs, message_1, key))
+    /// Starts an exchange of so many runs with message 1.
+    pub fn begin(&mut self, parameters: Parameters, runs: usize, message_1: &[u8]) -> Number {
+        number_of(self.try_begin(parameters, runs, message_1))
     }
 
     /// Takes message 2, which the verifier's side has drawn.
@@ -98,19 +94,12 @@ impl Verifier {
         number_of(self.try_opening(message_5, lent))
     }
 
-    fn try_begin(
-        &mut self,
-        parameters: Parameters,
-        runs: usize,
-        message_1: &[u8],
-        key: PublicKey,
-    ) -> Result<(), Number> {
+    fn try_begin(&mut self, parameters: Parameters, runs: usize, message_1: &[u8]) -> Result<(), Number> {
         parameters.check()?;
         check_run_count(runs)?;
         require(message_1.len() == Parameters::message_1_bytes(runs), WRONG_LENGTH)?;
-        key.check(&parameters)?;
-        let (message_1, key_digest) = (padded(message_1), key.digest(&parameters));
-        *self = Verifier { phase: Phase::Points, parameters, runs, message_1, key_digest, ..Verifier::default() };
+        let message_1 = padded(message_1);
+        *self = Verifier { phase: Phase::Points, parameters, runs, message_1, ..Verifier::default() };
         Ok(())
     }
 
@@ -151,7 +140,6 @@ impl Verifier {
         };
         messages.check(&self.parameters, self.runs)?;
         lent.check(&self.parameters)?;
-        lent.key().require_held(&self.parameters, &self.key_digest)?;
         let outcome = check(&self.parameters, lent.key(), &messages);
         lent.clear_work(&self.parameters);
         self.phase = Phase::Closed;
@@ -172,13 +160,11 @@ impl Verifier {
         require(self.phase == phase, NOT_DUE)
     }
 
-    /// The session as it is stored: phase, m, k, w, D, t, run count, messages 1 to 3, key digest,
-    /// message 4.
+    /// The session as it is stored: phase, m, k, w, D, t, run count, messages 1 to 4.
     pub fn to_bytes(&self) -> Vec<u8> {
         let phase = [byte_of(&Phase::BYTES, self.phase)];
         let numbers = [&self.parameters.to_bytes()[..], &[number_byte(self.runs)]].concat();
-        let messages = [&self.message_1[..], &self.message_2, &self.message_3].concat();
-        [&phase[..], &numbers, &messages, &self.key_digest, &self.leaves].concat()
+        [&phase[..], &numbers, &self.message_1, &self.message_2, &self.message_3, &self.leaves].concat()
     }
 
     /// The session that stored bytes stand for; a byte that is no phase reads as closed.
@@ -191,7 +177,6 @@ impl Verifier {
             message_1: reader.array(),
             message_2: reader.array(),
             message_3: reader.array(),
-            key_digest: reader.array(),
             leaves: reader.array(),
         }
     }

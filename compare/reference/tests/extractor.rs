@@ -299,7 +299,7 @@ fn refusals_by_the_openings() {
     assert_refused(&call, RESPONSE_DIFFERS, true);
     let mut call = extracting_call();
     call.lent.y[0] ^= 1;
-    assert_refused(&call, COMMITMENT_DIFFERS, true);
+    assert_refused(&call, RESPONSE_DIFFERS, true);
 }
 
 #[test]

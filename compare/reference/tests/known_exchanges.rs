@@ -51,7 +51,7 @@ fn assert_exchange(set: (usize, usize, usize, usize, usize), leaves: &[u8], weig
 
 #[test]
 fn least_set_hiding_leaf_0() {
-    let h = "70c881f4bb1144392a7ec895c4829da0b9582bf31b3316c583795208f0024d70";
+    let h = "78901daa30f237d9d02a86ba3559f2ccfeab4f6937b73bffab1900f4e282368a";
     let response = "64b32d6d4bad4549a124f1926a86884953de8341023cbac44191f8d786394fe5";
     let opening = "49ba7059e7e658b71da3c13f5558b958564793f42cecace51c7e8cde9031ed92";
     assert_exchange((2, 1, 1, 1, 1), &[0], 1, [h, response, opening]);
@@ -59,7 +59,7 @@ fn least_set_hiding_leaf_0() {
 
 #[test]
 fn least_set_of_two_runs() {
-    let h = "282ad619beb69f1c1a5c49d420b231fd59ac0fc2f30aca116de1249c61983d65";
+    let h = "8c79753ae700d91eb145825f16e1f815a52a021c210568fc89aae35a61e9b72c";
     let response = "ca45e619772a260730261fe1f666f24bf0bc3a5eea885f6c8b24e04bf6ec6bd2";
     let opening = "294c6e69e1b27444c8b9bad66efc1268778cefcf2792d81a33a73099efce049c";
     assert_exchange((2, 1, 1, 1, 1), &[1, 0], 1, [h, response, opening]);
@@ -67,7 +67,7 @@ fn least_set_of_two_runs() {
 
 #[test]
 fn three_axes_hiding_leaf_5() {
-    let h = "cfa64a0146bd4ef3ee2abd590b1e1c745adf80cdcd0cd821633c32626109f575";
+    let h = "5b2ddf46a46aa76c0c26f164ab80dbb1538c096aa7b0ee0a904fab70f235be97";
     let response = "3d71de67a0b08250a90a99dfbfd6ff7b14d62020ebed64fc5036ea4b245c7420";
     let opening = "0dae0de4d6b14ea83caa5e8889368369c2099dfc86fbe1535c6da3540145a1b4";
     assert_exchange((9, 4, 3, 3, 2), &[5], 3, [h, response, opening]);
@@ -75,7 +75,7 @@ fn three_axes_hiding_leaf_5() {
 
 #[test]
 fn three_axes_of_five_runs() {
-    let h = "daa25cca0f7ff2decc3b62c669c0669d0c5bc1926c386c254e4b9c87fdedf37b";
+    let h = "425bb668430d5000971a0c8319e32db2fdf5ce243cc32ccc5c60cf31be975953";
     let response = "203578515766775abbe268d359b2b900310ea699e388f9fd6097f8ca25347ee5";
     let opening = "dffca5c0124afbc20046fdd34665fddfa327d68ee6f298bedbc4b8227c6e6277";
     assert_exchange((9, 4, 3, 3, 2), &[7, 5, 7, 0, 3], 2, [h, response, opening]);
@@ -83,7 +83,7 @@ fn three_axes_of_five_runs() {
 
 #[test]
 fn greatest_k_w_and_t_of_two_runs() {
-    let h = "5d9c1dcdad078b87537f42d78ca977607691c90f16b1572879948dfdbdab573f";
+    let h = "56ff1280266d5b730aee4580e6708f88ffa31653a13981531c1c14b34487cec6";
     let response = "bf328784892673f4facc19100a81da51602547abad808b51c2286b9356efc5e1";
     let opening = "6ac7db9d234c5c9122accae92cf28ae0bc594cb367d9223f1a239160b44df0f1";
     assert_exchange((12, 11, 12, 2, 8), &[1, 3], 12, [h, response, opening]);
@@ -91,7 +91,7 @@ fn greatest_k_w_and_t_of_two_runs() {
 
 #[test]
 fn greatest_m_and_k() {
-    let h = "e32af934f1151d8ff2e08eaf5c9fbd4cd4b5722d4b7ef36d2b1a823cccfda16c";
+    let h = "36a433e256b68b3fba3331eb98f73b058c2e5b28a1d0d0ba913f17d34b6ba9ce";
     let response = "15a25b2235010eb4f145b5e7104aff4c02e089223c2b23c694942fc9d70455c8";
     let opening = "bdab226d2bafa9985a9685e08e4667f49a4f459225e9bc0662d6beec4c165a88";
     assert_exchange((255, 254, 1, 1, 1), &[0], 1, [h, response, opening]);
@@ -99,7 +99,7 @@ fn greatest_m_and_k() {
 
 #[test]
 fn eight_axes_of_two_runs() {
-    let h = "a68b03c20604e41beef553036add3df27740faabf4bae82d772eeab394b2f5b6";
+    let h = "3a9a710138d3867e001f9d0b041b0565ca32ba964983357fd31d1ebea1a9f9f3";
     let response = "d9c1f8b90eb2fb18becd68011f160ae93cf47ebf2430a8e92129bab4c8758007";
     let opening = "e31d9bc73da661c3667cf6a5f7acc5c592b4efdaa3dad9bde5b1428ba6352902";
     assert_exchange((40, 15, 9, 8, 1), &[200, 255], 7, [h, response, opening]);
@@ -107,7 +107,7 @@ fn eight_axes_of_two_runs() {
 
 #[test]
 fn shipped_set_hiding_leaf_17() {
-    let h = "9167fa5e00517de7db7e406b0dcf3438687e27d3aafa21edce16bb3eba5bd416";
+    let h = "2d303eeeb404c1e5feb02abe2e2a66671c94fd94dd25eca157f001dcec1adb43";
     let response = "d5ab482c22c3ca3b2845c9e741401f787be339100095b2ecbae7e20ed2aa15f8";
     let opening = "4aaccdded84d7e3aca206052e08b987ffa12bcfab040e9c2c1a34eab558b94e7";
     assert_exchange((230, 126, 79, 8, 3), &[17], 79, [h, response, opening]);
@@ -115,7 +115,7 @@ fn shipped_set_hiding_leaf_17() {
 
 #[test]
 fn shipped_set_of_two_runs() {
-    let h = "9c0220e9a41479ecc886561bfe6146af3c80c4fe5c07a8ff347c485f1393e327";
+    let h = "4c037a5337e03e2dc61a23d60bc3e5900a7e214c24b5a214556d5e2c01eaddf9";
     let response = "3660c01425fa17df514f03f18b1cfff223bfb86b31ef088d73e8260fcceb4ab1";
     let opening = "b22d0972800907fac058878fa934b37e41cdf56c07acee325b83629c16f894cb";
     assert_exchange((230, 126, 79, 8, 3), &[255, 17], 79, [h, response, opening]);
@@ -123,7 +123,7 @@ fn shipped_set_of_two_runs() {
 
 #[test]
 fn greatest_run_count() {
-    let h = "16a411f5ebbc1757c2b27db600567872451fe6ff82bf8f5a484227b9f787c474";
+    let h = "a386889c4a8149084d14af6af140e3d331aeab7b12508d2bb937e5bb9dcc16e7";
     let response = "c061aa5f09f4eb182a393fd5879876034e07623a6f541eccba509f8df7214219";
     let opening = "849c3b4597cd7b30365672a6c5ac7c7e52519c48394018557ff32b5473d991bf";
     assert_exchange((7, 3, 2, 2, 1), &std::array::from_fn::<u8, 32, _>(|run| run as u8 % 4), 2, [h, response, opening]);

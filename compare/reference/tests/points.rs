@@ -98,7 +98,7 @@ impl Sample {
     fn verifier(&self) -> Verifier {
         let mut verifier = Verifier::default();
         let message_1 = vec![7; Parameters::message_1_bytes(self.runs)];
-        assert_eq!(verifier.begin(self.set(), self.runs, &message_1, self.key.public()), CARRIED_OUT);
+        assert_eq!(verifier.begin(self.set(), self.runs, &message_1), CARRIED_OUT);
         verifier
     }
 
@@ -326,9 +326,8 @@ fn state_comes_before_14() {
 /// The verifier's five calls on an exchange.
 fn verifier_calls(sample: &Sample, exchange: &Exchange) -> [VerifierCall; 5] {
     let (parameters, runs) = (sample.set(), sample.runs);
-    let LentBytes { matrix, y, .. } = sample.lent();
     [
-        VerifierCall::Begin { parameters, runs, message_1: exchange.message_1.clone(), matrix, y },
+        VerifierCall::Begin { parameters, runs, message_1: exchange.message_1.clone() },
         VerifierCall::Points { message_2: exchange.message_2.clone() },
         VerifierCall::Response { message_3: exchange.message_3.clone() },
         VerifierCall::Leaf { leaves: exchange.leaves.clone() },
@@ -424,8 +423,8 @@ fn extractor_answers_1_and_2_before_14() {
     }
 }
 
-/// Where message 2 starts in a prover's session: behind phase, parameters, run count, x, salt, root and key digest.
-const PROVER_MESSAGE_2: usize = 7 + 255 + 32 + 16 + 32;
+/// Where message 2 starts in a prover's session: behind phase, parameters, run count, x, salt and root.
+const PROVER_MESSAGE_2: usize = 7 + 255 + 32 + 16;
 /// Where message 2 starts in a verifier's session: behind phase, parameters, run count and message 1.
 const VERIFIER_MESSAGE_2: usize = 7 + 1056;
 

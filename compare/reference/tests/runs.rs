@@ -61,7 +61,7 @@ fn messages_are_those_of_the_runs() {
         let (mut message_1, mut message_3, mut message_5) = (start.salt.to_vec(), vec![], vec![]);
         for (run, challenge) in challenges(&set, &start.message_2).iter().enumerate() {
             let committed = Committed::new(&set, &Run::new(&start.salt, run, &start.root), &witness);
-            message_1.extend(committed.h(&key.public().digest(&set)));
+            message_1.extend(committed.h());
             message_3.extend(committed.response(challenge, key.public()));
             message_5.extend(committed.opening(challenge, leaves[run], key.public()).to_bytes());
         }

@@ -7,7 +7,7 @@ use reference::numbers::*;
 use reference::parameters::Parameters;
 use reference::points_field::Point;
 use reference::prover::Prover;
-use reference::sampling::calls::{ExtractorCall, LentBytes, ProverInput, VerifierCall};
+use reference::sampling::calls::{ExtractorCall, ProverInput, VerifierCall};
 use reference::sampling::scripts::{extractor_call, prover_script, verifier_script, Size};
 use reference::sampling::Random;
 use reference::verifier::Verifier;
@@ -56,7 +56,7 @@ fn prover_scripts() {
             assert_eq!(effect.work, cleared(&call.lent.work, &parameters.expect("begun")));
         }
     }
-    assert_numbers(&counts, &[0, 1, 2, 3, 4, 11, 12, 13, 14, 15]);
+    assert_numbers(&counts, &[0, 1, 2, 3, 4, 11, 12, 13, 14]);
 }
 
 #[test]
@@ -83,7 +83,7 @@ fn verifier_scripts() {
             }
         }
     }
-    assert_numbers(&counts, &[0, 1, 2, 4, 5, 7, 11, 12, 14, 15]);
+    assert_numbers(&counts, &[0, 1, 2, 4, 5, 7, 11, 12, 14]);
 }
 
 /// Asserts that just the parts of the runs whose leaves differ are written.
@@ -223,7 +223,7 @@ fn hidden_cases(call: &ExtractorCall) -> Vec<&'static str> {
 fn extractor_calls_repeat_points() {
     let mut random = Random::new(65);
     let mut met = Cases::new();
-    for _ in 0..3000 {
+    for _ in 0..2000 {
         let call = extractor_call(&mut random, Size { greatest_m: 5, greatest_axes: 2 });
         let lengths = [&call.first, &call.second].map(|exchange| exchange.message_2.len());
         let cases = match call.make().0 {
@@ -245,82 +245,4 @@ fn extractor_calls_repeat_points() {
     let behind = ["14 alone", "14 before 4", "14 before 8", "14 before 9"];
     assert_met(&met, 20, &["first", "second", "both", "2 before 14", "three bytes"]);
     assert_met(&met, 20, &behind);
-}
-
-/// The parameters, matrix and y of the begin that a session holds.
-type Held = Option<(Parameters, Vec<u8>, Vec<u8>)>;
-
-/// Whether matrix and y have their lengths and are not those held.
-fn another_key(held: &Held, matrix: &[u8], y: &[u8]) -> bool {
-    let lengths = |m: &[u8], y: &[u8]| (m.len(), y.len());
-    held.as_ref().is_some_and(|(_, m, s)| lengths(m, s) == lengths(matrix, y) && (&m[..], &s[..]) != (matrix, y))
-}
-
-/// What a call that was lent another key met, by the number that it got; `again` is whether the call before it got 15.
-fn key_case(other: bool, again: bool, number: Number) -> Option<&'static str> {
-    match number {
-        OTHER_KEY if again => Some("15 again"),
-        OTHER_KEY => Some("15"),
-        WRONG_LENGTH if other => Some("2 before 15"),
-        POINT_REPEATED if other => Some("14 before 15"),
-        NOT_DUE if other => Some("11 before 15"),
-        CLOSED if other => Some("12 before 15"),
-        CARRIED_OUT | COMMITMENT_DIFFERS | RESPONSE_DIFFERS if again => Some("15, then carried out"),
-        _ => None,
-    }
-}
-
-/// Whether a leaf is not below n under the parameters held.
-fn beyond(held: &Held, leaves: &[u8]) -> bool {
-    held.as_ref().is_some_and(|(set, _, _)| set.check_leaves(leaves).is_err())
-}
-
-#[test]
-fn prover_scripts_lend_other_keys() {
-    let mut random = Random::new(66);
-    let mut met = Cases::new();
-    for _ in 0..200 {
-        let (mut prover, mut held, mut again) = (Prover::default(), Held::None, false);
-        for call in prover_script(&mut random, SIZE, 40) {
-            let number = call.make(&mut prover).number;
-            let LentBytes { matrix, y, .. } = call.lent;
-            let case = match &call.input {
-                ProverInput::Begin { .. } => None,
-                ProverInput::Leaf { leaves } if number == OTHER_KEY && beyond(&held, leaves) => Some("15 before 4"),
-                _ => key_case(another_key(&held, &matrix, &y), again, number),
-            };
-            case.into_iter().for_each(|case| *met.entry(case).or_default() += 1);
-            again = number == OTHER_KEY;
-            if let (ProverInput::Begin { parameters, .. }, CARRIED_OUT) = (call.input, number) {
-                held = Some((parameters, matrix, y));
-            }
-        }
-    }
-    assert_met(&met, 20, &["15", "2 before 15", "14 before 15", "15 again", "15, then carried out", "11 before 15"]);
-    assert_met(&met, 5, &["15 before 4", "12 before 15"]);
-}
-
-#[test]
-fn verifier_scripts_lend_other_keys() {
-    let mut random = Random::new(67);
-    let mut met = Cases::new();
-    for _ in 0..200 {
-        let (mut verifier, mut held, mut again) = (Verifier::default(), Held::None, false);
-        for call in verifier_script(&mut random, SIZE, 60) {
-            let number = call.make(&mut verifier).number;
-            let case = match &call {
-                VerifierCall::Opening { lent, .. } => {
-                    key_case(another_key(&held, &lent.matrix, &lent.y), again, number)
-                }
-                _ => None,
-            };
-            case.into_iter().for_each(|case| *met.entry(case).or_default() += 1);
-            again = number == OTHER_KEY;
-            if let (VerifierCall::Begin { parameters, matrix, y, .. }, CARRIED_OUT) = (call, number) {
-                held = Some((parameters, matrix, y));
-            }
-        }
-    }
-    assert_met(&met, 20, &["15", "15, then carried out"]);
-    assert_met(&met, 5, &["2 before 15", "15 again", "11 before 15"]);
 }

@@ -1,5 +1,6 @@
 //! Sessions: which call is due, the order of the numbers, and what a refused call leaves as it was.
 
+use reference::messages::part;
 use reference::numbers::*;
 use reference::parameters::Parameters;
 use reference::prover::Prover;
@@ -283,15 +284,42 @@ fn state_comes_before_lengths_and_leaves() {
     refuse(&mut prover, &damaged_points, CLOSED);
 }
 
+/// x is held; the parties take the matrix and y of each call.
+#[test]
+fn matrix_and_y_are_those_of_the_call() {
+    let run = |damaged: [bool; 3]| -> [Vec<u8>; 3] {
+        let mut prover = Prover::default();
+        let mut calls = [begin_with(1, 1), points(), leaf(2)];
+        for (call, _) in calls.iter_mut().zip(damaged).filter(|(_, damaged)| *damaged) {
+            call.lent.matrix[3] ^= 1;
+            call.lent.y[0] ^= 1;
+        }
+        calls.map(|call| carry_out(&mut prover, &call))
+    };
+    let plain = run([false; 3]);
+    let other_points = run([false, true, false]);
+    let other_leaf = run([false, false, true]);
+    assert_eq!(plain[0], other_points[0]);
+    assert_ne!(plain[1], other_points[1]);
+    assert_eq!(plain[2], other_points[2]);
+    assert_eq!(plain[..2], other_leaf[..2]);
+    let beta = 16 * SET.axes + 32 + 4 * SET.t;
+    for run in 0..RUNS {
+        let [plain, other_leaf] = [&plain, &other_leaf].map(|given| part(&given[2], run, SET.opening_bytes(2)));
+        assert_eq!(plain[..beta], other_leaf[..beta]);
+        assert_ne!(plain[beta..beta + 4 * SET.t], other_leaf[beta..beta + 4 * SET.t]);
+        assert_eq!(plain[beta + 4 * SET.t..], other_leaf[beta + 4 * SET.t..]);
+    }
+}
+
 fn sample_exchange(leaf: u8) -> Exchange {
     honest_exchange(&sample_key(), &sample_start(), &leaves(leaf))
 }
 
 /// The verifier's five calls on an exchange.
 fn verifier_calls(exchange: &Exchange) -> [VerifierCall; 5] {
-    let LentBytes { matrix, y, .. } = lent();
     [
-        VerifierCall::Begin { parameters: SET, runs: RUNS, message_1: exchange.message_1.clone(), matrix, y },
+        VerifierCall::Begin { parameters: SET, runs: RUNS, message_1: exchange.message_1.clone() },
         VerifierCall::Points { message_2: exchange.message_2.clone() },
         VerifierCall::Response { message_3: exchange.message_3.clone() },
         VerifierCall::Leaf { leaves: exchange.leaves.clone() },
@@ -364,27 +392,19 @@ fn verifier_leaf_refuses_with_2_before_4() {
     assert_eq!(verifier.leaf(&[7, 7]), CARRIED_OUT);
 }
 
-/// A verifier's begin whose message 1, matrix and y are zeros of these lengths.
-fn verifier_begin(parameters: Parameters, runs: usize, lengths: [usize; 3]) -> VerifierCall {
-    let [message_1, matrix, y] = lengths.map(|length| vec![0; length]);
-    VerifierCall::Begin { parameters, runs, message_1, matrix, y }
-}
-
 #[test]
 fn verifier_begin_refuses_with_1_before_2() {
     let exchange = sample_exchange(5);
     for calls in [0, 3, 5] {
         let mut verifier = verifier_after(&exchange, calls);
         for length in [0, 64, 95, 97, 32 + 32 * 33] {
+            let message_1 = vec![0; length];
             for (parameters, runs) in [(Parameters { axes: 9, ..SET }, RUNS), (SET, 0), (SET, 33)] {
-                let outside = verifier_begin(parameters, runs, [length, 20, 5]);
+                let outside = VerifierCall::Begin { parameters, runs, message_1: message_1.clone() };
                 verifier_refuses(&mut verifier, &outside, PARAMETER_OUTSIDE_LIMITS);
             }
-            verifier_refuses(&mut verifier, &verifier_begin(SET, RUNS, [length, 20, 5]), WRONG_LENGTH);
-        }
-        for lengths in [[96, 19, 5], [96, 21, 5], [96, 0, 5], [96, 20, 4], [96, 20, 6], [96, 20, 0], [96, 5, 20]] {
-            verifier_refuses(&mut verifier, &verifier_begin(SET, RUNS, lengths), WRONG_LENGTH);
-            verifier_refuses(&mut verifier, &verifier_begin(SET, 33, lengths), PARAMETER_OUTSIDE_LIMITS);
+            let short = VerifierCall::Begin { parameters: SET, runs: RUNS, message_1 };
+            verifier_refuses(&mut verifier, &short, WRONG_LENGTH);
         }
     }
 }
@@ -453,14 +473,14 @@ fn flipped(mut session: Vec<u8>, place: usize, bit: usize) -> Vec<u8> {
 fn sessions_are_stored_and_read_back() {
     let mut prover = Prover::default();
     for call in [begin_with(1, 1), points(), leaf(2)] {
-        assert_eq!(prover.to_bytes().len(), 2390);
+        assert_eq!(prover.to_bytes().len(), 2358);
         assert_eq!(Prover::from_bytes(&prover.to_bytes()), prover);
         carry_out(&mut prover, &call);
     }
     assert_eq!(Prover::from_bytes(&prover.to_bytes()), prover);
     for calls in 0..=5 {
         let verifier = verifier_after(&sample_exchange(5), calls);
-        assert_eq!(verifier.to_bytes().len(), 4199);
+        assert_eq!(verifier.to_bytes().len(), 4167);
         assert_eq!(Verifier::from_bytes(&verifier.to_bytes()), verifier);
     }
 }
@@ -536,7 +556,7 @@ fn damaged_phases_are_closed() {
 }
 
 /// Where the leaves start in a verifier's session.
-const LEAVES: usize = 4199 - 32;
+const LEAVES: usize = 4167 - 32;
 
 /// What a verifier keeps past the messages of its runs is not looked at, and later calls leave it.
 #[test]

@@ -114,8 +114,7 @@ fn edges_of_axes_and_positions() {
 fn begins_answer_1_at_the_edges() {
     for set in [(256, 1, 1, 1, 1), (9, 9, 1, 1, 1), (9, 4, 1, 9, 1), (9, 4, 1, 1, 9)] {
         let parameters = Parameters::new(set.0, set.1, set.2, set.3, set.4);
-        let key = PublicKey { matrix: &[], y: &[] };
-        assert_eq!(Verifier::default().begin(parameters, 1, &[0; 64], key), PARAMETER_OUTSIDE_LIMITS);
+        assert_eq!(Verifier::default().begin(parameters, 1, &[0; 64]), PARAMETER_OUTSIDE_LIMITS);
         let input = ProverInput::Begin { parameters, runs: 1, x_a: vec![], salt: vec![], root: vec![] };
         let call = ProverCall { input, lent: LentBytes::default(), output: vec![] };
         assert_eq!(call.make(&mut Prover::default()).number, PARAMETER_OUTSIDE_LIMITS);
@@ -152,7 +151,7 @@ fn leaves_7_and_8_at_three_axes() {
     assert_eq!(leaf(8, longer).make(&mut prover_at_leaf(&key)).number, LEAF_NOT_BELOW_N);
     assert_eq!(leaf(8, shorter).make(&mut prover_at_leaf(&key)).number, WRONG_LENGTH);
     let mut verifier = Verifier::default();
-    assert_eq!(verifier.begin(set, 1, &[0; 64], key.public()), 0);
+    assert_eq!(verifier.begin(set, 1, &[0; 64]), 0);
     assert_eq!(verifier.points(&[0, 0, 0, 0, 0, 0, 0, 1, 0, 0, 0, 0, 0, 0, 0, 0]), 0);
     assert_eq!(verifier.response(&[0; 32]), 0);
     assert_eq!(verifier.leaf(&[8]), LEAF_NOT_BELOW_N);

@@ -4,7 +4,7 @@
 use crate::count::Count;
 use crate::effects::{answers, require};
 use crate::{prover, verifier};
-use reference::numbers::{Number, CARRIED_OUT, CLOSED, OTHER_KEY, SALT_AND_ROOT_HELD};
+use reference::numbers::{CARRIED_OUT, CLOSED, SALT_AND_ROOT_HELD};
 use reference::prover::Prover;
 use reference::sampling::calls::{ProverCall, VerifierCall};
 use reference::sampling::exchanges::{honest_exchange, Start};
@@ -13,7 +13,6 @@ use reference::sampling::made_up::any_leaves;
 use reference::sampling::parameter_sets::random_set;
 use reference::sampling::Random;
 use reference::verifier::Verifier;
-use std::ops::Range;
 
 /// The bits of the phase, the first byte of a session.
 const PHASE: usize = 8;
@@ -22,16 +21,11 @@ const FRONT: usize = 8 * 7;
 /// The bits in front of a prover's salt and root: phase, parameters, run count and x.
 const BEFORE_SALT: usize = 8 * (7 + 255);
 
-/// The bits of a prover's key digest, behind salt and root.
-const PROVER_DIGEST: Range<usize> = 8 * (7 + 255 + 48)..8 * (7 + 255 + 48 + 32);
-/// The bits of a verifier's key digest, behind messages 1 to 3.
-const VERIFIER_DIGEST: Range<usize> = 8 * (7 + 1056 + 2048 + 1024)..8 * (7 + 1056 + 2048 + 1024 + 32);
-
-/// Some different bits of a range.
-fn some_bits(random: &mut Random, number: usize, range: &Range<usize>) -> Vec<usize> {
+/// Some different bits of the first so many.
+fn some_bits(random: &mut Random, number: usize, range: usize) -> Vec<usize> {
     let mut bits = Vec::new();
     while bits.len() < number {
-        let bit = random.between(range.start, range.end - 1);
+        let bit = random.below(range);
         if !bits.contains(&bit) {
             bits.push(bit);
         }
@@ -46,13 +40,13 @@ fn phase_bits() -> Vec<Vec<usize>> {
 }
 
 /// Bits to flip in a session of so many bytes: up to three of the phase, every single one of the parameters and the run
-/// count, and one to three among these first ones, in the key digest or anywhere.
-fn damages(random: &mut Random, size: usize, digest: Range<usize>) -> Vec<Vec<usize>> {
+/// count, and one to three among these first ones or anywhere.
+fn damages(random: &mut Random, size: usize) -> Vec<Vec<usize>> {
     let mut all = phase_bits();
     all.extend((PHASE..FRONT).map(|bit| vec![bit]));
     for number in 1..=3 {
-        for range in [0..FRONT, digest.clone(), 0..8 * size] {
-            all.extend((0..12).map(|_| some_bits(random, number, &range)));
+        for range in [FRONT, 8 * size] {
+            all.extend((0..12).map(|_| some_bits(random, number, range)));
         }
     }
     all
@@ -71,14 +65,6 @@ fn is_closed(bits: &[usize], was_closed: bool) -> bool {
     was_closed || bits.iter().any(|&bit| bit < PHASE)
 }
 
-/// Asks 15 of a call that is due and takes the key, if only the key digest was damaged.
-fn answers_15(number: Number, bits: &[usize], digest: &Range<usize>) -> Result<(), String> {
-    if bits.iter().all(|bit| digest.contains(bit)) {
-        answers(number, OTHER_KEY)?;
-    }
-    Ok(())
-}
-
 /// Each call of an exchange, made of a prover's session with flipped bits that had carried out the first so many of them.
 fn damaged_prover(
     calls: &[ProverCall],
@@ -94,9 +80,6 @@ fn damaged_prover(
         let number = prover::compare_one(call, &mut expected, &mut found, count)?;
         if place > 0 && is_closed(bits, done == calls.len()) {
             answers(number, CLOSED)?;
-        }
-        if place > 0 && place == done {
-            answers_15(number, bits, &PROVER_DIGEST)?;
         }
         if place == 0 && done > 0 && bits.iter().all(|&bit| bit < BEFORE_SALT) {
             answers(number, SALT_AND_ROOT_HELD)?;
@@ -122,8 +105,6 @@ fn damaged_verifier(
             answers(number, CARRIED_OUT)?;
         } else if is_closed(bits, done == calls.len()) {
             answers(number, CLOSED)?;
-        } else if place == 4 && done == 4 {
-            answers_15(number, bits, &VERIFIER_DIGEST)?;
         }
     }
     Ok(())
@@ -152,7 +133,7 @@ pub fn provers(seed: u64, exchanges: usize, count: &mut Count) {
         for done in 0..=calls.len() {
             let name = format!("prover's session of exchange {exchange} after {done} calls");
             count.settle(&name, require(session.bytes() == expected.to_bytes(), "another session"));
-            for bits in damages(&mut random, session.bytes().len(), PROVER_DIGEST) {
+            for bits in damages(&mut random, session.bytes().len()) {
                 let outcome = damaged_prover(&calls, done, session.bytes(), &bits, count);
                 count.settle(&format!("{name}, bits {bits:?} flipped"), outcome);
             }
@@ -175,7 +156,7 @@ pub fn verifiers(seed: u64, exchanges: usize, count: &mut Count) {
         for done in 0..=calls.len() {
             let name = format!("verifier's session of exchange {exchange} after {done} calls");
             count.settle(&name, require(session.bytes() == expected.to_bytes(), "another session"));
-            for bits in damages(&mut random, session.bytes().len(), VERIFIER_DIGEST) {
+            for bits in damages(&mut random, session.bytes().len()) {
                 let outcome = damaged_verifier(&calls, done, session.bytes(), &bits, count);
                 count.settle(&format!("{name}, bits {bits:?} flipped"), outcome);
             }

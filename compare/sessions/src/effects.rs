@@ -29,9 +29,7 @@ pub fn make_prover(call: &ProverCall, prover: &mut unlock::prover::Prover) -> Ef
 pub fn make_verifier(call: &VerifierCall, verifier: &mut unlock::verifier::Verifier) -> Effect {
     let mut work = Vec::new();
     let number = match call {
-        VerifierCall::Begin { parameters: p, runs, message_1, matrix, y } => {
-            verifier.begin(&set_of(p), *runs as u64, message_1, matrix, y)
-        }
+        VerifierCall::Begin { parameters: p, runs, message_1 } => verifier.begin(&set_of(p), *runs as u64, message_1),
         VerifierCall::Points { message_2 } => verifier.points(message_2),
         VerifierCall::Response { message_3 } => verifier.response(message_3),
         VerifierCall::Leaf { leaves } => verifier.leaf(leaves),

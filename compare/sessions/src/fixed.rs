@@ -52,10 +52,6 @@ fn calls() -> Vec<(&'static str, ProverCall)> {
     let points = |length: usize| ProverInput::Points { message_2: message_2[..length].to_vec() };
     let leaf = |leaves: &[u8]| ProverInput::Leaf { leaves: leaves.to_vec() };
     let call = |input, length| ProverCall { input, lent: lent.clone(), output: vec![0x5a; length] };
-    let other_y = |mut call: ProverCall| {
-        call.lent.y.fill(0);
-        call
-    };
     let short_y = {
         let mut call = call(begin(SHIPPED, &x_a, &root), 96);
         call.lent.y.pop();
@@ -80,9 +76,7 @@ fn calls() -> Vec<(&'static str, ProverCall)> {
         ("points", call(points(48), 64)),
         ("begin", call(begin(SHIPPED, &x_a, &root), 96)),
         ("begin", call(begin(SHIPPED, &x_a, &other_root), 96)),
-        ("points", other_y(call(points(48), 64))),
         ("points", call(points(48), 64)),
-        ("leaf", other_y(call(leaf(&[255, 255]), 368))),
         ("leaf", call(leaf(&[255, 255]), 368)),
     ]
 }

@@ -6,12 +6,10 @@ pub mod damaged;
 pub mod effects;
 pub mod extractor;
 pub mod fixed;
-pub mod keys;
 pub mod made_up;
 pub mod points;
 pub mod prover;
 pub mod sets;
-pub mod steps;
 pub mod verifier;
 
 use reference::sampling::scripts::Size;

@@ -3,7 +3,7 @@
 //! sessions_comparison SEED     what the gate runs; the last line is 'N passed, M failed'
 
 use sessions_comparison::count::Count;
-use sessions_comparison::{damaged, extractor, fixed, keys, made_up, points, prover, sets, verifier};
+use sessions_comparison::{damaged, extractor, fixed, made_up, points, prover, sets, verifier};
 
 fn main() {
     let seed = match std::env::args().nth(1).map(|word| word.parse()) {
@@ -36,7 +36,6 @@ fn main() {
     made_up::repeated_points(seed, &mut count);
     made_up::pairs(seed, &mut count);
     points::compare(seed, &mut count);
-    keys::compare(seed, &mut count);
     count.settle_number_6();
     std::process::exit(count.finish());
 }

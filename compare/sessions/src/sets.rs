@@ -47,9 +47,9 @@ fn prover_begin(call: &ProverCall, set: &[u64], session: &[u8]) -> Result<(), St
 }
 
 fn verifier_begin(call: &VerifierCall, set: &[u64], session: &[u8]) -> Result<(), String> {
-    let VerifierCall::Begin { runs, message_1, matrix, y, .. } = call else { return Ok(()) };
+    let VerifierCall::Begin { runs, message_1, .. } = call else { return Ok(()) };
     let mut found = unlock::verifier::Verifier::from_bytes(session.to_vec());
-    let number = found.begin(set, *runs as u64, message_1, matrix, y);
+    let number = found.begin(set, *runs as u64, message_1);
     refused(number.into(), found.bytes() == session)
 }
 
@@ -59,12 +59,6 @@ fn extract(call: &ExtractorCall, set: &[u64]) -> Result<(), String> {
     let (runs, LentBytes { matrix, y, .. }) = (call.runs as u64, &call.lent);
     let number = unlock::extractor::extract(set, runs, first, second, matrix, y, &mut work, &mut output);
     refused(number, work == call.lent.work && output == call.output)
-}
-
-fn key_digest(lent: &LentBytes, set: &[u64]) -> Result<(), String> {
-    let mut output = [0xa5; 32];
-    let number = unlock::key_digest(set, &lent.matrix, &lent.y, &mut output);
-    refused(number.into(), output == [0xa5; 32])
 }
 
 fn no_sizes(set: &[u64]) -> Result<(), String> {
@@ -115,7 +109,6 @@ pub fn of_other_lengths(seed: u64, exchanges: usize, count: &mut Count) {
             provers(&prover_calls, &set, &name, count);
             verifiers(&verifier_calls, &set, &name, count);
             count.settle(&format!("extractor, {name}"), extract(&extractor_call, &set));
-            count.settle(&format!("key digest, {name}"), key_digest(&extractor_call.lent, &set));
             count.settle(&format!("sizes, {name}"), no_sizes(&set));
         }
     }

@@ -82,8 +82,6 @@ pub fn calls(random: &mut Random, key: &Key, exchange: &Exchange) -> Vec<Verifie
             parameters: key.parameters,
             runs: exchange.runs(),
             message_1: exchange.message_1.clone(),
-            matrix: key.matrix.clone(),
-            y: key.y.clone(),
         },
         VerifierCall::Points { message_2: exchange.message_2.clone() },
         VerifierCall::Response { message_3: exchange.message_3.clone() },

@@ -1,6 +1,5 @@
 //! A module of facts in the prover's language: values, and equations that hold by computing.
 
-use crate::sample::{Other, Sample};
 use reference::parameters::Parameters;
 use reference::sampling::exchanges::Exchange;
 use reference::sampling::keys::Key;
@@ -129,14 +128,6 @@ impl Module {
     pub fn key(&mut self, key: &Key) {
         self.value("p", "Parameters", &parameters(&key.parameters));
         self.value("key", "Key", &public_key(&key.matrix, &key.y));
-    }
-
-    /// The other keys of a sample by their names.
-    pub fn other_keys(&mut self, sample: &Sample) {
-        for (name, other) in Other::NAMED {
-            let Key { matrix, y, .. } = sample.other_key(other);
-            self.value(name, "Key", &public_key(&matrix, &y));
-        }
     }
 
     /// A list of bytes by a name.

@@ -171,7 +171,6 @@ fn refused(honest: &ExtractorCall) -> Vec<(&'static str, ExtractorCall)> {
         ("multiplier_differs", with([&same_leaves, &multiplier])),
         ("same_leaves", with([&commitment, &same_leaves])),
         ("commitment_differs", with([&commitment, &alpha])),
-        ("other_key", with([&|call| call.lent.y[0] ^= 1, &alpha])),
     ]
 }
 

@@ -9,7 +9,6 @@
 
 mod antt;
 mod extractor;
-mod keys;
 mod layout;
 mod messages;
 mod prover;
@@ -42,13 +41,11 @@ fn crates() -> [Crate; 2] {
     let small_square = Sample::new(5, Parameters::new(2, 1, 1, 2, 1), 1, 1);
     let two_runs = Sample::new(6, Parameters::new(2, 1, 1, 1, 1), 1, 2);
     let three_positions = Sample::new(7, Parameters::new(2, 1, 1, 1, 3), 1, 2);
-    let two_points = Sample::new(8, Parameters::new(2, 1, 1, 1, 2), 1, 1);
     let [one_axis_findings, two_axes_findings] = extractor::findings(&small, &small_square);
     let title = "m 5, k 3, w 2, D 2, t 1, one run; x has one nonzero entry, so E is filled.";
     let exchange = vec![
         layout::module(),
         runs::module(&two_runs),
-        keys::module(&two_points, &two_axes),
         messages::module("OneAxis", "m 3, k 1, w 2, D 1, t 1, one run.", &one_axis, &[0], Extent::Verdicts),
         one_axis_findings,
         messages::module("TwoPositions", "m 3, k 2, w 1, D 1, t 2, one run.", &two_positions, &[0], Extent::Messages),
@@ -60,10 +57,8 @@ fn crates() -> [Crate; 2] {
     let calls = vec![
         prover::calls(&two_runs),
         prover::points(&three_positions),
-        prover::keys(&two_points),
         verifier::calls(&two_runs),
         verifier::points(&three_positions),
-        verifier::keys(&two_points),
         extractor::calls(&two_runs),
         extractor::points(&three_positions),
     ];

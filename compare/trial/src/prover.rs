@@ -1,12 +1,11 @@
 //! The prover's session: one call after another on one session, carried out and refused.
 
 use crate::antt::{list, parameters, public_key, record, Module};
-use crate::sample::{Other, Sample, OUTPUT, WORK};
+use crate::sample::{Sample, OUTPUT, WORK};
 use reference::numbers::CARRIED_OUT;
 use reference::parameters::Parameters;
 use reference::prover::Prover;
 use reference::sampling::calls::{Effect, LentBytes, ProverCall, ProverInput};
-use reference::sampling::keys::Key;
 
 const USES: [(&str, &[&str]); 2] = [
     ("Rattle·calls.specs.Prover", &["Prover", "Outcome", "fresh", "begin", "points", "leaf"]),
@@ -49,17 +48,6 @@ impl Script<'_> {
         self.module.fact(&format!("{name}-gives"), &computed, &expected);
     }
 
-    /// Makes calls and states what each gives, of one that is carried out the number alone.
-    fn make_all(&mut self, calls: Vec<(&str, ProverCall)>) {
-        for (label, call) in calls {
-            if call.make(&mut self.session.clone()).number == CARRIED_OUT {
-                self.answer(label, &call);
-            } else {
-                self.make(label, &call);
-            }
-        }
-    }
-
     /// Names the session with m 1 in place of the m that it holds, and goes on from it.
     fn damage(&mut self) {
         let mut session = self.session.to_bytes();
@@ -67,7 +55,7 @@ impl Script<'_> {
         self.session = Prover::from_bytes(&session);
         let held = |field: &str| format!("call{} .prover .{field}", self.made);
         let set = parameters(&Parameters { m: 1, ..self.sample.key.parameters });
-        let fields = ["phase", "runs", "x", "salt", "root", "digest", "message2"].map(|field| (field, held(field)));
+        let fields = ["phase", "runs", "x", "salt", "root", "message2"].map(|field| (field, held(field)));
         let term = record(&[&fields[..1], &[("parameters", set)], &fields[1..]].concat());
         self.module.comment("the session with m 1, which no call made");
         self.module.value("damaged", "Prover", &term);
@@ -260,61 +248,12 @@ pub fn points(sample: &Sample) -> Module {
     let mut module = Module::new("ProverPoints", &comment, &USES);
     name_lent(&mut module, sample, "ends", &sample.repeated(1, 0, 2));
     let mut script = Script { module, sample, session: Prover::default(), term: "fresh".into(), made: 0 };
-    script.make_all(points_calls(&script));
-    script.module
-}
-
-/// A call with another key.
-fn with_key(sample: &Sample, mut call: ProverCall, other: Other) -> ProverCall {
-    let Key { matrix, y, .. } = sample.other_key(other);
-    (call.lent.matrix, call.lent.y) = (matrix, y);
-    call
-}
-
-/// Points and leaf with another key, of one run with two positions: 15 behind 11, 12, 2 and 14 and before 4, again and again, and
-/// then the right key.
-fn keys_calls(script: &Script) -> Vec<(&'static str, ProverCall)> {
-    let sample = script.sample;
-    let set = sample.key.parameters;
-    let points = |other| with_key(sample, script.points(), other);
-    let leaf = |leaf, other| with_key(sample, script.leaf(&[leaf]), other);
-    let equal = with_key(sample, script.points_with(sample.repeated(0, 0, 1)), Other::Y);
-    let (last, beyond) = (set.last_leaf() as u8, set.leaves() as u8);
-    vec![
-        ("points with another y, before the first begin", points(Other::Y)),
-        ("begin", script.begin(0)),
-        ("points with another matrix", points(Other::Matrix)),
-        ("points with another y, the output a byte long", long_output(points(Other::Y))),
-        ("points with another y, both points equal", equal),
-        ("points with another y", points(Other::Y)),
-        ("points with another matrix and y", points(Other::Both)),
-        ("points", script.points()),
-        ("leaf n−1 with another matrix", leaf(last, Other::Matrix)),
-        ("leaf n with another y, the output a byte long", long_output(leaf(beyond, Other::Y))),
-        ("leaf n with another y", leaf(beyond, Other::Y)),
-        ("leaf n", script.leaf(&[beyond])),
-        ("leaf n−1 with another matrix and y", leaf(last, Other::Both)),
-        ("leaf n−1", script.leaf(&[last])),
-        ("leaf n−1 with another y, once closed", leaf(last, Other::Y)),
-    ]
-}
-
-/// The prover's calls with other keys on one session.
-pub fn keys(sample: &Sample) -> Module {
-    let comment = [
-        "The prover's points and leaf with another matrix, another y or both, each call made on the session that the call",
-        "before it left; the first on a fresh one.",
-        "",
-        "p, key, x_a, salt, root, m2         parameters, matrix and y, x_A, salt, root and message 2",
-        "other_matrix, other_y, other_both     other keys",
-        "work                               a work area, longer than its named length",
-        "call1, call2, ..                   the calls, with all that they are lent",
-        "call1-gives, ..                    the number that the call answers; of a refused one, then output and work area",
-    ];
-    let mut module = Module::new("ProverKeys", &comment, &USES);
-    name_lent(&mut module, sample, "m2", &sample.start.message_2);
-    module.other_keys(sample);
-    let mut script = Script { module, sample, session: Prover::default(), term: "fresh".into(), made: 0 };
-    script.make_all(keys_calls(&script));
+    for (label, call) in points_calls(&script) {
+        if call.make(&mut script.session.clone()).number == CARRIED_OUT {
+            script.answer(label, &call);
+        } else {
+            script.make(label, &call);
+        }
+    }
     script.module
 }

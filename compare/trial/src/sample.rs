@@ -12,23 +12,6 @@ pub const WORK: u8 = 0xa5;
 /// What a lent output holds.
 pub const OUTPUT: u8 = 0x5a;
 
-/// What of a key is changed.
-#[derive(Clone, Copy)]
-pub enum Other {
-    /// The matrix.
-    Matrix,
-    /// y.
-    Y,
-    /// Both.
-    Both,
-}
-
-impl Other {
-    /// Every one of them, with the name of a key that it is changed in.
-    pub const NAMED: [(&'static str, Other); 3] =
-        [("other_matrix", Other::Matrix), ("other_y", Other::Y), ("other_both", Other::Both)];
-}
-
 /// A key and what a prover starts an exchange with.
 pub struct Sample {
     /// The key.
@@ -45,18 +28,6 @@ impl Sample {
         let key = key_of_vector(&mut random, &set, &x);
         let message_2 = random.bytes(set.message_2_bytes(runs));
         Sample { key, start: Start { salt: random.array(), root: random.array(), message_2 } }
-    }
-
-    /// The key with one bit of its matrix, of y or of each changed.
-    pub fn other_key(&self, other: Other) -> Key {
-        let mut key = self.key.clone();
-        if !matches!(other, Other::Y) {
-            key.matrix[0] ^= 1;
-        }
-        if !matches!(other, Other::Matrix) {
-            key.y[0] ^= 0x80;
-        }
-        key
     }
 
     /// The run count.

@@ -1,12 +1,11 @@
 //! The verifier's session: one call after another on one session, carried out and refused.
 
 use crate::antt::{list, parameters, public_key, record, Module};
-use crate::sample::{changed, Other, Part, Sample, WORK};
+use crate::sample::{changed, Part, Sample, WORK};
 use reference::parameters::Parameters;
 use reference::runs::GREATEST_RUNS;
 use reference::sampling::calls::{LentBytes, VerifierCall};
 use reference::sampling::exchanges::Exchange;
-use reference::sampling::keys::Key;
 use reference::verifier::Verifier;
 
 const USES: [(&str, &[&str]); 2] = [
@@ -33,7 +32,7 @@ impl Script {
         session[place + 1] = set.leaves() as u8;
         self.session = Verifier::from_bytes(&session);
         let held = |field| (field, format!("call{} .verifier .{field}", self.made));
-        let fields = ["phase", "parameters", "runs", "message1", "message2", "message3", "digest"].map(held);
+        let fields = ["phase", "parameters", "runs", "message1", "message2", "message3"].map(held);
         let term = record(&[&fields[..], &[("leaves", list(&session[place..]))]].concat());
         self.module.comment("the session with leaf n in run 1, which no call made");
         self.module.value("damaged", "Verifier", &term);
@@ -44,9 +43,8 @@ impl Script {
     fn term(&self, call: &VerifierCall) -> String {
         let (module, session) = (&self.module, &self.term);
         match call {
-            VerifierCall::Begin { parameters: set, runs, message_1, matrix, y } => {
-                let (set, key) = (module.argument(&parameters(set)), module.argument(&public_key(matrix, y)));
-                format!("begin stand_in {session} {set} {runs} {} {key}", module.list(message_1))
+            VerifierCall::Begin { parameters: set, runs, message_1 } => {
+                format!("begin {session} {} {runs} {}", module.argument(&parameters(set)), module.list(message_1))
             }
             VerifierCall::Points { message_2 } => format!("points {session} {}", module.list(message_2)),
             VerifierCall::Response { message_3 } => format!("response {session} {}", module.list(message_3)),
@@ -96,9 +94,12 @@ fn lent(sample: &Sample) -> LentBytes {
 
 /// The five calls of an exchange.
 fn five_calls(sample: &Sample, exchange: &Exchange) -> [VerifierCall; 5] {
-    let Key { parameters, matrix, y, .. } = sample.key.clone();
     [
-        VerifierCall::Begin { parameters, runs: sample.runs(), message_1: exchange.message_1.clone(), matrix, y },
+        VerifierCall::Begin {
+            parameters: sample.key.parameters,
+            runs: sample.runs(),
+            message_1: exchange.message_1.clone(),
+        },
         VerifierCall::Points { message_2: exchange.message_2.clone() },
         VerifierCall::Response { message_3: exchange.message_3.clone() },
         VerifierCall::Leaf { leaves: exchange.leaves.clone() },
@@ -115,10 +116,7 @@ fn short(message: &[u8]) -> Vec<u8> {
 /// first in the order counts.
 fn first_calls(sample: &Sample, honest: &Exchange) -> Vec<(&'static str, VerifierCall)> {
     let set = sample.key.parameters;
-    let short_begin = |parameters, runs| {
-        let Key { matrix, y, .. } = sample.key.clone();
-        VerifierCall::Begin { parameters, runs, message_1: short(&honest.message_1), matrix, y }
-    };
+    let short_begin = |parameters, runs| VerifierCall::Begin { parameters, runs, message_1: short(&honest.message_1) };
     let short_response = VerifierCall::Response { message_3: short(&honest.message_3) };
     let short_opening = VerifierCall::Opening { message_5: short(&honest.message_5), lent: lent(sample) };
     let leaves = |leaves: &[u8]| VerifierCall::Leaf { leaves: leaves.to_vec() };
@@ -148,16 +146,6 @@ fn first_calls(sample: &Sample, honest: &Exchange) -> Vec<(&'static str, Verifie
     ]
 }
 
-/// Names the key, the messages of an exchange, and a work area longer than its named length.
-fn name_lent(module: &mut Module, sample: &Sample, exchange: &Exchange) {
-    module.key(&sample.key);
-    module.bytes("m1", &exchange.message_1);
-    module.bytes("m2", &exchange.message_2);
-    module.bytes("m3", &exchange.message_3);
-    module.bytes("m5", &exchange.message_5);
-    module.bytes("work", &lent(sample).work);
-}
-
 /// The verifier's calls on one session: three exchanges, the first accepted, the others refused with 5 and 7; and a fourth,
 /// damaged before its opening: it is closed.
 pub fn calls(sample: &Sample) -> Module {
@@ -174,7 +162,12 @@ pub fn calls(sample: &Sample) -> Module {
     let last = set.last_leaf() as u8;
     let honest = sample.exchange(&[0, last]);
     let mut module = Module::new("VerifierCalls", &comment, &USES);
-    name_lent(&mut module, sample, &honest);
+    module.key(&sample.key);
+    module.bytes("m1", &honest.message_1);
+    module.bytes("m2", &honest.message_2);
+    module.bytes("m3", &honest.message_3);
+    module.bytes("m5", &honest.message_5);
+    module.bytes("work", &lent(sample).work);
     let mut script = Script { module, session: Verifier::default(), term: "fresh".into(), made: 0 };
     for (label, call) in first_calls(sample, &honest) {
         script.make(label, &call);
@@ -224,95 +217,18 @@ pub fn points(sample: &Sample) -> Module {
         "The verifier's points where points of a run are equal, each call made on the session that the call before it left;",
         "the first on a fresh one.",
         "",
-        "p, key, m1           parameters, matrix and y, and message 1 of an honest exchange",
+        "p, m1                parameters, and message 1 of an honest exchange",
         "ends                 a message 2 in which points 0 and 2 of run 1 are equal",
         "call1, call2, ..     the calls, with all that they are lent",
         "call1-gives, ..      the number that the call answers",
     ];
     let honest = sample.exchange_hiding(0);
     let mut module = Module::new("VerifierPoints", &comment, &USES);
-    module.key(&sample.key);
+    module.value("p", "Parameters", &parameters(&sample.key.parameters));
     module.bytes("m1", &honest.message_1);
     module.bytes("ends", &sample.repeated(1, 0, 2));
     let mut script = Script { module, session: Verifier::default(), term: "fresh".into(), made: 0 };
     for (label, call) in points_calls(sample, &honest) {
-        script.make(label, &call);
-    }
-    script.module
-}
-
-/// A begin or an opening with another key.
-fn with_key(sample: &Sample, call: &VerifierCall, other: Other) -> VerifierCall {
-    let (mut call, key) = (call.clone(), sample.other_key(other));
-    match &mut call {
-        VerifierCall::Begin { matrix, y, .. } => (*matrix, *y) = (key.matrix, key.y),
-        VerifierCall::Opening { lent, .. } => (lent.matrix, lent.y) = (key.matrix, key.y),
-        _ => unreachable!(),
-    }
-    call
-}
-
-/// The calls of an exchange of one run begun with its own key: 15 behind 11, 12 and 2 and before 5, again and again, and then the
-/// right key.
-fn keys_calls(sample: &Sample, honest: &Exchange) -> Vec<(&'static str, VerifierCall)> {
-    let [begin, points, response, leaf, opening] = five_calls(sample, honest);
-    let opened = |call: &VerifierCall, other| with_key(sample, call, other);
-    let long_key = |runs| {
-        let Key { parameters, mut matrix, y, .. } = sample.key.clone();
-        matrix.push(0);
-        VerifierCall::Begin { parameters, runs, message_1: honest.message_1.clone(), matrix, y }
-    };
-    let spoiled = changed(&sample.key.parameters, honest, 0, Part::Commitment).message_5;
-    let [spoiled, short] =
-        [spoiled, short(&honest.message_5)].map(|message_5| VerifierCall::Opening { message_5, lent: lent(sample) });
-    vec![
-        ("begin with 33 runs, the matrix a byte long", long_key(33)),
-        ("begin, the matrix a byte long", long_key(1)),
-        ("opening with another y, before the first begin", opened(&opening, Other::Y)),
-        ("begin", begin),
-        ("points", points),
-        ("response", response),
-        ("leaf n−1", leaf),
-        ("opening with another matrix", opened(&opening, Other::Matrix)),
-        ("opening with another y, message 5 a byte short", opened(&short, Other::Y)),
-        ("opening with another y, the commitment changed", opened(&spoiled, Other::Y)),
-        ("opening with another matrix and y", opened(&opening, Other::Both)),
-        ("opening", opening.clone()),
-        ("opening with another y, once closed", opened(&opening, Other::Y)),
-    ]
-}
-
-/// The calls of the same exchange begun with another key: 15 with the key that it was made under, 5 with the one begun with.
-fn misled_calls(sample: &Sample, honest: &Exchange) -> Vec<(&'static str, VerifierCall)> {
-    let [begin, points, response, leaf, opening] = five_calls(sample, honest);
-    vec![
-        ("begin with another y", with_key(sample, &begin, Other::Y)),
-        ("points", points),
-        ("response", response),
-        ("leaf n−1", leaf),
-        ("opening with the key that it was made under", opening.clone()),
-        ("opening with another y", with_key(sample, &opening, Other::Y)),
-    ]
-}
-
-/// The verifier's calls with other keys on one session: an exchange begun with its own key, and one begun with another.
-pub fn keys(sample: &Sample) -> Module {
-    let comment = [
-        "The verifier's begin and opening with another matrix, another y or both, each call made on the session that the call",
-        "before it left; the first on a fresh one.",
-        "",
-        "p, key, m1, m2, m3, m5             parameters, matrix and y, the messages of an honest exchange",
-        "other_matrix, other_y, other_both     other keys",
-        "work                               a work area, longer than its named length",
-        "call1, call2, ..                   the calls, with all that they are lent",
-        "call1-gives, ..                    the number that the call answers; of an opening, then the work area",
-    ];
-    let honest = sample.exchange_hiding(sample.key.parameters.last_leaf());
-    let mut module = Module::new("VerifierKeys", &comment, &USES);
-    name_lent(&mut module, sample, &honest);
-    module.other_keys(sample);
-    let mut script = Script { module, session: Verifier::default(), term: "fresh".into(), made: 0 };
-    for (label, call) in keys_calls(sample, &honest).into_iter().chain(misled_calls(sample, &honest)) {
         script.make(label, &call);
     }
     script.module

@@ -11,11 +11,6 @@ extern "C" {
     pub fn unlock_opening_size(set: *const u64, set_len: u64, leaves: *const u8, leaves_len: u64) -> u64;
     pub fn unlock_extract_size(set: *const u64, set_len: u64, runs: u64) -> u64;
 
-    pub fn unlock_key_digest(
-        set: *const u64, set_len: u64, matrix: *const u8, matrix_len: u64, y: *const u8, y_len: u64,
-        out: *mut u8, out_len: u64,
-    ) -> u8;
-
     pub fn unlock_prover_begin(
         session: *mut u8, session_len: u64, set: *const u64, set_len: u64, runs: u64,
         x_a: *const u8, x_a_len: u64, salt: *const u8, salt_len: u64, root: *const u8, root_len: u64,
@@ -36,7 +31,6 @@ extern "C" {
     pub fn unlock_verifier_begin(
         session: *mut u8, session_len: u64, set: *const u64, set_len: u64, runs: u64,
         message1: *const u8, message1_len: u64,
-        matrix: *const u8, matrix_len: u64, y: *const u8, y_len: u64,
     ) -> u8;
     pub fn unlock_verifier_points(session: *mut u8, session_len: u64, message2: *const u8, message2_len: u64) -> u8;
     pub fn unlock_verifier_response(session: *mut u8, session_len: u64, message3: *const u8, message3_len: u64) -> u8;

@@ -14,23 +14,6 @@ pub mod verifier;
 /// How many numbers a set has: m, k, w, D, t, in this order.
 pub const SET_LENGTH: usize = 5;
 
-/// Fills the output with the key digest of a set, a matrix and y.
-pub fn key_digest(set: &[u64], matrix: &[u8], y: &[u8], output: &mut [u8]) -> u8 {
-    // SAFETY: each pointer stands with the length of its slice, and the output overlaps nothing.
-    unsafe {
-        interface::unlock_key_digest(
-            set.as_ptr(),
-            set.len() as u64,
-            matrix.as_ptr(),
-            matrix.len() as u64,
-            y.as_ptr(),
-            y.len() as u64,
-            output.as_mut_ptr(),
-            output.len() as u64,
-        )
-    }
-}
-
 /// Fills the output with SHAKE256 of a message.
 pub fn shake256(message: &[u8], output: &mut [u8]) {
     // SAFETY: each pointer stands with the length of its slice, and the output overlaps nothing.

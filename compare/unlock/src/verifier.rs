@@ -40,8 +40,8 @@ impl Verifier {
         &self.session
     }
 
-    /// Starts an exchange of so many runs with message 1 under a key.
-    pub fn begin(&mut self, set: &[u64], runs: u64, message_1: &[u8], matrix: &[u8], y: &[u8]) -> u8 {
+    /// Starts an exchange of so many runs with message 1.
+    pub fn begin(&mut self, set: &[u64], runs: u64, message_1: &[u8]) -> u8 {
         let (session, len) = (self.session.as_mut_ptr(), self.session.len() as u64);
         // SAFETY: each pointer stands with the length of its slice, and the session overlaps nothing.
         unsafe {
@@ -53,10 +53,6 @@ impl Verifier {
                 runs,
                 message_1.as_ptr(),
                 message_1.len() as u64,
-                matrix.as_ptr(),
-                matrix.len() as u64,
-                y.as_ptr(),
-                y.len() as u64,
             )
         }
     }

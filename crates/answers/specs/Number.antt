@@ -1,11 +1,10 @@
 -- Document 01's numbers of refusals and answers.
 --
--- refusal_number r      'Numbers caused by the input' (1 to 10), 'Numbers caused by the state' (11 to 13); 6 is unused; of document 02, 14 is request 02's, 'A repeated point gets 14', and 15
---                      request 04's, 'A matrix or y lent later in the exchange with another digest gets 15'
+-- refusal_number r      'Numbers caused by the input' (1 to 10), 'Numbers caused by the state' (11 to 13); 6 is unused; 14 is document 02's, request 02: 'A repeated point gets 14'
 -- answer_number a       the number of the refusal, 0 where the call was carried out
 use Rattle.std.specs.Prelude.{ℕ}
 use Rattle.answers.specs.declared.Refusal.{Refusal}
-use Rattle.answers.specs.declared.Refusal.TheVariants.{Parameter, Length, Weight, Leaf, Commitment, Response, Exchange, SameLeaf, Malformed, NotDue, Closed, Repeated, SamePoint, OtherKey}
+use Rattle.answers.specs.declared.Refusal.TheVariants.{Parameter, Length, Weight, Leaf, Commitment, Response, Exchange, SameLeaf, Malformed, NotDue, Closed, Repeated, SamePoint}
 use Rattle.answers.specs.declared.Answer.{Answer}
 use Rattle.answers.specs.declared.Answer.TheVariants.{Done, Refused}
 pub mod Laws
@@ -24,7 +23,6 @@ refusal_number NotDue = 11
 refusal_number Closed = 12
 refusal_number Repeated = 13
 refusal_number SamePoint = 14
-refusal_number OtherKey = 15
 
 abbrev pub answer_number : Answer → ℕ
 answer_number Done = 0

@@ -1,7 +1,7 @@
 -- Document 01's order of checks, once.
 --
--- order              'Order: 10, 12, 11, 1, 2, 3, 4, 13, 8, 9, 5, 6, 7', without 6, which document 02's request 05 leaves unused, with 14
---                    'straight after 2' (request 02) and 15 'straight after 14' (request 04)
+-- order              'Order: 10, 12, 11, 1, 2, 3, 4, 13, 8, 9, 5, 6, 7', without 6, which document 02's request 05 leaves unused, and with 14
+--                    'straight after 2' (request 02)
 -- Conditions         what a call looks at: numbers, each with whether its condition holds
 -- holds cs n         the condition of the number n holds; of a number that the call does not look at it never does
 -- first_of ns f       the first of the numbers whose condition holds, 0 where none does
@@ -10,7 +10,7 @@ use Rattle.std.specs.Prelude.{Bool, false, ◌&&◌, ◌||◌, cond, List, [], �
 pub mod Laws
 
 abbrev pub order : List ℕ
-order = 10 ∷ 12 ∷ 11 ∷ 1 ∷ 2 ∷ 14 ∷ 15 ∷ 3 ∷ 4 ∷ 13 ∷ 8 ∷ 9 ∷ 5 ∷ 7 ∷ []
+order = 10 ∷ 12 ∷ 11 ∷ 1 ∷ 2 ∷ 14 ∷ 3 ∷ 4 ∷ 13 ∷ 8 ∷ 9 ∷ 5 ∷ 7 ∷ []
 
 abbrev pub Conditions : Type 0
 Conditions = List (ℕ × Bool)

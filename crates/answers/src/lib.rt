@@ -32,8 +32,6 @@ pub enum Refusal {
     Repeated,
     // 14: two points of one run are equal (document 02, request 02)
     SamePoint,
-    // 15: matrix or y is not that of the exchange held (document 02, request 04)
-    OtherKey,
 }
 
 // What a session call answers. `Done`: it was carried out, and where it judges an opening, the opening is accepted.
@@ -61,7 +59,6 @@ pub fn refusal_number(r: Refusal) -> u8
         Refusal::Closed => 12,
         Refusal::Repeated => 13,
         Refusal::SamePoint => 14,
-        Refusal::OtherKey => 15,
     }
 }
 

@@ -15,19 +15,19 @@ use Rattle.runs.specs.Opening.{Transcript, exchange_at}
 pub mod Laws
 
 module _ (hash : List ℕ → ℕ → List ℕ) (p : Parameters) where
-  unfoldable pub digest_differs : Key → Exchange → Bool
-  digest_differs key e = not (eq_list (hash (commitment_string hash p e key) 32) e.h)
+  unfoldable pub digest_differs : Exchange → Bool
+  digest_differs e = not (eq_list (hash (commitment_string hash p e) 32) e.h)
 
   unfoldable pub response_differs : Key → Exchange → Bool
   response_differs key e = not (eq_list (hash (response_string hash p e key) 32) e.message3)
 
   module _ (runs : ℕ) (t : Transcript) (key : Key) where
     unfoldable pub refused_run : ℕ
-    refused_run = least (λ e. digest_differs key (exchange_at p t e) || response_differs key (exchange_at p t e)) runs
+    refused_run = least (λ e. digest_differs (exchange_at p t e) || response_differs key (exchange_at p t e)) runs
 
     unfoldable pub opening_conditions : Conditions
     opening_conditions =
-        (5, ltb refused_run runs && digest_differs key (exchange_at p t refused_run))
+        (5, ltb refused_run runs && digest_differs (exchange_at p t refused_run))
         ∷ (7, ltb refused_run runs && response_differs key (exchange_at p t refused_run))
         ∷ []
 

@@ -1,5 +1,5 @@
 -- The prover's three calls as functions on values: the session, the arguments and what the lent slices hold go in; the number,
--- the session, the output and the work area come out. Matrix and y are those lent at the call; the session holds their digest, as begin was lent them.
+-- the session, the output and the work area come out. Matrix and y are those lent at the call.
 --
 -- Prover                what a session holds
 -- fresh                 a session before its first begin
@@ -9,7 +9,6 @@
 -- standing s            the phase that counts: a session that is not fresh and not intact, so one that no call made, counts as closed
 -- closed s              'exchange closed, only begin is due'
 -- points_due, leaf_due    'call not due; so is every call but begin before a session's first begin'
--- same_key s key         the digest of parameters, matrix and y is the one held; 'A matrix or y lent later in the exchange with another digest gets 15'
 -- repeated s salt root  'salt and root both equal those of the exchange held, open or closed'
 -- Outcome               the number, 0 where the call was carried out; session, output and work area
 -- settle                'A refused call writes no output', and 'leave[s] the session unchanged'
@@ -23,7 +22,7 @@ use Rattle.lists.specs.Equal.{eq_list}
 use Rattle.lists.specs.Checks.{all_true}
 use Rattle.answers.specs.declared.Answer.{Answer}
 use Rattle.answers.specs.declared.Answer.TheVariants.{Done, Refused}
-use Rattle.answers.specs.declared.Refusal.TheVariants.{Parameter, Length, Weight, Leaf, NotDue, Closed as ExchangeClosed, Repeated, SamePoint, OtherKey}
+use Rattle.answers.specs.declared.Refusal.TheVariants.{Parameter, Length, Weight, Leaf, NotDue, Closed as ExchangeClosed, Repeated, SamePoint}
 use Rattle.answers.specs.Number.{refusal_number}
 use Rattle.answers.specs.Checks.{checks}
 use Rattle.parameters.specs.declared.Parameters.{Parameters}
@@ -33,7 +32,6 @@ use Rattle.layout.specs.Layout.{work_length}
 use Rattle.layout.specs.Maxima.{most_messages2}
 use Rattle.layout.specs.Runs.{runs_within, messages2_length}
 use Rattle.exchange.specs.Values.{Key}
-use Rattle.exchange.specs.KeyDigest.{key_digest}
 use Rattle.runs.specs.Messages.{message1, message3, message5}
 use Rattle.runs.specs.Points.{distinct_points}
 use Rattle.prover_phase.specs.declared.Phase.{Phase}
@@ -57,7 +55,6 @@ pub record Prover : Type 0 where
   pub x : List ℕ
   pub salt : List ℕ
   pub root : List ℕ
-  pub digest : List ℕ
   pub message2 : List ℕ
 
 unfoldable pub fresh : Prover
@@ -68,7 +65,6 @@ fresh = record {
   x = replicate 255 0;
   salt = replicate 32 0;
   root = replicate 16 0;
-  digest = replicate 32 0;
   message2 = replicate most_messages2 0;
 }
 
@@ -136,10 +132,9 @@ module _ (hash : List ℕ → ℕ → List ℕ) (s : Prover) where
         x = padded 255 (vector_of key.matrix key.y x_a);
         salt = salt;
         root = root;
-        digest = key_digest hash p key;
         message2 = replicate most_messages2 0;
       };
-      out = message1 hash p runs (vector_of key.matrix key.y x_a) salt root (key_digest hash p key);
+      out = message1 hash p runs (vector_of key.matrix key.y x_a) salt root;
       work = zeroed (work_length p) work;
     }
 
@@ -151,9 +146,6 @@ module _ (hash : List ℕ → ℕ → List ℕ) (s : Prover) where
   abbrev p : Parameters
   p = s.parameters
 
-  unfoldable pub same_key : Key → Bool
-  same_key key = eq_list (key_digest hash p key) s.digest
-
   module _ (m2 : List ℕ) (key : Key) (work out : List ℕ) where
     unfoldable pub points_checks : Answer
     points_checks =
@@ -162,7 +154,6 @@ module _ (hash : List ℕ → ℕ → List ℕ) (s : Prover) where
         ∷ (points_due s, NotDue)
         ∷ (all_true (points_lengths p s.runs m2 key work out), Length)
         ∷ (distinct_points p s.runs m2, SamePoint)
-        ∷ (same_key key, OtherKey)
         ∷ []
         )
 
@@ -176,7 +167,6 @@ module _ (hash : List ℕ → ℕ → List ℕ) (s : Prover) where
         x = s.x;
         salt = s.salt;
         root = s.root;
-        digest = s.digest;
         message2 = put_at s.message2 0 m2;
       };
       out = message3 hash p s.runs (held_x s) s.salt s.root key m2;
@@ -193,7 +183,7 @@ module _ (hash : List ℕ → ℕ → List ℕ) (s : Prover) where
         (not (closed s), ExchangeClosed)
         ∷ (leaf_due s, NotDue)
         ∷ (all_true (leaf_lengths p s.runs is key work out), Length)
-        ∷ (same_key key, OtherKey) ∷ (leaves_below p is, Leaf)
+        ∷ (leaves_below p is, Leaf)
         ∷ []
         )
 
@@ -207,7 +197,6 @@ module _ (hash : List ℕ → ℕ → List ℕ) (s : Prover) where
         x = s.x;
         salt = s.salt;
         root = s.root;
-        digest = s.digest;
         message2 = s.message2;
       };
       out = message5 hash p s.runs (held_x s) s.salt s.root key (held_message2 s) is;

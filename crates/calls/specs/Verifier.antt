@@ -9,19 +9,16 @@
 -- due s here           'call not due; so is every call but begin before a session's first begin'
 -- Outcome, Judged      the number, 0 where the call was carried out (the opening: accepted), and the session; of the opening, also the work area
 -- settle               a refusal leaves 'the session unchanged'
--- begin, points, response, leaf   'begin (parameters, message 1), points, response, leaf': each takes its message; 'Both begins take the matrix and y'
---                      (document 02, request 04), whose digest the session holds
--- same_key s key        'A matrix or y lent later in the exchange with another digest gets 15'
+-- begin, points, response, leaf   'begin (parameters, message 1), points, response, leaf': each takes its message
 -- opening              'opening (closes with accepted, 5, 6 or 7)'; 'Closing changes nothing else that a session holds'
 use Rattle.std.specs.Prelude.{Bool, ◌&&◌, ◌||◌, not, cond, List, [], ◌∷◌, ℕ, eqb, length, replicate, take}
 use Rattle.lists.specs.Part.{put_at}
 use Rattle.lists.specs.Zeroed.{zeroed}
-use Rattle.lists.specs.Equal.{eq_list}
 use Rattle.lists.specs.Checks.{all_true}
 use Rattle.answers.specs.declared.Answer.{Answer}
 use Rattle.answers.specs.declared.Answer.TheVariants.{Done, Refused}
 use Rattle.answers.specs.declared.Refusal.{Refusal}
-use Rattle.answers.specs.declared.Refusal.TheVariants.{Parameter, Length, Leaf, NotDue, Closed as ExchangeClosed, SamePoint, OtherKey}
+use Rattle.answers.specs.declared.Refusal.TheVariants.{Parameter, Length, Leaf, NotDue, Closed as ExchangeClosed, SamePoint}
 use Rattle.answers.specs.Number.{refusal_number, answer_number}
 use Rattle.answers.specs.Checks.{checks}
 use Rattle.parameters.specs.declared.Parameters.{Parameters}
@@ -30,12 +27,11 @@ use Rattle.layout.specs.Layout.{work_length}
 use Rattle.layout.specs.Maxima.{most_runs, most_message1, most_messages2, most_messages3}
 use Rattle.layout.specs.Runs.{runs_within, message1_length, messages2_length, messages3_length}
 use Rattle.exchange.specs.Values.{Key}
-use Rattle.exchange.specs.KeyDigest.{key_digest}
 use Rattle.runs.specs.Points.{distinct_points}
 use Rattle.runs.specs.Opening.{Transcript, transcript, verdict}
 use Rattle.verifier_phase.specs.declared.Phase.{Phase}
 use Rattle.verifier_phase.specs.declared.Phase.TheVariants.{Fresh, Begun, Pointed, Responded, Chosen, Closed}
-use Rattle.calls.specs.Lengths.{start_lengths, opening_lengths, leaves_below}
+use Rattle.calls.specs.Lengths.{opening_lengths, leaves_below}
 pub use Rattle.verifier_phase.specs.Phases.{step}
 pub mod History
 pub mod Since
@@ -53,7 +49,6 @@ pub record Verifier : Type 0 where
   pub message1 : List ℕ
   pub message2 : List ℕ
   pub message3 : List ℕ
-  pub digest : List ℕ
   pub leaves : List ℕ
 
 unfoldable pub fresh : Verifier
@@ -64,7 +59,6 @@ fresh = record {
   message1 = replicate most_message1 0;
   message2 = replicate most_messages2 0;
   message3 = replicate most_messages3 0;
-  digest = replicate 32 0;
   leaves = replicate most_runs 0;
 }
 
@@ -118,23 +112,22 @@ after_begin s here cs = checks ((not (closed s), ExchangeClosed) ∷ (due s here
 
 -- ---- begin, points, response, leaf: the checks of each, the session after it, and the call
 
-unfoldable pub begin_checks : Parameters → ℕ → List ℕ → Key → Answer
-begin_checks p runs m1 key = checks ((within_limits p && runs_within runs, Parameter) ∷ (all_true (start_lengths p runs m1 key), Length) ∷ [])
+unfoldable pub begin_checks : Parameters → ℕ → List ℕ → Answer
+begin_checks p runs m1 = checks ((within_limits p && runs_within runs, Parameter) ∷ (eqb (length m1) (message1_length runs), Length) ∷ [])
 
-unfoldable pub begun : (List ℕ → ℕ → List ℕ) → Parameters → ℕ → List ℕ → Key → Verifier
-begun hash p runs m1 key = record {
+unfoldable pub begun : Parameters → ℕ → List ℕ → Verifier
+begun p runs m1 = record {
   phase = Begun;
   parameters = p;
   runs = runs;
   message1 = put_at (replicate most_message1 0) 0 m1;
   message2 = replicate most_messages2 0;
   message3 = replicate most_messages3 0;
-  digest = key_digest hash p key;
   leaves = replicate most_runs 0;
 }
 
-unfoldable pub begin : (List ℕ → ℕ → List ℕ) → Verifier → Parameters → ℕ → List ℕ → Key → Outcome
-begin hash s p runs m1 key = settle (begin_checks p runs m1 key) s (begun hash p runs m1 key)
+unfoldable pub begin : Verifier → Parameters → ℕ → List ℕ → Outcome
+begin s p runs m1 = settle (begin_checks p runs m1) s (begun p runs m1)
 
 unfoldable pub points_checks : Verifier → List ℕ → Answer
 points_checks s m2 =
@@ -149,7 +142,6 @@ pointed s m2 = record {
   message1 = s.message1;
   message2 = put_at s.message2 0 m2;
   message3 = s.message3;
-  digest = s.digest;
   leaves = s.leaves;
 }
 
@@ -167,7 +159,6 @@ responded s m3 = record {
   message1 = s.message1;
   message2 = s.message2;
   message3 = put_at s.message3 0 m3;
-  digest = s.digest;
   leaves = s.leaves;
 }
 
@@ -185,7 +176,6 @@ chosen s is = record {
   message1 = s.message1;
   message2 = s.message2;
   message3 = s.message3;
-  digest = s.digest;
   leaves = put_at s.leaves 0 is;
 }
 
@@ -193,10 +183,6 @@ unfoldable pub leaf : Verifier → List ℕ → Outcome
 leaf s is = settle (leaf_checks s is) s (chosen s is)
 
 -- ---- the opening
-
--- the digest of parameters, matrix and y is the one held
-unfoldable pub same_key : (List ℕ → ℕ → List ℕ) → Verifier → Key → Bool
-same_key hash s key = eq_list (key_digest hash s.parameters key) s.digest
 
 -- the session closed
 unfoldable pub ended : Verifier → Verifier
@@ -207,7 +193,6 @@ ended s = record {
   message1 = s.message1;
   message2 = s.message2;
   message3 = s.message3;
-  digest = s.digest;
   leaves = s.leaves;
 }
 
@@ -216,7 +201,7 @@ module _ (hash : List ℕ → ℕ → List ℕ) (s : Verifier) (m5 : List ℕ) (
   p = s.parameters
 
   unfoldable pub opening_checks : Answer
-  opening_checks = after_begin s Chosen ((all_true (opening_lengths p (held_leaves s) m5 key work), Length) ∷ (same_key hash s key, OtherKey) ∷ [])
+  opening_checks = after_begin s Chosen ((all_true (opening_lengths p (held_leaves s) m5 key work), Length) ∷ [])
 
   unfoldable pub judge : Answer → Judged
   judge Done = record { answer = answer_number (verdict hash p s.runs (held_transcript s m5) key); verifier = ended s; work = zeroed (work_length p) work }

@@ -4,4 +4,3 @@ pub mod Session
 pub mod Prover
 pub mod Verifier
 pub mod Extract
-pub mod KeyDigest

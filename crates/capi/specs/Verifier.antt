@@ -28,11 +28,11 @@ verifier_after b o = kept o.answer (after o.answer b (verifier_bytes o.verifier)
 unfoldable pub verifier_call : List ℕ → ℕ → (verifier.Verifier → verifier.Outcome) → Kept
 verifier_call b n call = fits b verifier_size (verifier_after b (call (verifier_from b))) (kept n b)
 
-abbrev pub verifier_begin : List ℕ → Parameters → ℕ → List ℕ → Key → Kept
-verifier_begin b p runs m1 key = verifier_call b (misfit_number p runs) (λ s. verifier.begin SHAKE256 s p runs m1 key)
+abbrev pub verifier_begin : List ℕ → Parameters → ℕ → List ℕ → Kept
+verifier_begin b p runs m1 = verifier_call b (misfit_number p runs) (λ s. verifier.begin s p runs m1)
 
-abbrev pub verifier_begin_set : List ℕ → List ℕ → ℕ → List ℕ → Key → Kept
-verifier_begin_set b ns runs m1 key = with_set ns (λ p. verifier_begin b p runs m1 key) (kept (refusal_number Length) b)
+abbrev pub verifier_begin_set : List ℕ → List ℕ → ℕ → List ℕ → Kept
+verifier_begin_set b ns runs m1 = with_set ns (λ p. verifier_begin b p runs m1) (kept (refusal_number Length) b)
 
 abbrev pub verifier_points : List ℕ → List ℕ → Kept
 verifier_points b m2 = verifier_call b (refusal_number Length) (λ s. verifier.points s m2)

@@ -29,19 +29,15 @@ fn keep(called: Called, session: &mut [u8]) -> u8
     0
 }
 
-// Begins an exchange of so many runs with its parameters, message 1 and the key's matrix and y. A set of another length gives 2 before
-// everything else.
+// Begins an exchange of so many runs with its parameters and message 1. A set of another length gives 2 before everything else.
 #[unsafe(no_mangle)]
 pub extern "C" fn unlock_verifier_begin(
     session: &mut [u8],
     set: &[usize],
     runs: usize,
     message1: &[u8],
-    matrix: &[u8],
-    y: &[u8],
 ) -> u8
-    ensures { kept result session.new ≡ verifier_begin_set session.old set.now runs message1.now
-        (key_of matrix.now y.now) }
+    ensures { kept result session.new ≡ verifier_begin_set session.old set.now runs message1.now }
 {
     if set.len() != parameters::set::LENGTH {
         return 2;
@@ -51,7 +47,7 @@ pub extern "C" fn unlock_verifier_begin(
         return misfit_number(p, runs);
     }
     let s = stored::read_verifier(session);
-    let called = s.begin(p, runs, message1, matrix, y);
+    let called = s.begin(p, runs, message1);
     keep(called, session)
 }
 

@@ -55,10 +55,10 @@ pub record Prover (hash : List ℕ → ℕ → List ℕ) : Type 0 where
   -- points is carried out only as the first since the last begin, and then it is; leaf only after it and once, and then it is
   pub points : (cs : List prover_history.Call) (m2 : List ℕ) (key : Key) (work out : List ℕ)
       → ((prover_history.outcome hash (prover_history.after hash cs) (prover_history.points_call m2 key work out)).answer ≡ 0)
-      ↔ prover_runs.PointsDue hash (prover_history.made hash cs) m2 key work out
+      ↔ prover_runs.PointsDue (prover_history.made hash cs) m2 key work out
   pub leaf : (cs : List prover_history.Call) (is : List ℕ) (key : Key) (work out : List ℕ)
       → ((prover_history.outcome hash (prover_history.after hash cs) (prover_history.leaf_call is key work out)).answer ≡ 0)
-      ↔ prover_runs.LeafDue hash (prover_history.made hash cs) is key work out
+      ↔ prover_runs.LeafDue (prover_history.made hash cs) is key work out
   -- begin is carried out exactly where 1, 2 and 3 pass and salt and root are not both those of the last begin; 13 exactly where they are
   pub begin : (cs : List prover_history.Call) (b : prover_history.Begin) (work out : List ℕ)
       → ((prover_history.outcome hash (prover_history.after hash cs) (prover_history.begin_call b work out)).answer ≡ 0)

@@ -19,8 +19,8 @@ use Rattle.calls.specs.Prover.Told.{told-by-calls, number-told}
 use Rattle.calls.specs.Verifier.History as verifier
 use Rattle.calls.specs.Verifier.Runs as runs
 use Rattle.claims.specs.Acceptance.{AcceptsExactly, accepts-exactly}
-use Rattle.claims.specs.Completeness.{Complete, Unchanged}
-use Rattle.claims.specs.Completeness.Calls.{completeness, unchanged}
+use Rattle.claims.specs.Completeness.{Complete}
+use Rattle.claims.specs.Completeness.Calls.{completeness}
 
 abbrev pub MessagesDefined : (List ℕ → ℕ → List ℕ) → Type 0
 MessagesDefined hash = (cs : List prover.Call) (c : prover.Call) → (prover.outcome hash (prover.after hash cs) c).answer ≡ 0
@@ -35,7 +35,6 @@ pub record Demand2 : Type 0 where
   pub accepts-exactly-after-calls : AcceptedExactly SHAKE256
   pub accepts-exactly-when-checks-hold : AcceptsExactly SHAKE256
   pub valid-key-leads-to-acceptance : Complete SHAKE256
-  pub unchanged-key-leads-to-acceptance : Unchanged SHAKE256
 
 messages-defined : (hash : List ℕ → ℕ → List ℕ) → MessagesDefined hash
 unfolding prover.expected
@@ -47,5 +46,4 @@ demand2 = record {
   accepts-exactly-after-calls = runs.accepted-exactly SHAKE256;
   accepts-exactly-when-checks-hold = accepts-exactly SHAKE256;
   valid-key-leads-to-acceptance = completeness SHAKE256 length-SHAKE256;
-  unchanged-key-leads-to-acceptance = unchanged SHAKE256 (completeness SHAKE256 length-SHAKE256);
 }

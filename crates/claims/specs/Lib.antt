@@ -1,4 +1,3 @@
-pub mod Either
 pub mod Verifier
 pub mod Demand1
 pub mod Words
@@ -9,5 +8,4 @@ pub mod Completeness
 pub mod Demand2
 pub mod Demand3
 pub mod Request02
-pub mod Request04
 pub mod Request05

@@ -9,7 +9,7 @@
 -- conditions_with6        5, 6 and 7 of that run
 -- opening_with6           the conditions of the verifier's opening after the calls h, with 6 among them
 -- straight_after a n ns   the numbers ns with n straight after a
--- order_with6             the order with 6 straight after 5: so document 01's, with 14 'straight after 2' and 15 'straight after 14' (`as-document-01`)
+-- order_with6             the order with 6 straight after 5: so document 01's, with 14 'straight after 2' (`as-document-01`)
 -- answer_with6 cs         the answer by that order
 -- SameAnswers hash       'no verdict changes': every verdict, every opening of the verifier after any calls and every call of the extractor has
 --                        the number that it has with the check in its place
@@ -48,7 +48,7 @@ use Rattle.calls.specs.Prover.{Prover}
 use Rattle.calls.specs.Prover.History as prover
 use Rattle.calls.specs.Prover.Settled.{checks_of, number-of}
 use Rattle.calls.specs.Verifier.{Verifier, settle, held_transcript, begin_checks, begin, points_checks, points, response_checks, response, leaf_checks, leaf, opening_checks, judge, opening}
-use Rattle.calls.specs.Verifier.History.{Begin, Made, Call, begin_call, points_call, response_call, leaf_call, opening_call, outcome, after, made, last_begin, points_since, response_since, leaf_since, opened_since, of_exchange, same_key, conditions}
+use Rattle.calls.specs.Verifier.History.{Made, Call, begin_call, points_call, response_call, leaf_call, opening_call, outcome, after, made, last_begin, points_since, response_since, leaf_since, opened_since, of_exchange, conditions}
 use Rattle.calls.specs.Verifier.Told.{number-told}
 use Rattle.calls.specs.Extractor.{extraction, number_of}
 use Rattle.calls.specs.Extractor.Expected.{or_then, early_conditions, expected_number}
@@ -74,11 +74,11 @@ module _ (hash : List ℕ → ℕ → List ℕ) where
     unfoldable pub refused_with6 : ℕ
     refused_with6 =
         least
-        (λ e. digest_differs hash p key (exchange_at p t e) || (sums_differ p (exchange_at p t e) key || response_differs hash p key (exchange_at p t e))) runs
+        (λ e. digest_differs hash p (exchange_at p t e) || (sums_differ p (exchange_at p t e) key || response_differs hash p key (exchange_at p t e))) runs
 
     unfoldable pub conditions_with6 : Conditions
     conditions_with6 =
-        (5, ltb refused_with6 runs && digest_differs hash p key (exchange_at p t refused_with6))
+        (5, ltb refused_with6 runs && digest_differs hash p (exchange_at p t refused_with6))
         ∷ (6, ltb refused_with6 runs && sums_differ p (exchange_at p t refused_with6) key)
         ∷ (7, ltb refused_with6 runs && response_differs hash p key (exchange_at p t refused_with6))
         ∷ []
@@ -87,9 +87,7 @@ module _ (hash : List ℕ → ℕ → List ℕ) where
   opening_with6 h m5 key work =
       (12, opened_since h)
       ∷ (11, not (is_some (leaf_since h)))
-      ∷ of_exchange h m5 [] (λ b t. (2, not (all_true (opening_lengths b.parameters t.leaves m5 key work)))
-      ∷ (15, not (same_key hash b key))
-      ∷ conditions_with6 b.parameters b.runs t key)
+      ∷ of_exchange h m5 [] (λ p runs t. (2, not (all_true (opening_lengths p t.leaves m5 key work))) ∷ conditions_with6 p runs t key)
 
 unfoldable pub straight_after : ℕ → ℕ → List ℕ → List ℕ
 straight_after a n [] = []
@@ -102,9 +100,8 @@ order_with6 = straight_after 5 6 order
 unfoldable pub answer_with6 : Conditions → ℕ
 answer_with6 cs = first_of order_with6 (holds cs)
 
--- 'Order: 10, 12, 11, 1, 2, 3, 4, 13, 8, 9, 5, 6, 7', of 14 'checked straight after 2' (document 02, request 02), and of 15 'straight after 14'
--- (request 04)
-as-document-01 : order_with6 ≡ straight_after 14 15 (straight_after 2 14 (10 ∷ 12 ∷ 11 ∷ 1 ∷ 2 ∷ 3 ∷ 4 ∷ 13 ∷ 8 ∷ 9 ∷ 5 ∷ 6 ∷ 7 ∷ []))
+-- 'Order: 10, 12, 11, 1, 2, 3, 4, 13, 8, 9, 5, 6, 7', and of 14 'checked straight after 2' (document 02, request 02)
+as-document-01 : order_with6 ≡ straight_after 2 14 (10 ∷ 12 ∷ 11 ∷ 1 ∷ 2 ∷ 3 ∷ 4 ∷ 13 ∷ 8 ∷ 9 ∷ 5 ∷ 6 ∷ 7 ∷ [])
 unfolding order_with6 straight_after
 as-document-01 = refl
 
@@ -145,13 +142,13 @@ told-both : {A B C : Type 0} (R : B → C → Type 0) (o : Option A) (d : B) (f 
 told-both R none d f d' f' q r = q
 told-both R (some a) d f d' f' q r = r a
 
-exchange-both : {A B : Type 0} (R : A → B → Type 0) (h : List Made) (m5 : List ℕ) (d : A) (f : Begin → Transcript → A) (d' : B)
-    (f' : Begin → Transcript → B) → R d d' → ((b : Begin) (t : Transcript) → R (f b t) (f' b t))
+exchange-both : {A B : Type 0} (R : A → B → Type 0) (h : List Made) (m5 : List ℕ) (d : A) (f : Parameters → ℕ → Transcript → A) (d' : B)
+    (f' : Parameters → ℕ → Transcript → B) → R d d' → ((p : Parameters) (runs : ℕ) (t : Transcript) → R (f p runs t) (f' p runs t))
     → R (of_exchange h m5 d f) (of_exchange h m5 d' f')
 unfolding of_exchange
 exchange-both R h m5 d f d' f' q r =
     told-both R (last_begin h) d _ d' _ q (λ b. told-both R (points_since h) d _ d' _ q (λ m2. told-both R (response_since h) d _ d' _ q
-    (λ m3. told-both R (leaf_since h) d _ d' _ q (λ is. r b (transcript b.message1 m2 m3 is m5)))))
+    (λ m3. told-both R (leaf_since h) d _ d' _ q (λ is. r b.parameters b.runs (transcript b.message1 m2 m3 is m5)))))
 
 module _ (hash : List ℕ → ℕ → List ℕ) where
   agree : (p : Parameters) (e : Exchange) (key : Key) (n : ℕ) → sums_agree hash p e key n ≡ true
@@ -170,7 +167,7 @@ module _ (hash : List ℕ → ℕ → List ℕ) where
 
     -- the conditions without 6, and a 6 that does not hold
     with-6-is : conditions_with6 hash p runs t key
-        ≡ (5, ltb (refused_run hash p runs t key) runs && digest_differs hash p key (exchange_at p t (refused_run hash p runs t key)))
+        ≡ (5, ltb (refused_run hash p runs t key) runs && digest_differs hash p (exchange_at p t (refused_run hash p runs t key)))
         ∷ (6, false)
         ∷ (7, ltb (refused_run hash p runs t key) runs && response_differs hash p key (exchange_at p t (refused_run hash p runs t key)))
         ∷ []
@@ -193,7 +190,7 @@ module _ (hash : List ℕ → ℕ → List ℕ) where
       exchange-both
       (λ (cs cs' : Conditions). answer_of ((12, opened_since h) ∷ (11, not (is_some (leaf_since h))) ∷ cs)
       ≡ answer_with6 ((12, opened_since h) ∷ (11, not (is_some (leaf_since h))) ∷ cs'))
-      h m5 [] _ [] _ refl (λ b t. rw (with-6-is b.parameters b.runs t key) refl)
+      h m5 [] _ [] _ refl (λ p runs t. rw (with-6-is p runs t key) refl)
 
   same-answers : SameAnswers hash
   unfolding expected_number
@@ -222,7 +219,7 @@ module _ (hash : List ℕ → ℕ → List ℕ) where
 
   verifier-not : (s : Verifier) (c : Call) → (outcome hash s c).answer ≡ 6 → ⊥
   unfolding outcome begin points response leaf opening
-  verifier-not s (begin_call b) = settle-not (begin_checks b.parameters b.runs b.message1 b.key) s _
+  verifier-not s (begin_call b) = settle-not (begin_checks b.parameters b.runs b.message1) s _
   verifier-not s (points_call m2) = settle-not (points_checks s m2) s _
   verifier-not s (response_call m3) = settle-not (response_checks s m3) s _
   verifier-not s (leaf_call is) = settle-not (leaf_checks s is) s _

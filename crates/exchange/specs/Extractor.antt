@@ -51,7 +51,7 @@ module _ (hash : List ℕ → ℕ → List ℕ) (p : Parameters) where
     string_at e layer number =
         cond (eqb layer 7) (response_string hash p e key)
         (cond (eqb layer 6) (axis_string p e.prefix (number - 1) (announced hash p e key (number - 1)))
-        (cond (eqb layer 5) (commitment_string hash p e key) (leaf_string hash p e number)))
+        (cond (eqb layer 5) (commitment_string hash p e) (leaf_string hash p e number)))
 
     unfoldable pub unequal_at : Exchange → Exchange → List (ℕ × ℕ)
     unequal_at e e' = those (λ n. not (eq_list (string_at e n.0 n.1) (string_at e' n.0 n.1))) (compared p e e')

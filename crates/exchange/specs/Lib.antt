@@ -6,7 +6,6 @@ pub mod Reading
 pub mod Tree
 pub mod Leaf
 pub mod Values
-pub mod KeyDigest
 pub mod Parties
 pub mod Announcing
 pub mod Messages

@@ -1,4 +1,4 @@
--- The prover's messages, from what its session holds (parameters p, x, salt, root, key digest), the matrix and y lent at the call,
+-- The prover's messages, from what its session holds (parameters p, x, salt, root), the matrix and y lent at the call,
 -- message 2 and the leaf.
 --
 -- own_state i        the state of leaf i
@@ -8,7 +8,7 @@
 -- own_share i, own_commitment i   share and commitment of leaf i
 -- own_party j c      the sum of the leaves of party c on axis j
 -- own_announced j    what the parties of axis j announce: no leaf is hidden
--- message1 digest   'salt, h'; h commits to the key too, by its digest, which the session holds
+-- message1          'salt, h'
 -- message3          'h''
 -- message5 i        'D sibling seeds from the root side down, commitment of i*, its α and β, then aux unless i* = n−1';
 --                   'The hidden leaf's own α and β have none' of the constants
@@ -51,8 +51,8 @@ module _ (hash : List ℕ → ℕ → List ℕ) (p : Parameters) (x : List ℕ) 
   unfoldable pub own_commitment : ℕ → List ℕ
   own_commitment i = commitment hash p run.prefix i (own_state i) own_aux
 
-  unfoldable pub message1 : List ℕ → List ℕ
-  message1 digest = run.prefix ++ hash (string5 run.prefix digest own_commitment (leaves p)) 32
+  unfoldable pub message1 : List ℕ
+  message1 = run.prefix ++ hash (string5 run.prefix own_commitment (leaves p)) 32
 
   module _ (key : Key) (m2 : List ℕ) where
     unfoldable pub own_party : ℕ → ℕ → List ℕ

@@ -8,7 +8,7 @@
 -- opened_share i        its share
 -- leaf_string i         layer 4's string of leaf i
 -- leaf_commitment i     its commitment; the hidden leaf's is the one in message 5
--- commitment_string     layer 5's string, which carries the key's digest
+-- commitment_string     layer 5's string
 -- disclosed j c        the sum of the disclosed leaves of party c on axis j
 -- hidden_on j           the party that holds the hidden leaf on axis j, with that leaf's α and β
 -- announced j          what the parties of axis j announce
@@ -29,7 +29,6 @@ use Rattle.exchange.specs.Tree.{opened_seeds}
 use Rattle.exchange.specs.Leaf.{state, share}
 use Rattle.exchange.specs.Reading.{point_at}
 use Rattle.exchange.specs.Values.{Key}
-use Rattle.exchange.specs.KeyDigest.{key_digest}
 use Rattle.exchange.specs.Parties.{Announced, total, party_of, axis_string, sums_of}
 use Rattle.exchange.specs.Announcing.{Hidden, announced_by}
 pub mod Laws
@@ -83,6 +82,9 @@ module _ (hash : List ℕ → ℕ → List ℕ) (p : Parameters) (e : Exchange) 
   unfoldable pub leaf_commitment : ℕ → List ℕ
   leaf_commitment i = cond (eqb i e.leaf) (commitment_of p e) (hash (leaf_string i) 32)
 
+  unfoldable pub commitment_string : List ℕ
+  commitment_string = string5 e.prefix leaf_commitment (leaves p)
+
   unfoldable pub disclosed : ℕ → ℕ → List ℕ
   disclosed j c = total p (λ i. party_of p j c i && not (eqb i e.leaf)) opened_share (leaves p)
 
@@ -93,9 +95,6 @@ module _ (hash : List ℕ → ℕ → List ℕ) (p : Parameters) (e : Exchange) 
     announced = announced_by p key e.message2 (disclosed j) (hidden_on p e j)
 
   module _ (key : Key) where
-    unfoldable pub commitment_string : List ℕ
-    commitment_string = string5 e.prefix (key_digest hash p key) leaf_commitment (leaves p)
-
     unfoldable pub response_string : List ℕ
     response_string = string7 e.prefix (λ j. hash (axis_string p e.prefix j (announced key j)) 32) p.axes
 
@@ -108,6 +107,6 @@ module _ (hash : List ℕ → ℕ → List ℕ) (p : Parameters) (e : Exchange) 
         )
 
 pub record Accepted (hash : List ℕ → ℕ → List ℕ) (p : Parameters) (e : Exchange) (key : Key) : Type 0 where
-  pub commitment : hash (commitment_string hash p e key) 32 ≡ e.h
+  pub commitment : hash (commitment_string hash p e) 32 ≡ e.h
   pub sums_same : (j : ℕ) → j < p.axes → sums_of p (announced hash p e key j) ≡ sums_of p (announced hash p e key 0)
   pub response : hash (response_string hash p e key) 32 ≡ e.message3

@@ -8,7 +8,7 @@
 -- string2 pre i seed   2 ‖ leaf ‖ node seed
 -- string3 pre i seed   3 ‖ leaf ‖ seed
 -- string4 p pre i st aux   4 ‖ leaf ‖ seed ‖ rho, 'and for leaf n−1 ‖ aux'; st is seed ‖ rho
--- string5 pre d f n    5 ‖ the key digest d ‖ all leaf commitments: 'The layer 5 string carries it after the run byte' (document 02, request 04)
+-- string5 pre f n      5 ‖ all leaf commitments
 -- string6 pre j f n    6 ‖ axis ‖ what the parties announce; axes 'from 1'
 -- string7 pre f n      7 ‖ H_1 to H_D
 use Rattle.std.specs.Prelude.{cond, List, [], ◌∷◌, ◌++◌, ℕ, ◌+◌, ◌/◌, ◌%◌}
@@ -34,8 +34,8 @@ string3 prefix i seed = string 3 prefix (i ∷ seed)
 unfoldable pub string4 : Parameters → List ℕ → ℕ → List ℕ → List ℕ → List ℕ
 string4 p prefix i state aux = string 4 prefix (i ∷ (state ++ cond (is_last p i) aux []))
 
-unfoldable pub string5 : List ℕ → List ℕ → (ℕ → List ℕ) → ℕ → List ℕ
-string5 prefix digest commitment n = string 5 prefix (digest ++ joined commitment n)
+unfoldable pub string5 : List ℕ → (ℕ → List ℕ) → ℕ → List ℕ
+string5 prefix commitment n = string 5 prefix (joined commitment n)
 
 unfoldable pub string6 : List ℕ → ℕ → (ℕ → List ℕ) → ℕ → List ℕ
 string6 prefix j announced n = string 6 prefix ((j + 1) ∷ joined announced n)

@@ -8,17 +8,14 @@ use Rattle.std.specs.Prelude.{◌≡◌, refl, List, ℕ, ◌≤◌, ◌<◌, le
 use Rattle.std.proofs.Math.Path.{sym}
 use Rattle.std.proofs.Common.{◌∙◌}
 use Rattle.lists.specs.Zeroed.{zeroed}
-use Rattle.shake256.specs.Fips.{SHAKE256}
 use Rattle.answers.specs.declared.Answer.{Answer}
 use Rattle.parameters.specs.declared.Parameters.{Parameters}
 use Rattle.parameters.specs.Limits.{Within}
 use Rattle.layout.specs.Layout.{leaves, message5_length, opened_length, statement_length, work_length}
 use Rattle.layout.specs.Lent.{Lent}
-use Rattle.exchange.specs.Values.{Key, key_of}
-use Rattle.exchange.specs.KeyDigest.{key_digest}
+use Rattle.exchange.specs.Values.{Key}
 use Rattle.exchange.specs.Opening.{Exchange, aux_of}
 use Rattle.reader.specs.Message5.{aux_in}
-use Rattle.openings.specs.Statement.{key_digest_in}
 use Rattle.openings.specs.Checked.{Checked}
 use Rattle.openings.specs.Checked.Laws.{checked-state, checked-row}
 use Rattle.extractor.specs.Comparison.Laws.{Shows}
@@ -29,7 +26,6 @@ pub mod Laws
 pub record Judging (p : Parameters) (statement : List ℕ) (leaf : ℕ) (m5 matrix y work opened : List ℕ) : Type 0 where
   pub within : Within p
   pub sized-statement : statement_length p ≤ length statement
-  pub keyed : key_digest_in statement ≡ key_digest SHAKE256 p (key_of matrix y)
   pub below : leaf < leaves p
   pub sized-message5 : length m5 ≡ message5_length p leaf
   pub lent : Lent p (length matrix) (length y) (length work)

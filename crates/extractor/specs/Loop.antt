@@ -11,7 +11,6 @@ use Rattle.std.proofs.Math.Path.{ap, subst}
 use Rattle.lists.specs.Part.Laws.{part-fits}
 use Rattle.lists.specs.Zeroed.{zeroed}
 use Rattle.shake256.specs.Fips.{SHAKE256}
-use Rattle.shake256.proofs.Laws.{length-SHAKE256}
 use Rattle.answers.specs.declared.Answer.{Answer}
 use Rattle.answers.specs.declared.Answer.TheVariants.{Done, Refused as Not}
 use Rattle.parameters.specs.declared.Parameters.{Parameters}
@@ -19,13 +18,11 @@ use Rattle.layout.specs.Layout.{message2_length, statement_length, work_length, 
 use Rattle.layout.specs.Maxima.{most_opened, most_statement}
 use Rattle.layout.specs.Runs.{digest_place}
 use Rattle.exchange.specs.Values.{Key}
-use Rattle.exchange.specs.KeyDigest.{key_digest}
-use Rattle.exchange.specs.KeyDigest.Laws.{length-key_digest}
 use Rattle.exchange.specs.Opening.{Exchange}
 use Rattle.runs.specs.Messages.{leaf_at}
 use Rattle.runs.specs.Opening.{Transcript, exchange_at}
 use Rattle.openings.specs.Statement.{statement_at, exchange_in, StatementAsked}
-use Rattle.openings.specs.Statement.Laws.{exchange-in, length-statement_at, digest-at}
+use Rattle.openings.specs.Statement.Laws.{exchange-in, length-statement_at}
 use Rattle.openings.specs.Parts.{states_in}
 use Rattle.openings.specs.Opened.{opened_states}
 use Rattle.extractor.specs.declared.best.Best.{Best}
@@ -57,21 +54,13 @@ module _ (p : Parameters) (runs : ℕ) (t t' : Transcript) (key : Key) (work out
   salted : 32 ≤ length t.message1
   salted = omega (arith, known.first.size1)
 
-  abbrev digest : List ℕ
-  digest = key_digest SHAKE256 p key
-
-  digest-long : length digest ≡ 32
-  digest-long = length-key_digest SHAKE256 length-SHAKE256 p key
-
-  pub statement-asked : (e : ℕ) (d s : List ℕ) → e < runs → length d ≡ 32 → length s ≡ statement_length p
-      → StatementAsked p e t.message1 t.message2 t.message3 d s
-  statement-asked e d s l sized room = record {
+  pub statement-asked : (e : ℕ) (s : List ℕ) → e < runs → length s ≡ statement_length p → StatementAsked p e t.message1 t.message2 t.message3 s
+  statement-asked e s l room = record {
     within = known.within;
     few = omega (arith, known.count.most);
     reaches-message1 = reaches1 e l;
     reaches-message2 = reaches2 e l;
     reaches-message3 = reaches3 e l;
-    sized-digest = sized;
     room = room;
   }
 
@@ -90,21 +79,21 @@ module _ (p : Parameters) (runs : ℕ) (t t' : Transcript) (key : Key) (work out
       lies_at p t'.leaves t'.message5 e known.within (places e l).1.few known.second.size5 (places e l).1.inside (known.below' e l)
 
   abbrev stated : ℕ → List ℕ
-  stated e = statement_at p e t.message1 t.message2 t.message3 digest
+  stated e = statement_at p e t.message1 t.message2 t.message3
 
   first-is : (e : ℕ) → e < runs → exchange_in p (stated e) (leaf_at t.leaves e) (message_in (place_at p t.leaves e) t.message5) ≡ exchange_at p t e
   first-is e l =
       ap (exchange_in p (stated e) (leaf_at t.leaves e)) (message-at p t.leaves t.message5 e)
-      ∙ exchange-in p t e (reaches1 e l) (reaches2 e l) (reaches3 e l) digest digest-long
+      ∙ exchange-in p t e (reaches1 e l) (reaches2 e l) (reaches3 e l)
 
   second_is : (e : ℕ) → e < runs → exchange_in p (stated e) (leaf_at t'.leaves e) (message_in (place_at p t'.leaves e) t'.message5) ≡ exchange_at p t' e
   second_is e l =
       ap₂ (λ (s m : List ℕ). exchange_in p s (leaf_at t'.leaves e) m)
-      (ap₂ (λ (m1 m2 : List ℕ). statement_at p e m1 m2 t.message3 digest) known.message1 known.message2
-      ∙ ap (λ (m3 : List ℕ). statement_at p e t'.message1 t'.message2 m3 digest) known.message3)
+      (ap₂ (λ (m1 m2 : List ℕ). statement_at p e m1 m2 t.message3) known.message1 known.message2
+      ∙ ap (statement_at p e t'.message1 t'.message2) known.message3)
       (message-at p t'.leaves t'.message5 e)
       ∙ exchange-in p t' e (omega (arith, reaches1 e l, ap length known.message1)) (omega (arith, reaches2 e l, ap length known.message2))
-      (omega (arith, reaches3 e l, ap length known.message3)) digest digest-long
+      (omega (arith, reaches3 e l, ap length known.message3))
 
   pub checked-at : (e : ℕ) (w : List ℕ) (r : Judgement) (w' o : List ℕ) → e < runs
       → RunChecked (pair_at p t.leaves t'.leaves e) (stated e) t.message5 t'.message5 key w r w' o
@@ -116,12 +105,11 @@ module _ (p : Parameters) (runs : ℕ) (t t' : Transcript) (key : Key) (work out
   asked-at e w o l q room = record {
     compared = record {
       within = known.within;
-      sized-statement = length-statement_at p t e (reaches1 e l) (reaches2 e l) (reaches3 e l) digest digest-long;
+      sized-statement = length-statement_at p t e (reaches1 e l) (reaches2 e l) (reaches3 e l);
       first = lies e l;
       second = lies' e l;
       room = room;
     };
-    keyed = digest-at p t e (reaches1 e l) (reaches2 e l) (reaches3 e l) digest digest-long;
     lent = record {
       matrix-is = known.lent.matrix-is;
       y-is = known.lent.y-is;

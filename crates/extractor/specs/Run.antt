@@ -17,12 +17,11 @@ use Rattle.parameters.specs.Limits.{Within}
 use Rattle.layout.specs.Layout.{opened_length, statement_length, work_length}
 use Rattle.layout.specs.Lent.{Lent}
 use Rattle.layout.specs.Maxima.{most_opened}
-use Rattle.exchange.specs.Values.{Key, key_of}
-use Rattle.exchange.specs.KeyDigest.{key_digest}
+use Rattle.exchange.specs.Values.{Key}
 use Rattle.exchange.specs.Opening.{Exchange, verdict}
 use Rattle.exchange.specs.Extractor.{extract}
 use Rattle.reader.specs.Message5.{aux_in}
-use Rattle.openings.specs.Statement.{key_digest_in, prefix_in, exchange_in}
+use Rattle.openings.specs.Statement.{prefix_in, exchange_in}
 use Rattle.openings.specs.Parts.{states_in}
 use Rattle.openings.specs.Opened.{opened_states}
 use Rattle.extractor.specs.declared.findings.Difference.{Difference}
@@ -56,7 +55,6 @@ pub record Compared (pair : Pair) (s first5 second5 openings : List ℕ) : Type 
 
 pub record RunAsked (pair : Pair) (s first5 second5 matrix y work openings : List ℕ) : Type 0 where
   pub compared : Compared pair s first5 second5 openings
-  pub keyed : key_digest_in s ≡ key_digest SHAKE256 pair.p (key_of matrix y)
   pub lent : Lent pair.p (length matrix) (length y) (length work)
 
 module _ (p : Parameters) (key : Key) (e e' : Exchange) where

@@ -1,5 +1,4 @@
-// The leaf commitments of two openings compared (layer 5, where the key digest is the same in both): a leaf opened in both, of
-// which the same is hashed, is passed over.
+// The leaf commitments of two openings compared (layer 5): a leaf opened in both, of which the same is hashed, is passed over.
 ghost use Rattle.std.specs.Prelude.{◌≡◌, ◌<◌};
 ghost use Rattle.lists.specs.Equal.{eq_list};
 ghost use Rattle.layout.specs.Layout.{leaves};

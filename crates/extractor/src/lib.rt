@@ -28,7 +28,6 @@ use crate::findings::Extraction;
 use answers::Answer;
 use best::{all_equal, answer_of, better, first_accepted, nothing_yet};
 use checks::{early_checks, exchange_lengths, lent_lengths, same_statement};
-use key_digest::key_digest;
 use layout::{MOST_STATEMENT, statement_length};
 use lowest::extracted;
 use openings::statement::put_statement;
@@ -82,21 +81,12 @@ pub fn extract(
         Answer::Refused(r) => return Extraction::Refused(r),
     }
     let size = statement_length(p);
-    let digest = key_digest(p, matrix, y);
     let mut statement = [0u8; MOST_STATEMENT];
     let mut openings = [0u8; MOST_OPENINGS];
     let mut best = nothing_yet();
     let mut run = 0;
     while run < runs {
-        put_statement(
-            p,
-            run as u8,
-            first1,
-            first2,
-            first3,
-            &digest,
-            &mut statement[..size],
-        );
+        put_statement(p, run as u8, first1, first2, first3, &mut statement[..size]);
         let pair = pair_at(p, first4, second4, run);
         let found = check_run(
             pair,

@@ -30,7 +30,7 @@
 --                    'For a leaf not below n, message 5's longer length counts'
 -- states_length p, rows_length p   the states of all leaves; the rows of all axes
 -- rows_end p, opened_length p      what an opening gives: states, rows, and the hidden leaf's commitment
--- key_digest_place, message2_place, prefix_place p   what an opening is held to: h, h', the key digest, message 2, then the prefix
+-- message2_place, prefix_place p   what an opening is held to: h, h', message 2, then the prefix
 -- prefix_length       the prefix of a run's strings: the salt and the run byte
 -- statement_length p  the same with such a prefix
 -- work_length p       a share for each party of every axis: 'a work area may be longer, never shorter than 2·D·(k+2w+12t)' (`work-is`)
@@ -152,11 +152,8 @@ siblings_length p = 16 * levels p
 unfoldable pub message5_length : Parameters → ℕ → ℕ
 message5_length p i = siblings_length p + 32 + values_length p + cond (is_last p i) 0 (aux_length p)
 
-abbrev pub key_digest_place : ℕ
-key_digest_place = 64
-
 abbrev pub message2_place : ℕ
-message2_place = 96
+message2_place = 64
 
 abbrev pub prefix_place : Parameters → ℕ
 prefix_place p = message2_place + message2_length p

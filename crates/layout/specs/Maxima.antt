@@ -63,7 +63,7 @@ abbrev pub most_opened : ℕ
 most_opened = 9_760
 
 abbrev pub most_statement : ℕ
-most_statement = 193
+most_statement = 161
 
 abbrev pub most_runs : ℕ
 most_runs = 32

@@ -45,7 +45,7 @@ pub const MOST_BLOCKS: usize = 864;
 pub const MOST_OPENED: usize = 9760;
 
 // What an opening is held to, at t 8.
-pub const MOST_STATEMENT: usize = 193;
+pub const MOST_STATEMENT: usize = 161;
 
 // The runs of an exchange.
 pub const MOST_RUNS: usize = 32;
@@ -321,12 +321,12 @@ pub fn opened_length(p: Parameters) -> usize
     rows_end(p) + 32
 }
 
-// Where the prefix starts in what an opening is held to, behind h, h', the key digest and message 2.
+// Where the prefix starts in what an opening is held to, behind h, h' and message 2.
 pub fn prefix_place(p: Parameters) -> usize
     requires { Within p }
     ensures { result ≡ spec.prefix_place p }
 {
-    96 + message2_length(p)
+    64 + message2_length(p)
 }
 
 // The length of what an opening is held to, with a prefix of salt and run byte.

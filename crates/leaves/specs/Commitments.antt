@@ -2,7 +2,7 @@
 --
 -- commitments_of p prefix states hidden given aux i   the commitment of leaf i (layer 4); the hidden leaf's is given
 -- commitments_after s p states hidden given aux i     the same, hashed on from the sponge s
--- committed prefix d f n   the sponge that has absorbed 5 ‖ prefix ‖ the key digest d ‖ the commitments f 0 to f (n − 1)
+-- committed prefix f n   the sponge that has absorbed 5 ‖ prefix ‖ the commitments f 0 to f (n − 1)
 use Rattle.std.specs.Prelude.{cond, List, ℕ, eqb}
 use Rattle.shake256.specs.declared.Sponge.{Sponge}
 use Rattle.shake256.specs.Stream.{absorbed}
@@ -21,5 +21,5 @@ commitments_of p prefix states hidden given aux i = cond (eqb i hidden) given (c
 unfoldable pub commitments_after : Sponge → Parameters → List ℕ → ℕ → List ℕ → List ℕ → ℕ → List ℕ
 commitments_after s p states hidden given aux i = cond (eqb i hidden) given (commitment_after s p i (state_at states i) aux)
 
-unfoldable pub committed : List ℕ → List ℕ → (ℕ → List ℕ) → ℕ → Sponge
-committed prefix d f n = absorbed (absorbed (begun 5 prefix) d) (joined f n)
+unfoldable pub committed : List ℕ → (ℕ → List ℕ) → ℕ → Sponge
+committed prefix f n = absorbed (begun 5 prefix) (joined f n)

@@ -11,7 +11,7 @@ use crate::{COMMITMENTS, leaf_commitment};
 use layout::leaf_count;
 use parameters::Parameters;
 use shake256::Sponge;
-use strings::{absorb, begin};
+use strings::{absorb, begin, digest};
 
 // The layer byte of the string of all commitments.
 const ALL_COMMITMENTS: u8 = 5;
@@ -39,12 +39,11 @@ fn absorb_commitment(
     absorb(all, &commitment)
 }
 
-// Fills out with the digest of all commitments behind the key digest, from the states of all leaves. The hidden leaf's
-// commitment is given; a number that is not below n hides none.
+// Fills out with the digest of all commitments, from the states of all leaves. The hidden leaf's commitment is given; a
+// number that is not below n hides none.
 pub fn digest_commitments(
     p: Parameters,
     prefix: &[u8],
-    digest: &[u8],
     states: &[u8],
     hidden_leaf: usize,
     given: &[u8],
@@ -52,12 +51,12 @@ pub fn digest_commitments(
     out: &mut [u8],
 )
     requires { Commitments p states.now }
-    ensures { out.new ≡ SHAKE256 (string5 prefix.now digest.now
+    ensures { out.new ≡ SHAKE256 (string5 prefix.now
         (commitments_of p prefix.now states.now hidden_leaf given.now aux.now) (layout.leaves p))
         (length out.old) }
 {
     let start = begin(COMMITMENTS, prefix);
-    let mut all = absorb(begin(ALL_COMMITMENTS, prefix), digest);
+    let mut all = begin(ALL_COMMITMENTS, prefix);
     let n = leaf_count(p);
     let mut i = 0;
     while i < n {
@@ -65,5 +64,5 @@ pub fn digest_commitments(
         all = next;
         i += 1;
     }
-    strings::digest(all, out);
+    digest(all, out);
 }

@@ -1,6 +1,6 @@
 -- The laws of message 1.
 --
--- commitment-made    the digest of all commitments, from the key digest, the prover's states and aux: what stands behind the prefix in message 1
+-- commitment-made    the digest of all commitments, from the prover's states and aux: what stands behind the prefix in message 1
 use Rattle.std.specs.Prelude.{◌≡◌, refl, List, [], ℕ, length, drop}
 use Rattle.std.proofs.Common.{sym, ap, ap₂, ◌∙◌, le_refl, drop_at}
 use Rattle.shake256.specs.Fips.{SHAKE256}
@@ -17,12 +17,11 @@ use Rattle.messages.specs.Own.Laws.{own_states-at}
 
 pub commitment-made : (p : Parameters) (x : List ℕ) (run : Run) → length run.root ≡ 16 → (prefix states aux : List ℕ) (n l : ℕ)
     → prefix ≡ run.prefix → states ≡ own_states p run → n ≡ leaves p → aux ≡ own_aux SHAKE256 p x run → l ≡ 32
-    → (d : List ℕ)
-    → SHAKE256 (string5 prefix d (commitments_of p prefix states n [] aux) (leaves p)) l ≡ drop (length run.prefix) (message1 SHAKE256 p x run d)
-commitment-made p x run sixteen prefix states aux n l ep es en ea el d =
-    let digest : List ℕ → ℕ → List ℕ = λ q k. SHAKE256 (string5 q d (commitments_of p q states k [] aux) (leaves p)) 32 in
-    ap (SHAKE256 (string5 prefix d (commitments_of p prefix states n [] aux) (leaves p))) el ∙ ap₂ digest ep en
+    → SHAKE256 (string5 prefix (commitments_of p prefix states n [] aux) (leaves p)) l ≡ drop (length run.prefix) (message1 SHAKE256 p x run)
+commitment-made p x run sixteen prefix states aux n l ep es en ea el =
+    let digest : List ℕ → ℕ → List ℕ = λ q k. SHAKE256 (string5 q (commitments_of p q states k [] aux) (leaves p)) 32 in
+    ap (SHAKE256 (string5 prefix (commitments_of p prefix states n [] aux) (leaves p))) el ∙ ap₂ digest ep en
     ∙ sym (drop_at run.prefix (digest run.prefix (leaves p)) (length run.prefix) refl)
     ∙ ap (drop (length run.prefix))
     (commitments-message1 p x run states (leaves p) [] aux (λ i h. ap (λ (st : List ℕ). state_at st i) es ∙ own_states-at p x run sixteen i h) ea
-    (le_refl (leaves p)) d)
+    (le_refl (leaves p)))

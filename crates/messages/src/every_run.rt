@@ -16,18 +16,10 @@ use lists::put_at;
 use parameters::Parameters;
 
 // out becomes message 1, salt and h of each run, and the named length of the work area ends as zeros.
-pub fn message1(
-    p: Parameters,
-    runs: usize,
-    x: &[u8],
-    seeds: &[u8],
-    digest: &[u8],
-    work: &mut [u8],
-    out: &mut [u8],
-)
+pub fn message1(p: Parameters, runs: usize, x: &[u8], seeds: &[u8], work: &mut [u8], out: &mut [u8])
     requires { Exchanging p runs x.now seeds.now work.old × (length out.old ≡ message1_length runs) }
     ensures { (out.new ≡ spec.message1 SHAKE256 p runs (take p.m x.now) (salt_in seeds.now)
-        (root_in seeds.now) digest.now) × (work.new ≡ zeroed (work_length p) work.old) }
+        (root_in seeds.now)) × (work.new ≡ zeroed (work_length p) work.old) }
 {
     put_at(out, 0, &seeds[..32]);
     let mut at = 32;
@@ -35,7 +27,7 @@ pub fn message1(
     while e < runs {
         let end = at + 32;
         let run = run_at(seeds, e);
-        commitment_digest(p, x, &run, digest, work, &mut out[at..end]);
+        commitment_digest(p, x, &run, work, &mut out[at..end]);
         at = end;
         e += 1;
     }

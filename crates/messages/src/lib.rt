@@ -62,17 +62,10 @@ pub fn run_at(seeds: &[u8], e: usize) -> [u8; 49]
 }
 
 // out becomes h, which stands behind the prefix in message 1, and the named length of the work area ends as zeros.
-pub fn commitment_digest(
-    p: Parameters,
-    x: &[u8],
-    run: &[u8],
-    digest: &[u8],
-    work: &mut [u8],
-    out: &mut [u8],
-)
+pub fn commitment_digest(p: Parameters, x: &[u8], run: &[u8], work: &mut [u8], out: &mut [u8])
     requires { Arrays p x.now run.now work.old × (length out.old ≡ 32) }
     ensures { (out.new ≡ drop (length (run_in run.now).prefix)
-        (spec.message1 SHAKE256 p (take p.m x.now) (run_in run.now) digest.now))
+        (spec.message1 SHAKE256 p (take p.m x.now) (run_in run.now)))
         × (work.new ≡ zeroed (work_length p) work.old) }
 {
     let mut states = [0u8; MOST_STATES];
@@ -81,16 +74,7 @@ pub fn commitment_digest(
     let size = states_length(p);
     let length = aux_length(p);
     own_leaves(p, x, run, work, &mut states[..size], &mut aux[..length]);
-    digest_commitments(
-        p,
-        &run[16..],
-        digest,
-        &states[..size],
-        n,
-        &[],
-        &aux[..length],
-        out,
-    );
+    digest_commitments(p, &run[16..], &states[..size], n, &[], &aux[..length], out);
 }
 
 // out becomes message 3, and the named length of the work area ends as zeros.

@@ -1,6 +1,6 @@
 -- What each step makes from what it is lent.
 --
--- digest_from p pre d leaf c a st n   n bytes of the digest of all commitments, from the key digest d, the states st, and commitment c and aux a of message 5
+-- digest_from p pre leaf c a st n   n bytes of the digest of all commitments, from the states st, and commitment c and aux a of message 5
 -- announced_from p key m2 sums leaf v    what the parties of every axis announce, from the sums, and α and β in v
 -- response_from p pre rows n        n bytes of the digest of what the parties of every axis announce
 -- judged p s leaf a o              the answer, from the comparisons of the two digests of what an opening gives in o with h and h' of the statement s
@@ -18,11 +18,11 @@ use Rattle.exchange.specs.Values.{Key}
 use Rattle.leaves.specs.Commitments.{commitments_of}
 use Rattle.axes.specs.Announcing.{row_of}
 use Rattle.axes.specs.RowStrings.{rows_string}
-use Rattle.openings.specs.Statement.{digest_in, response_in, key_digest_in, prefix_in}
+use Rattle.openings.specs.Statement.{digest_in, response_in, prefix_in}
 use Rattle.openings.specs.Parts.{states_in, rows_in, hidden_commitment}
 
-unfoldable pub digest_from : Parameters → List ℕ → List ℕ → ℕ → List ℕ → List ℕ → List ℕ → ℕ → List ℕ
-digest_from p prefix d leaf commitment aux states n = SHAKE256 (string5 prefix d (commitments_of p prefix states leaf commitment aux) (leaves p)) n
+unfoldable pub digest_from : Parameters → List ℕ → ℕ → List ℕ → List ℕ → List ℕ → ℕ → List ℕ
+digest_from p prefix leaf commitment aux states n = SHAKE256 (string5 prefix (commitments_of p prefix states leaf commitment aux) (leaves p)) n
 
 unfoldable pub announced_from : Parameters → Key → List ℕ → List ℕ → ℕ → List ℕ → List ℕ
 announced_from p key m2 sums leaf values = joined (row_of p key m2 sums leaf values) p.axes
@@ -33,7 +33,7 @@ response_from p prefix rows n = SHAKE256 (rows_string SHAKE256 p prefix rows) n
 unfoldable pub judged : Parameters → List ℕ → ℕ → List ℕ → List ℕ → Answer
 judged p s leaf aux o =
     checks (
-    (eq_list (digest_from p (prefix_in p s) (key_digest_in s) leaf (hidden_commitment p o) aux (states_in p o) 32) (digest_in s), Commitment)
+    (eq_list (digest_from p (prefix_in p s) leaf (hidden_commitment p o) aux (states_in p o) 32) (digest_in s), Commitment)
     ∷ (eq_list (response_from p (prefix_in p s) (rows_in p o) 32) (response_in s), Response)
     ∷ []
     )

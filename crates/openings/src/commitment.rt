@@ -2,7 +2,7 @@
 ghost use Rattle.std.specs.Prelude.{◌≡◌};
 ghost use Rattle.lists.specs.Equal.{eq_list};
 ghost use Rattle.parties.specs.Sums.Front.{filled};
-ghost use Rattle.openings.specs.Statement.{digest_in, key_digest_in, prefix_in};
+ghost use Rattle.openings.specs.Statement.{digest_in, prefix_in};
 ghost use Rattle.openings.specs.Parts.{states_in, hidden_commitment};
 ghost use Rattle.openings.specs.From.{digest_from};
 ghost use Rattle.openings.specs.Asked.{SumsAsked, LeavesAsked, VerdictAsked};
@@ -77,8 +77,8 @@ pub fn commitment_agrees(
     opened: &[u8],
 ) -> bool
     requires { VerdictAsked p statement.now opened.now }
-    ensures { result ≡ eq_list (digest_from p (prefix_in p statement.now) (key_digest_in statement.now) hidden_leaf
-        (hidden_commitment p opened.now) aux.now (states_in p opened.now) 32) (digest_in statement.now) }
+    ensures { result ≡ eq_list (digest_from p (prefix_in p statement.now) hidden_leaf (hidden_commitment p opened.now)
+        aux.now (states_in p opened.now) 32) (digest_in statement.now) }
 {
     let at = prefix_place(p);
     let states = states_length(p);
@@ -87,7 +87,6 @@ pub fn commitment_agrees(
     digest_commitments(
         p,
         &statement[at..],
-        &statement[64..96],
         &opened[..states],
         hidden_leaf,
         &opened[rows..],

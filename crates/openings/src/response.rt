@@ -37,7 +37,7 @@ pub fn open_axes(
     axis_rows(
         p,
         &work[..sums],
-        &statement[96..at],
+        &statement[64..at],
         matrix,
         y,
         hidden_leaf,

@@ -1,4 +1,4 @@
-// What the opening of a run is held to, in one slice: h, h', the key digest, message 2, then the prefix.
+// What the opening of a run is held to, in one slice: h, h', message 2, then the prefix.
 ghost use Rattle.std.specs.Prelude.{◌≡◌};
 ghost use Rattle.openings.specs.Statement as spec;
 
@@ -12,19 +12,17 @@ fn wide(run: u8) -> usize
     run as usize
 }
 
-// Fills out with the statement of a run, from messages 1 to 3 of its exchange and the key digest.
+// Fills out with the statement of a run, from messages 1 to 3 of its exchange.
 pub fn put_statement(
     p: Parameters,
     run: u8,
     message1: &[u8],
     message2: &[u8],
     message3: &[u8],
-    digest: &[u8],
     out: &mut [u8],
 )
-    requires { spec.StatementAsked p run message1.now message2.now message3.now digest.now out.old }
-    ensures { out.new ≡ spec.statement_at p run message1.now message2.now message3.now
-        digest.now }
+    requires { spec.StatementAsked p run message1.now message2.now message3.now out.old }
+    ensures { out.new ≡ spec.statement_at p run message1.now message2.now message3.now }
 {
     let e = wide(run);
     let size = message2_length(p);
@@ -35,8 +33,7 @@ pub fn put_statement(
     let byte = [run];
     put_at(out, 0, &message1[h..h + 32]);
     put_at(out, 32, &message3[response..response + 32]);
-    put_at(out, 64, digest);
-    put_at(out, 96, &message2[points..points + size]);
+    put_at(out, 64, &message2[points..points + size]);
     put_at(out, at, &message1[..32]);
     put_at(out, at + 32, &byte);
 }

@@ -1,6 +1,5 @@
 // The parameters as the numbers of the set line, in its order: the one place that knows the order.
 ghost use Rattle.std.specs.Prelude.{◌≡◌, length};
-ghost use Rattle.parameters.specs.Limits.{Within};
 ghost use Rattle.parameters.specs.Set.{set_length, numbers_of, parameters_of};
 
 use crate::Parameters;
@@ -27,13 +26,4 @@ pub fn numbers_of(p: Parameters) -> [usize; 5]
     ensures { result ≡ numbers_of p }
 {
     [p.m, p.k, p.w, p.axes, p.t]
-}
-
-// The numbers of the parameters, one byte each.
-pub fn bytes_of(p: Parameters) -> [u8; 5]
-    requires { Within p }
-    ensures { result ≡ numbers_of p }
-{
-    let n = numbers_of(p);
-    [n[0] as u8, n[1] as u8, n[2] as u8, n[3] as u8, n[4] as u8]
 }

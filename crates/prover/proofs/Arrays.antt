@@ -26,11 +26,8 @@ module _ (s : Prover) (told : (vs : Valss (shape the_type).fields) × shadow (wi
   pub root-length : length s.root ≡ 16
   root-length = sym (length-map s.root _) ∙ told.1.1.1.1.1.1.1.0.1.0.1
 
-  pub digest-length : length s.digest ≡ 32
-  digest-length = sym (length-map s.digest _) ∙ told.1.1.1.1.1.1.1.1.0.1.0.1
-
   pub message2-length : length s.message2 ≡ most_messages2
-  message2-length = sym (length-map s.message2 _) ∙ told.1.1.1.1.1.1.1.1.1.0.1.0.1
+  message2-length = sym (length-map s.message2 _) ∙ told.1.1.1.1.1.1.1.1.0.1.0.1
 
   pub salt-length : length s.salt ≡ 32
   salt-length = sym (length-map s.salt _) ∙ told.1.1.1.1.1.1.0.1.0.1

@@ -4,7 +4,6 @@
 -- begin_tests p runs x_a matrix y l      the lengths of the slices that begin is lent, one test each; l has those but of x_A, matrix and y
 -- begin_row p runs x_a matrix y l again  the checks of begin, where `again` says that salt and root are those of the exchange held
 -- lengths_of salt root work out         the lengths of these slices
--- areas_of work out                     the lengths of work area and output
 -- Sized p runs x_a matrix y l           the slices that begin is lent have the lengths that it asks
 -- Weighing p x_a matrix y x             matrix, y and x_A of the lengths that the parameters say, and 255 zeros to make x in
 use Rattle.std.specs.Prelude.{◌≡◌, Bool, ◌&&◌, not, List, [], ◌∷◌, ℕ, eqb, leb, length, replicate}
@@ -19,7 +18,6 @@ use Rattle.layout.specs.Runs.Laws.{RunsWithin}
 use Rattle.relation.specs.Key.{weight_of, vector_of}
 use Rattle.layout.specs.Lent.{lent_tests, Lent}
 use Rattle.prover.specs.declared.arguments.Lengths.{Lengths}
-use Rattle.prover.specs.declared.arguments.Areas.{Areas}
 pub mod Laws
 
 pub record Limited (p : Parameters) (runs : ℕ) : Type 0 where
@@ -40,9 +38,6 @@ begin_row p runs x_a matrix y l again =
 
 abbrev pub lengths_of : List ℕ → List ℕ → List ℕ → List ℕ → Lengths
 lengths_of salt root work out = record { salt = length salt; root = length root; work = length work; out = length out }
-
-abbrev pub areas_of : List ℕ → List ℕ → Areas
-areas_of work out = record { work = length work; out = length out }
 
 pub record Sized (p : Parameters) (runs x_a matrix y : ℕ) (l : Lengths) : Type 0 where
   pub x_a-is : x_a ≡ p.k

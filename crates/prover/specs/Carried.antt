@@ -16,7 +16,6 @@ use Rattle.relation.specs.Key.{vector_of}
 use Rattle.relation.specs.Key.Vector.{length-vector}
 use Rattle.layout.specs.Layout.{work_length}
 use Rattle.exchange.specs.Values.{Key}
-use Rattle.exchange.specs.KeyDigest.{key_digest}
 use Rattle.runs.specs.Messages.{message1, message3, message5}
 use Rattle.prover_phase.specs.declared.Phase.TheVariants.{Begun}
 use Rattle.calls.specs.Prover.{Prover, padded, held_x, held_message2, begun, answered, opened}
@@ -36,7 +35,7 @@ module _ (s : Prover) (p : Parameters) (runs : ℕ) (x_a salt root : List ℕ) (
       length-vector key.matrix key.y x_a ∙ (let a = h.sized.x_a-is in let b = h.sized.lent.y-is in omega (arith, h.limits.within))
 
   pub begun-with : Begins p runs x_a salt root key.matrix key.y work out
-      → begun_with p runs (padded 255 (vector_of key.matrix key.y x_a)) salt root (key_digest SHAKE256 p key) work ≡ begun SHAKE256 s p runs x_a salt root key work out
+      → begun_with p runs (padded 255 (vector_of key.matrix key.y x_a)) salt root work ≡ begun SHAKE256 s p runs x_a salt root key work out
   unfolding begun_with begun
   begun-with h = rw (padded-front p.m (vector_of key.matrix key.y x_a) (vector-length h))
 
@@ -58,11 +57,11 @@ module _ (s : Prover) (p : Parameters) (runs : ℕ) (x_a salt root : List ℕ) (
 pub run-count : (n l : ℕ) → l ≡ n * 32 → l / 32 ≡ n
 run-count n l e = omega arith
 
-pub begun-made : (p : Parameters) (runs : ℕ) (x salt root digest work : List ℕ) (next : Prover) (out' work' : List ℕ)
-    → next ≡ next_begun Begun p runs x salt root digest → out' ≡ message1 SHAKE256 p runs (take p.m x) salt root digest
-    → work' ≡ zeroed (work_length p) work → outcome_of Done next out' work' ≡ begun_with p runs x salt root digest work
+pub begun-made : (p : Parameters) (runs : ℕ) (x salt root work : List ℕ) (next : Prover) (out' work' : List ℕ) → next ≡ next_begun Begun p runs x salt root
+    → out' ≡ message1 SHAKE256 p runs (take p.m x) salt root → work' ≡ zeroed (work_length p) work
+    → outcome_of Done next out' work' ≡ begun_with p runs x salt root work
 unfolding begun_with
-begun-made p runs x salt root digest work next out' work' e f g = rw (e, f, g)
+begun-made p runs x salt root work next out' work' e f g = rw (e, f, g)
 
 module _ (s : Prover) (key : Key) (work out : List ℕ) where
   pub answered-made : (message2 : List ℕ) (next : Prover) (out' work' : List ℕ) → next ≡ next_answered s message2

@@ -7,18 +7,17 @@
 -- points-ready, leaf-ready               what a session says in which a call but begin is due
 -- points-limited, leaf-limited           so its parameters and its run count are within their limits
 -- begin-facts, points-facts, leaf-facts  what the checks that passed say
-use Rattle.std.specs.Prelude.{◌≡◌, refl, Bool, true, false, ◌&&◌, ◌||◌, not, cond, List, ◌∷◌, eqb, leb, length}
+use Rattle.std.specs.Prelude.{◌≡◌, refl, Bool, true, false, ◌&&◌, ◌||◌, not, cond, List, eqb, leb, length}
 use Rattle.std.proofs.Math.Path.{sym, ap}
 use Rattle.std.proofs.Common.{◌∙◌, true≢false}
 use Rattle.std.proofs.lemmas.Bool.{false≢true}
 use Prim.Native.Nat.{ℕ}
 use borrow.Author.Tests.{eqb-true, leb-true}
-use Rattle.lists.specs.Equal.{eq_list}
 use Rattle.lists.specs.Checks.{all_true}
 use Rattle.lists.specs.Checks.Laws.{all-at, and_left, and_right}
 use Rattle.answers.specs.declared.Answer.{Answer}
 use Rattle.answers.specs.declared.Answer.TheVariants.{Done, Refused}
-use Rattle.answers.specs.declared.Refusal.TheVariants.{Parameter, Length, Weight, Leaf, NotDue, Closed as ExchangeClosed, SamePoint, OtherKey}
+use Rattle.answers.specs.declared.Refusal.TheVariants.{Parameter, Length, Weight, Leaf, NotDue, Closed as ExchangeClosed, SamePoint}
 use Rattle.answers.specs.Checks.{check, checks}
 use Rattle.answers.specs.Checks.Laws.{check-true, check-rest}
 use Rattle.parameters.specs.declared.Parameters.{Parameters}
@@ -28,18 +27,16 @@ use Rattle.relation.specs.Key.{weight_of, vector_of}
 use Rattle.layout.specs.Runs.{runs_within, messages2_length, messages3_length, messages5_length}
 use Rattle.layout.specs.Runs.Laws.{runs-within}
 use Rattle.exchange.specs.Values.{Key}
-use Rattle.exchange.specs.KeyDigest.{key_digest}
 use Rattle.runs.specs.Points.{distinct_points}
-use Rattle.layout.specs.Lent.{lent, lent_tests, Lent}
+use Rattle.layout.specs.Lent.{lent, Lent}
 use Rattle.layout.specs.Lent.Laws.{test-lent}
-use Rattle.prover.specs.Arguments.{Limited, begin_tests, begin_row, lengths_of, areas_of}
+use Rattle.prover.specs.Arguments.{Limited, begin_tests, begin_row, lengths_of}
 use Rattle.prover.specs.Arguments.Laws.{limited, begin-sized}
-use Rattle.prover.specs.declared.arguments.Areas.{Areas}
 use Rattle.prover_phase.specs.declared.Phase.{Phase}
 use Rattle.prover_phase.specs.declared.Phase.TheVariants.{Fresh, Begun, Answered, Closed}
 use Rattle.calls.specs.Lengths.{key_lengths, begin_lengths, points_lengths, leaf_lengths, leaves_below}
 use Rattle.calls.specs.Lengths.Laws.{leaves-below}
-use Rattle.calls.specs.Prover.{Prover, Outcome, settle, is_fresh, is_begun, is_answered, is_closed, held_x, intact, standing, closed, points_due, leaf_due, repeated, same_key, begin_checks, points_checks, leaf_checks}
+use Rattle.calls.specs.Prover.{Prover, Outcome, settle, is_fresh, is_begun, is_answered, is_closed, held_x, intact, standing, closed, points_due, leaf_due, repeated, begin_checks, points_checks, leaf_checks}
 use Rattle.prover.specs.Facts.{is_done, outcome_of, Ready, Begins, Answering, Opening}
 
 -- ---- the checks as rows
@@ -64,32 +61,17 @@ module _ (hash : List ℕ → ℕ → List ℕ) (s : Prover) (work out : List �
     unfolding leaf_due
     leaf-is b e = ap is_answered (sym told) ∙ e
 
-    module _ (key : Key) (areas : Areas) (lent : areas ≡ areas_of work out) where
-      -- the tests of the output's length, and of matrix, y and work area
-      abbrev area_tests : ℕ → Areas → List Bool
-      area_tests n a = eqb a.out n ∷ lent_tests s.parameters (length key.matrix) (length key.y) a.work
+    pub points-row : (message2 : List ℕ) (key : Key) (ended due lengths distinct : Bool) → is_closed counted ≡ ended → is_begun counted ≡ due
+        → all_true (points_lengths s.parameters s.runs message2 key work out) ≡ lengths → distinct_points s.parameters s.runs message2 ≡ distinct
+        → check (not ended) ExchangeClosed (check due NotDue (check lengths Length (check distinct SamePoint Done))) ≡ points_checks hash s message2 key work out
+    unfolding points_checks
+    points-row message2 key ended due lengths distinct e f g h = rw (← ended_is ended e, ← points-is due f, ← g, ← h)
 
-      lengths-are : (first : Bool) (n : ℕ) (b : Bool) → all_true (first ∷ area_tests n areas) ≡ b → all_true (first ∷ area_tests n (areas_of work out)) ≡ b
-      lengths-are first n b e = ap (λ (a : Areas). all_true (first ∷ area_tests n a)) (sym lent) ∙ e
-
-      pub points-row : (message2 : List ℕ) (ended due lengths distinct same : Bool) → is_closed counted ≡ ended → is_begun counted ≡ due
-          → all_true (eqb (length message2) (messages2_length s.parameters s.runs) ∷ area_tests (messages3_length s.runs) areas) ≡ lengths
-          → distinct_points s.parameters s.runs message2 ≡ distinct → eq_list (key_digest hash s.parameters key) s.digest ≡ same
-          → check (not ended) ExchangeClosed (check due NotDue (check lengths Length (check distinct SamePoint (check same OtherKey Done))))
-          ≡ points_checks hash s message2 key work out
-      unfolding points_checks same_key
-      points-row message2 ended due lengths distinct same e f g h k =
-          let n : ℕ = messages2_length s.parameters s.runs in
-          rw (← ended_is ended e, ← points-is due f, ← lengths-are (eqb (length message2) n) (messages3_length s.runs) lengths g, ← h, ← k)
-
-      pub leaf-row : (is : List ℕ) (ended due lengths same below : Bool) → is_closed counted ≡ ended → is_answered counted ≡ due
-          → all_true (eqb (length is) s.runs ∷ area_tests (messages5_length s.parameters is) areas) ≡ lengths
-          → eq_list (key_digest hash s.parameters key) s.digest ≡ same → leaves_below s.parameters is ≡ below
-          → check (not ended) ExchangeClosed (check due NotDue (check lengths Length (check same OtherKey (check below Leaf Done))))
-          ≡ leaf_checks hash s is key work out
-      unfolding leaf_checks same_key
-      leaf-row is ended due lengths same below e f g h k =
-          rw (← ended_is ended e, ← leaf-is due f, ← lengths-are (eqb (length is) s.runs) (messages5_length s.parameters is) lengths g, ← h, ← k)
+    pub leaf-row : (is : List ℕ) (key : Key) (ended due lengths below : Bool) → is_closed counted ≡ ended → is_answered counted ≡ due
+        → all_true (leaf_lengths s.parameters s.runs is key work out) ≡ lengths → leaves_below s.parameters is ≡ below
+        → check (not ended) ExchangeClosed (check due NotDue (check lengths Length (check below Leaf Done))) ≡ leaf_checks hash s is key work out
+    unfolding leaf_checks
+    leaf-row is key ended due lengths below e f g h = rw (← ended_is ended e, ← leaf-is due f, ← g, ← h)
 
 -- ---- refused, or carried out
 
@@ -195,11 +177,12 @@ module _ (hash : List ℕ → ℕ → List ℕ) (s : Prover) (work out : List �
       let due = check-rest (not (closed s)) ExchangeClosed _ e in
       let late = check-rest (leaf_due s) NotDue _ due in
       let sized = check-true (all_true tests) Length _ late in
-      let known = check-rest (same_key hash s key) OtherKey _ (check-rest (all_true tests) Length _ late) in
       record {
         ready = leaf-ready s (check-true (leaf_due s) NotDue _ due);
         leaves-are = eqb-true (length is) s.runs (all-at tests sized 0);
-        below = leaves-below s.parameters is (check-true (leaves_below s.parameters is) Leaf Done known);
+        below =
+            leaves-below s.parameters is
+            (check-true (leaves_below s.parameters is) Leaf Done (check-rest (all_true tests) Length _ late));
         out-is = eqb-true (length out) n (all-at tests sized 1);
         lent = lent-facts s.parameters key work (and_right (eqb (length out) n) _ (and_right (eqb (length is) s.runs) _ sized));
       }

@@ -1,7 +1,7 @@
 -- The session in code and what a call returns, as the definitions of the calls have them.
 --
 -- HeldVector x          x as a session holds it: 255 bytes, of which the first m count
--- session f p runs x salt root digest message2   a session that holds these
+-- session f p runs x salt root message2   a session that holds these
 -- held s                the session, field by field
 -- given c out work      what a method returned and left in the lent slices: document 01's number of the answer, the session, output and work area
 use Rattle.std.specs.Prelude.{◌≡◌, List, ℕ, length}
@@ -15,12 +15,12 @@ use Rattle.prover.specs.declared.Called.{Called}
 abbrev pub HeldVector : List ℕ → Type 0
 HeldVector x = length x ≡ 255
 
-abbrev pub session : Phase → Parameters → ℕ → List ℕ → List ℕ → List ℕ → List ℕ → List ℕ → Session
-session f p runs x salt root digest message2 =
-    record { phase = f; parameters = p; runs = runs; x = x; salt = salt; root = root; digest = digest; message2 = message2 }
+abbrev pub session : Phase → Parameters → ℕ → List ℕ → List ℕ → List ℕ → List ℕ → Session
+session f p runs x salt root message2 =
+    record { phase = f; parameters = p; runs = runs; x = x; salt = salt; root = root; message2 = message2 }
 
 abbrev pub held : Prover → Session
-held s = session s.phase s.parameters s.runs s.x s.salt s.root s.digest s.message2
+held s = session s.phase s.parameters s.runs s.x s.salt s.root s.message2
 
 abbrev pub given : Called → List ℕ → List ℕ → Outcome
 given c out work = record { answer = answer_number c.answer; prover = held c.prover; out = out; work = work }

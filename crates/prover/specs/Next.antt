@@ -1,9 +1,9 @@
 -- The session after a call that is carried out.
 --
--- next_begun f p runs x salt root digest   begin: a new exchange, x in 255 bytes, in the phase f
+-- next_begun f p runs x salt root  begin: a new exchange, x in 255 bytes, in the phase f
 -- next_answered s message2    points: message 2 is held, at the front of its place
 -- next_closed s               leaf: 'Closing changes nothing else that a session holds'
--- begun_with p runs x salt root digest work   begin carried out, with x at the front of 255 bytes
+-- begun_with                  begin carried out, with x at the front of 255 bytes
 use Rattle.std.specs.Prelude.{List, ℕ, replicate, take}
 use Rattle.lists.specs.Part.{put_at}
 use Rattle.lists.specs.Zeroed.{zeroed}
@@ -16,9 +16,9 @@ use Rattle.prover_phase.specs.declared.Phase.{Phase}
 use Rattle.prover_phase.specs.declared.Phase.TheVariants.{Begun, Answered, Closed}
 use Rattle.calls.specs.Prover.{Prover, Outcome}
 
-abbrev pub next_begun : Phase → Parameters → ℕ → List ℕ → List ℕ → List ℕ → List ℕ → Prover
-next_begun f p runs x salt root digest =
-    record { phase = f; parameters = p; runs = runs; x = x; salt = salt; root = root; digest = digest; message2 = replicate most_messages2 0 }
+abbrev pub next_begun : Phase → Parameters → ℕ → List ℕ → List ℕ → List ℕ → Prover
+next_begun f p runs x salt root =
+    record { phase = f; parameters = p; runs = runs; x = x; salt = salt; root = root; message2 = replicate most_messages2 0 }
 
 abbrev pub next_answered : Prover → List ℕ → Prover
 next_answered s message2 = record {
@@ -28,7 +28,6 @@ next_answered s message2 = record {
   x = s.x;
   salt = s.salt;
   root = s.root;
-  digest = s.digest;
   message2 = put_at s.message2 0 message2;
 }
 
@@ -40,14 +39,13 @@ next_closed s = record {
   x = s.x;
   salt = s.salt;
   root = s.root;
-  digest = s.digest;
   message2 = s.message2;
 }
 
-unfoldable pub begun_with : Parameters → ℕ → List ℕ → List ℕ → List ℕ → List ℕ → List ℕ → Outcome
-begun_with p runs x salt root digest work = record {
+unfoldable pub begun_with : Parameters → ℕ → List ℕ → List ℕ → List ℕ → List ℕ → Outcome
+begun_with p runs x salt root work = record {
   answer = 0;
-  prover = next_begun Begun p runs x salt root digest;
-  out = message1 SHAKE256 p runs (take p.m x) salt root digest;
+  prover = next_begun Begun p runs x salt root;
+  out = message1 SHAKE256 p runs (take p.m x) salt root;
   work = zeroed (work_length p) work;
 }

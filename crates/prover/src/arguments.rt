@@ -49,13 +49,6 @@ pub fn begin_lengths(
                     && layout::lent(p, matrix, y, others.work))))
 }
 
-// The lengths of the work area and the output that points and leaf are lent.
-#[derive(Drop)]
-pub struct Areas {
-    pub work: usize,
-    pub out: usize,
-}
-
 // Have the slices that points is lent, of these lengths, the lengths that parameters and run count say?
 pub fn points_lengths(
     p: Parameters,
@@ -63,14 +56,14 @@ pub fn points_lengths(
     message2: usize,
     matrix: usize,
     y: usize,
-    areas: Areas,
+    work: usize,
+    out: usize,
 ) -> bool
     requires { Limited p runs }
-    ensures { result ≡ all_true (eqb message2 (messages2_length p runs) ∷ eqb areas.out (messages3_length runs)
-        ∷ lent_tests p matrix y areas.work) }
+    ensures { result ≡ all_true (eqb message2 (messages2_length p runs) ∷ eqb out (messages3_length runs) ∷ lent_tests p matrix y work) }
 {
     message2 == messages2_length(p, runs)
-        && (areas.out == messages3_length(runs) && layout::lent(p, matrix, y, areas.work))
+        && (out == messages3_length(runs) && layout::lent(p, matrix, y, work))
 }
 
 // Have the slices that leaf is lent, of these lengths, the lengths that parameters, run count and leaves say?
@@ -80,12 +73,12 @@ pub fn leaf_lengths(
     leaves: &[u8],
     matrix: usize,
     y: usize,
-    areas: Areas,
+    work: usize,
+    out: usize,
 ) -> bool
     requires { Limited p runs }
-    ensures { result ≡ all_true (eqb (length leaves.now) runs ∷ eqb areas.out (messages5_length p leaves.now)
-        ∷ lent_tests p matrix y areas.work) }
+    ensures { result ≡ all_true (eqb (length leaves.now) runs ∷ eqb out (messages5_length p leaves.now)
+        ∷ lent_tests p matrix y work) }
 {
-    leaves.len() == runs
-        && (areas.out == messages5_length(p, leaves) && layout::lent(p, matrix, y, areas.work))
+    leaves.len() == runs && (out == messages5_length(p, leaves) && layout::lent(p, matrix, y, work))
 }

@@ -21,10 +21,9 @@ pub fn holding(
     x: [u8; 255],
     salt: [u8; 32],
     root: [u8; 16],
-    digest: [u8; 32],
     message2: [u8; MOST_MESSAGES2],
 ) -> Prover
-    ensures { held result ≡ session phase p runs x salt root digest message2 }
+    ensures { held result ≡ session phase p runs x salt root message2 }
 {
     Prover {
         phase,
@@ -33,7 +32,6 @@ pub fn holding(
         x,
         salt,
         root,
-        digest,
         message2,
     }
 }
@@ -51,7 +49,7 @@ pub fn is_done(a: Answer) -> bool
 // Are parameters and run count within their limits, and has x at most w nonzero entries, as after every begin?
 fn intact(p: Parameters, runs: usize, x: &[u8]) -> bool
     requires { HeldVector x.now }
-    ensures { (f : Phase) (salt root digest message2 : List ℕ) → result ≡ spec.intact (session f p runs x.now salt root digest message2) }
+    ensures { (f : Phase) (salt root message2 : List ℕ) → result ≡ spec.intact (session f p runs x.now salt root message2) }
 {
     if !parameters::within_limits(p) {
         return false;
@@ -66,7 +64,7 @@ fn intact(p: Parameters, runs: usize, x: &[u8]) -> bool
 // The phase that counts: a session that is not fresh and not intact, so one that no call made, counts as closed.
 pub fn standing(phase: Phase, p: Parameters, runs: usize, x: &[u8]) -> Phase
     requires { HeldVector x.now }
-    ensures { (salt root digest message2 : List ℕ) → result ≡ spec.standing (session phase p runs x.now salt root digest message2) }
+    ensures { (salt root message2 : List ℕ) → result ≡ spec.standing (session phase p runs x.now salt root message2) }
 {
     if is_fresh(phase) {
         return phase;

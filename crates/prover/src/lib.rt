@@ -1,5 +1,4 @@
-// The prover's session. It holds what later calls need and, but for the key digest, nothing derived: parameters, run count, x, salt, root,
-// key digest, message 2 and its phase.
+// The prover's session. It holds what later calls need and nothing derived: parameters, run count, x, salt, root, message 2 and its phase.
 pub mod arguments;
 mod held;
 mod on_begin;
@@ -13,9 +12,7 @@ ghost use Rattle.exchange.specs.Values.{key_of};
 ghost use Rattle.calls.specs.Prover as spec;
 ghost use Rattle.prover.specs.Held.{held, given};
 
-use crate::arguments::{Areas, Lengths};
-use crate::on_leaf::leaf_checks;
-use crate::on_points::points_checks;
+use crate::arguments::Lengths;
 use answers::Answer;
 use layout::MOST_MESSAGES2;
 use layout::runs::messages2_length;
@@ -23,8 +20,7 @@ use messages::{every_run, seeds_of};
 use parameters::Parameters;
 use prover_phase::Phase;
 
-// A session. Of x the first m entries count, of message 2 the first 8t bytes a run. Points and leaf take it apart before their checks,
-// which hash: kept whole beside its parts, it would take the stack twice.
+// A session. Of x the first m entries count, of message 2 the first 8t bytes a run.
 #[derive(Drop)]
 pub struct Prover {
     pub phase: Phase,
@@ -33,7 +29,6 @@ pub struct Prover {
     pub x: [u8; 255],
     pub salt: [u8; 32],
     pub root: [u8; 16],
-    pub digest: [u8; 32],
     pub message2: [u8; MOST_MESSAGES2],
 }
 
@@ -62,7 +57,6 @@ pub fn fresh() -> Prover
         x: [0u8; 255],
         salt: [0u8; 32],
         root: [0u8; 16],
-        digest: [0u8; 32],
         message2: [0u8; MOST_MESSAGES2],
     }
 }
@@ -109,8 +103,7 @@ impl Prover {
                 answer,
             };
         }
-        let digest = key_digest::key_digest(p, matrix, y);
-        on_begin::begun(p, runs, x, salt, root, digest, work, out)
+        on_begin::begun(p, runs, x, salt, root, work, out)
     }
 
     // Takes message 2, the points and multipliers of each run: message 3 is written to out.
@@ -129,25 +122,22 @@ impl Prover {
         let p = self.parameters;
         let runs = self.runs;
         let x = self.x;
+        let counted = held::standing(phase, p, runs, &x);
+        let answer = on_points::points_checks(counted, p, runs, message2, matrix, y, work, out);
+        if !held::is_done(answer) {
+            return Called {
+                prover: self,
+                answer,
+            };
+        }
         let salt = self.salt;
         let root = self.root;
-        let digest = self.digest;
         let mut held_message2 = self.message2;
-        let counted = held::standing(phase, p, runs, &x);
-        let areas = Areas {
-            work: work.len(),
-            out: out.len(),
-        };
-        let answer = points_checks(counted, p, runs, message2, matrix, y, areas, &digest);
-        if !held::is_done(answer) {
-            let prover = held::holding(phase, p, runs, x, salt, root, digest, held_message2);
-            return Called { prover, answer };
-        }
         let seeds = seeds_of(&salt, &root);
         every_run::message3(p, &x, &seeds, message2, matrix, y, work, out);
         lists::put_at(&mut held_message2, 0, message2);
         let next = prover_phase::after::points();
-        let prover = held::holding(next, p, runs, x, salt, root, digest, held_message2);
+        let prover = held::holding(next, p, runs, x, salt, root, held_message2);
         Called {
             prover,
             answer: Answer::Done,
@@ -170,25 +160,22 @@ impl Prover {
         let p = self.parameters;
         let runs = self.runs;
         let x = self.x;
+        let counted = held::standing(phase, p, runs, &x);
+        let answer = on_leaf::leaf_checks(counted, p, runs, leaves, matrix, y, work, out);
+        if !held::is_done(answer) {
+            return Called {
+                prover: self,
+                answer,
+            };
+        }
         let salt = self.salt;
         let root = self.root;
-        let digest = self.digest;
         let message2 = self.message2;
-        let counted = held::standing(phase, p, runs, &x);
-        let areas = Areas {
-            work: work.len(),
-            out: out.len(),
-        };
-        let answer = leaf_checks(counted, p, runs, leaves, matrix, y, areas, &digest);
-        if !held::is_done(answer) {
-            let prover = held::holding(phase, p, runs, x, salt, root, digest, message2);
-            return Called { prover, answer };
-        }
         let seeds = seeds_of(&salt, &root);
         let n = messages2_length(p, runs);
         every_run::message5(p, &x, &seeds, &message2[..n], leaves, matrix, work, out);
         let next = prover_phase::after::leaf();
-        let prover = held::holding(next, p, runs, x, salt, root, digest, message2);
+        let prover = held::holding(next, p, runs, x, salt, root, message2);
         Called {
             prover,
             answer: Answer::Done,

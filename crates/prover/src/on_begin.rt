@@ -23,8 +23,8 @@ use prover_phase::{Phase, is_fresh};
 
 // Are salt and root both those of the exchange held, open or closed?
 pub fn repeated(phase: Phase, held_salt: &[u8], held_root: &[u8], salt: &[u8], root: &[u8]) -> bool
-    ensures { (p : Parameters) (runs : ℕ) (x digest message2 : List ℕ) → result ≡ spec.repeated
-        (session phase p runs x held_salt.now held_root.now digest message2) salt.now root.now }
+    ensures { (p : Parameters) (runs : ℕ) (x message2 : List ℕ)
+        → result ≡ spec.repeated (session phase p runs x held_salt.now held_root.now message2) salt.now root.now }
 {
     !is_fresh(phase) && (lists::equal(salt, held_salt) && lists::equal(root, held_root))
 }
@@ -60,28 +60,26 @@ pub fn begin_checks(
     Answer::Done
 }
 
-// Begin carried out, with x at the front of 255 bytes and the key digest: message 1 is in out and the work area is zeroed.
+// Begin carried out, with x at the front of 255 bytes: message 1 is in out and the work area is zeroed.
 pub fn begun(
     p: Parameters,
     runs: usize,
     x: [u8; 255],
     salt: &[u8],
     root: &[u8],
-    digest: [u8; 32],
     work: &mut [u8],
     out: &mut [u8],
 ) -> Called
     requires { Starting p runs x salt.now root.now work.old out.old }
-    ensures { given result out.new work.new ≡ begun_with p runs x salt.now root.now digest
-        work.old }
+    ensures { given result out.new work.new ≡ begun_with p runs x salt.now root.now work.old }
 {
     let seeds = seeds_of(salt, root);
-    message1(p, runs, &x, &seeds, &digest, work, out);
+    message1(p, runs, &x, &seeds, work, out);
     let held_salt = arrays::array32(salt);
     let held_root = arrays::array16(root);
     let phase = prover_phase::after::begin();
     let message2 = [0u8; MOST_MESSAGES2];
-    let prover = holding(phase, p, runs, x, held_salt, held_root, digest, message2);
+    let prover = holding(phase, p, runs, x, held_salt, held_root, message2);
     Called {
         prover,
         answer: Answer::Done,

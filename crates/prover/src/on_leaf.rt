@@ -5,18 +5,17 @@ ghost use Rattle.exchange.specs.Values.{key_of};
 ghost use Rattle.prover_phase.specs.declared.Phase.{Phase};
 ghost use Rattle.prover_phase.specs.Phases.{is_answered};
 ghost use Rattle.calls.specs.Prover as spec;
-ghost use Rattle.prover.specs.Arguments.{Limited, areas_of};
+ghost use Rattle.prover.specs.Arguments.{Limited};
 ghost use Rattle.prover.specs.Held.{session};
 
-use crate::arguments::{Areas, leaf_lengths};
+use crate::arguments::leaf_lengths;
 use answers::{Answer, Refusal};
-use key_digest::same_key;
 use layout::runs::leaves_below;
 use parameters::Parameters;
 use prover_phase::Phase;
 use prover_phase::due::{is_answered, is_closed};
 
-// The checks of leaf, where `counted` is the phase of the session that counts and `digest` the key digest that it holds.
+// The checks of leaf, where `counted` is the phase of the session that counts.
 pub fn leaf_checks(
     counted: Phase,
     p: Parameters,
@@ -24,14 +23,13 @@ pub fn leaf_checks(
     leaves: &[u8],
     matrix: &[u8],
     y: &[u8],
-    areas: Areas,
-    digest: &[u8],
+    work: &[u8],
+    out: &[u8],
 ) -> Answer
     requires { is_answered counted ≡ true → Limited p runs }
-    ensures { (f : Phase) (x salt root message2 work out : List ℕ)
-        → counted ≡ spec.standing (session f p runs x salt root digest.now message2) → areas ≡ areas_of work out
-        → result ≡ spec.leaf_checks SHAKE256 (session f p runs x salt root digest.now message2) leaves.now
-        (key_of matrix.now y.now) work out }
+    ensures { (f : Phase) (x salt root message2 : List ℕ) → counted ≡ spec.standing (session f p runs x salt root message2)
+        → result ≡ spec.leaf_checks SHAKE256 (session f p runs x salt root message2) leaves.now (key_of matrix.now y.now)
+        work.now out.now }
 {
     if is_closed(counted) {
         return Answer::Refused(Refusal::Closed);
@@ -39,11 +37,16 @@ pub fn leaf_checks(
     if !is_answered(counted) {
         return Answer::Refused(Refusal::NotDue);
     }
-    if !leaf_lengths(p, runs, leaves, matrix.len(), y.len(), areas) {
+    if !leaf_lengths(
+        p,
+        runs,
+        leaves,
+        matrix.len(),
+        y.len(),
+        work.len(),
+        out.len(),
+    ) {
         return Answer::Refused(Refusal::Length);
-    }
-    if !same_key(p, matrix, y, digest) {
-        return Answer::Refused(Refusal::OtherKey);
     }
     if !leaves_below(p, leaves) {
         return Answer::Refused(Refusal::Leaf);

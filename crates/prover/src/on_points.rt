@@ -5,18 +5,17 @@ ghost use Rattle.exchange.specs.Values.{key_of};
 ghost use Rattle.prover_phase.specs.declared.Phase.{Phase};
 ghost use Rattle.prover_phase.specs.Phases.{is_begun};
 ghost use Rattle.calls.specs.Prover as spec;
-ghost use Rattle.prover.specs.Arguments.{Limited, areas_of};
+ghost use Rattle.prover.specs.Arguments.{Limited};
 ghost use Rattle.prover.specs.Held.{session};
 
-use crate::arguments::{Areas, points_lengths};
+use crate::arguments::points_lengths;
 use answers::{Answer, Refusal};
 use challenge::distinct_points;
-use key_digest::same_key;
 use parameters::Parameters;
 use prover_phase::Phase;
 use prover_phase::due::{is_begun, is_closed};
 
-// The checks of points, where `counted` is the phase of the session that counts and `digest` the key digest that it holds.
+// The checks of points, where `counted` is the phase of the session that counts.
 pub fn points_checks(
     counted: Phase,
     p: Parameters,
@@ -24,14 +23,13 @@ pub fn points_checks(
     message2: &[u8],
     matrix: &[u8],
     y: &[u8],
-    areas: Areas,
-    digest: &[u8],
+    work: &[u8],
+    out: &[u8],
 ) -> Answer
     requires { is_begun counted ≡ true → Limited p runs }
-    ensures { (f : Phase) (x salt root m2 work out : List ℕ)
-        → counted ≡ spec.standing (session f p runs x salt root digest.now m2) → areas ≡ areas_of work out
-        → result ≡ spec.points_checks SHAKE256 (session f p runs x salt root digest.now m2) message2.now
-        (key_of matrix.now y.now) work out }
+    ensures { (f : Phase) (x salt root m2 : List ℕ) → counted ≡ spec.standing (session f p runs x salt root m2)
+        → result ≡ spec.points_checks SHAKE256 (session f p runs x salt root m2) message2.now (key_of matrix.now y.now)
+        work.now out.now }
 {
     if is_closed(counted) {
         return Answer::Refused(Refusal::Closed);
@@ -39,14 +37,19 @@ pub fn points_checks(
     if !is_begun(counted) {
         return Answer::Refused(Refusal::NotDue);
     }
-    if !points_lengths(p, runs, message2.len(), matrix.len(), y.len(), areas) {
+    if !points_lengths(
+        p,
+        runs,
+        message2.len(),
+        matrix.len(),
+        y.len(),
+        work.len(),
+        out.len(),
+    ) {
         return Answer::Refused(Refusal::Length);
     }
     if !distinct_points(p, runs, message2) {
         return Answer::Refused(Refusal::SamePoint);
-    }
-    if !same_key(p, matrix, y, digest) {
-        return Answer::Refused(Refusal::OtherKey);
     }
     Answer::Done
 }

@@ -24,13 +24,11 @@ abbrev pub leaf_at : List ℕ → ℕ → ℕ
 leaf_at is e = get_or is e 0
 
 module _ (hash : List ℕ → ℕ → List ℕ) (p : Parameters) (n : ℕ) (x salt root : List ℕ) where
-  -- of the key digest
-  module _ (digest : List ℕ) where
-    unfoldable pub digest_of : ℕ → List ℕ
-    digest_of e = drop prefix_length (run.message1 hash p x (run_at hash salt root e) digest)
+  unfoldable pub digest_of : ℕ → List ℕ
+  digest_of e = drop prefix_length (run.message1 hash p x (run_at hash salt root e))
 
-    unfoldable pub message1 : List ℕ
-    message1 = salt ++ joined digest_of n
+  unfoldable pub message1 : List ℕ
+  message1 = salt ++ joined digest_of n
 
   module _ (key : Key) (m2 : List ℕ) where
     unfoldable pub message3 : List ℕ

@@ -1,8 +1,7 @@
 -- A prover's session as bytes.
 --
 -- prover_size            how many there are
--- prover_bytes s         phase (`prover_phase_byte`), parameters (`parameter_bytes`), run count, x (255), salt (32), root (16), key digest (32),
---                       message 2 (2048)
+-- prover_bytes s         phase (`prover_phase_byte`), parameters (`parameter_bytes`), run count, x (255), salt (32), root (16), message 2 (2048)
 -- prover_from b          the session that the bytes b are
 use Rattle.std.specs.Prelude.{ℕ, List, ◌∷◌, ◌++◌, get_or}
 use Rattle.lists.specs.Part.{part}
@@ -13,10 +12,10 @@ use Rattle.stored.specs.Parameters.{parameter_bytes, parameters_from}
 pub mod Laws
 
 abbrev pub prover_size : ℕ
-prover_size = 2_390
+prover_size = 2_358
 
 unfoldable pub prover_bytes : Prover → List ℕ
-prover_bytes s = prover_phase_byte s.phase ∷ (parameter_bytes s.parameters ++ (s.runs ∷ (s.x ++ (s.salt ++ (s.root ++ (s.digest ++ s.message2))))))
+prover_bytes s = prover_phase_byte s.phase ∷ (parameter_bytes s.parameters ++ (s.runs ∷ (s.x ++ (s.salt ++ (s.root ++ s.message2)))))
 
 unfoldable pub prover_from : List ℕ → Prover
 prover_from b = record {
@@ -26,6 +25,5 @@ prover_from b = record {
   x = part b 7 255;
   salt = part b 262 32;
   root = part b 294 16;
-  digest = part b 310 32;
-  message2 = part b 342 most_messages2;
+  message2 = part b 310 most_messages2;
 }

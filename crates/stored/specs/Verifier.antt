@@ -2,7 +2,7 @@
 --
 -- verifier_size          how many there are
 -- verifier_bytes s       phase (`verifier_phase_byte`), parameters (`parameter_bytes`), run count, message 1 (1056), message 2 (2048), message 3 (1024),
---                       key digest (32), leaves (32)
+--                       leaves (32)
 -- verifier_from b        the session that the bytes b are
 use Rattle.std.specs.Prelude.{ℕ, List, ◌∷◌, ◌++◌, get_or}
 use Rattle.lists.specs.Part.{part}
@@ -13,11 +13,11 @@ use Rattle.stored.specs.Parameters.{parameter_bytes, parameters_from}
 pub mod Laws
 
 abbrev pub verifier_size : ℕ
-verifier_size = 4_199
+verifier_size = 4_167
 
 unfoldable pub verifier_bytes : Verifier → List ℕ
 verifier_bytes s =
-    verifier_phase_byte s.phase ∷ (parameter_bytes s.parameters ++ (s.runs ∷ (s.message1 ++ (s.message2 ++ (s.message3 ++ (s.digest ++ s.leaves))))))
+    verifier_phase_byte s.phase ∷ (parameter_bytes s.parameters ++ (s.runs ∷ (s.message1 ++ (s.message2 ++ (s.message3 ++ s.leaves)))))
 
 unfoldable pub verifier_from : List ℕ → Verifier
 verifier_from b = record {
@@ -27,6 +27,5 @@ verifier_from b = record {
   message1 = part b 7 most_message1;
   message2 = part b 1_063 most_messages2;
   message3 = part b 3_111 most_messages3;
-  digest = part b 4_135 32;
-  leaves = part b 4_167 most_runs;
+  leaves = part b 4_135 most_runs;
 }

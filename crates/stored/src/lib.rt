@@ -13,11 +13,11 @@ use layout::arrays::{array16, array32};
 use prover::Prover;
 use verifier::Verifier;
 
-// The bytes of a prover's session: phase, parameters, run count, x, salt, root, key digest, message 2.
-pub const PROVER_SIZE: usize = 2390;
+// The bytes of a prover's session: phase, parameters, run count, x, salt, root, message 2.
+pub const PROVER_SIZE: usize = 2358;
 
-// The bytes of a verifier's session: phase, parameters, run count, messages 1, 2 and 3, key digest, leaves.
-pub const VERIFIER_SIZE: usize = 4199;
+// The bytes of a verifier's session: phase, parameters, run count, messages 1, 2 and 3, leaves.
+pub const VERIFIER_SIZE: usize = 4167;
 
 // The prover's session that the bytes are.
 pub fn read_prover(b: &[u8]) -> Prover
@@ -30,8 +30,7 @@ pub fn read_prover(b: &[u8]) -> Prover
     let x = parts::array255(&b[7..262]);
     let salt = array32(&b[262..294]);
     let root = array16(&b[294..310]);
-    let digest = array32(&b[310..342]);
-    let message2 = parts::messages2(&b[342..2390]);
+    let message2 = parts::messages2(&b[310..2358]);
     Prover {
         phase,
         parameters,
@@ -39,7 +38,6 @@ pub fn read_prover(b: &[u8]) -> Prover
         x,
         salt,
         root,
-        digest,
         message2,
     }
 }
@@ -55,9 +53,8 @@ pub fn write_prover(s: Prover, out: &mut [u8])
     let x = s.x;
     let salt = s.salt;
     let root = s.root;
-    let digest = s.digest;
     let message2 = s.message2;
-    parts::write_parts(&start, &x, &salt, &root, &digest, &message2, out);
+    parts::write_parts(&start, &x, &salt, &root, &message2, out);
 }
 
 // The verifier's session that the bytes are.
@@ -68,8 +65,8 @@ pub fn read_verifier(b: &[u8]) -> Verifier
     let phase = verifier_phase::bytes::phase_from(b[0]);
     let parameters = parts::read_parameters(b);
     let runs = parts::wide(b[6]);
-    let messages = parts::messages(&b[7..4167]);
-    let leaves = array32(&b[4167..4199]);
+    let messages = parts::messages(&b[7..4135]);
+    let leaves = array32(&b[4135..4167]);
     Verifier {
         phase,
         parameters,
@@ -91,5 +88,5 @@ pub fn write_verifier(s: Verifier, out: &mut [u8])
     let leaves = s.leaves;
     lists::put_at(out, 0, &start);
     lists::put_at(out, 7, &messages);
-    lists::put_at(out, 4167, &leaves);
+    lists::put_at(out, 4135, &leaves);
 }

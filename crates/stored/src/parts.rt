@@ -36,7 +36,7 @@ pub fn messages2(s: &[u8]) -> [u8; MOST_MESSAGES2]
     a
 }
 
-// A slice of 4,160 bytes as an array: room for messages 1 to 3 and the key digest.
+// A slice of 4,128 bytes as an array: room for messages 1 to 3.
 pub fn messages(s: &[u8]) -> [u8; HELD]
     requires { length s.now ≡ held_length }
     ensures { result ≡ s.now }
@@ -66,10 +66,10 @@ pub fn head(phase: u8, p: Parameters, runs: usize) -> [u8; 7]
     ]
 }
 
-// The six parts are written to out, one behind the other; they fill it.
-pub fn write_parts(a: &[u8], b: &[u8], c: &[u8], d: &[u8], e: &[u8], f: &[u8], out: &mut [u8])
-    requires { length out.old ≡ length a.now + length b.now + length c.now + length d.now + length e.now + length f.now }
-    ensures { out.new ≡ a.now ++ (b.now ++ (c.now ++ (d.now ++ (e.now ++ f.now)))) }
+// The five parts are written to out, one behind the other; they fill it.
+pub fn write_parts(a: &[u8], b: &[u8], c: &[u8], d: &[u8], e: &[u8], out: &mut [u8])
+    requires { length out.old ≡ length a.now + length b.now + length c.now + length d.now + length e.now }
+    ensures { out.new ≡ a.now ++ (b.now ++ (c.now ++ (d.now ++ e.now))) }
 {
     lists::put_at(out, 0, a);
     let at_b = a.len();
@@ -80,6 +80,4 @@ pub fn write_parts(a: &[u8], b: &[u8], c: &[u8], d: &[u8], e: &[u8], f: &[u8], o
     lists::put_at(out, at_d, d);
     let at_e = at_d + d.len();
     lists::put_at(out, at_e, e);
-    let at_f = at_e + e.len();
-    lists::put_at(out, at_f, f);
 }

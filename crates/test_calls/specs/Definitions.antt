@@ -12,11 +12,11 @@ use Rattle.test_standin.specs.Definitions as exchanges
 unfoldable pub definitions : ℕ
 unfolding exchanges.definitions leaves_below
     prover.fresh prover.held_x prover.held_message2 prover.intact prover.standing prover.closed prover.points_due prover.leaf_due
-    prover.repeated prover.same_key prover.begin_checks prover.begun prover.begin prover.points_checks prover.answered prover.points
+    prover.repeated prover.begin_checks prover.begun prover.begin prover.points_checks prover.answered prover.points
     prover.leaf_checks prover.opened prover.leaf
     verifier.fresh verifier.intact verifier.standing verifier.closed verifier.due verifier.held_transcript verifier.begin_checks
     verifier.begun verifier.begin verifier.points_checks verifier.pointed verifier.points verifier.response_checks
-    verifier.responded verifier.response verifier.leaf_checks verifier.chosen verifier.leaf verifier.same_key verifier.ended
+    verifier.responded verifier.response verifier.leaf_checks verifier.chosen verifier.leaf verifier.ended
     verifier.opening_checks verifier.judge verifier.opening
     extractor.extract_lengths extractor.both_distinct extractor.same_statement extractor.early_checks extractor.found
     extractor.second extractor.first extractor.early extractor.extraction

@@ -1,9 +1,7 @@
 pub mod Definitions
 pub mod ProverCalls
 pub mod ProverPoints
-pub mod ProverKeys
 pub mod VerifierCalls
 pub mod VerifierPoints
-pub mod VerifierKeys
 pub mod ExtractorCalls
 pub mod ExtractorPoints

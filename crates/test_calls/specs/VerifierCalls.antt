@@ -19,7 +19,7 @@ abbrev key : Key
 key = record { matrix = hex 1 0x46; y = hex 1 0x40 }
 
 abbrev m1 : List ℕ
-m1 = hex 96 0x14482009be253f8414bddda8601de65fbfb5a0c47106b6e449a3b686eca51465575068f8f005540b0257a3c3bd3ccaae83268d605ac8f7614cc6691e85ad8cc34ea906888ee4652ea04af3f5e9217cced4d488d3ee5435441293526e03ede572
+m1 = hex 96 0x14482009be253f8414bddda8601de65fbfb5a0c47106b6e449a3b686eca5146540d670f53eaba517de134e64a30246ccf55c0fb28ccdcf0bc0ab0e62e88dfd8a0e10b3daf574f95e0ca15273ae65d72e8d8b2377f2695f95562f7c5352ee76a7
 
 abbrev m2 : List ℕ
 m2 = hex 16 0x90277094505bfe6161d4d9b7aa7b704e
@@ -45,7 +45,7 @@ call1-gives = refl
 
 -- call2: begin with t 9, message 1 a byte short
 abbrev call2 : Outcome
-call2 = begin stand_in call1.verifier (record { m = 2; k = 1; w = 1; axes = 1; t = 9 }) 2 (hex 95 0x14482009be253f8414bddda8601de65fbfb5a0c47106b6e449a3b686eca51465575068f8f005540b0257a3c3bd3ccaae83268d605ac8f7614cc6691e85ad8cc34ea906888ee4652ea04af3f5e9217cced4d488d3ee5435441293526e03ede5) key
+call2 = begin call1.verifier (record { m = 2; k = 1; w = 1; axes = 1; t = 9 }) 2 (hex 95 0x14482009be253f8414bddda8601de65fbfb5a0c47106b6e449a3b686eca5146540d670f53eaba517de134e64a30246ccf55c0fb28ccdcf0bc0ab0e62e88dfd8a0e10b3daf574f95e0ca15273ae65d72e8d8b2377f2695f95562f7c5352ee76)
 
 call2-gives :
     call2.answer
@@ -55,7 +55,7 @@ call2-gives = refl
 
 -- call3: begin with no run, message 1 a byte short
 abbrev call3 : Outcome
-call3 = begin stand_in call2.verifier p 0 (hex 95 0x14482009be253f8414bddda8601de65fbfb5a0c47106b6e449a3b686eca51465575068f8f005540b0257a3c3bd3ccaae83268d605ac8f7614cc6691e85ad8cc34ea906888ee4652ea04af3f5e9217cced4d488d3ee5435441293526e03ede5) key
+call3 = begin call2.verifier p 0 (hex 95 0x14482009be253f8414bddda8601de65fbfb5a0c47106b6e449a3b686eca5146540d670f53eaba517de134e64a30246ccf55c0fb28ccdcf0bc0ab0e62e88dfd8a0e10b3daf574f95e0ca15273ae65d72e8d8b2377f2695f95562f7c5352ee76)
 
 call3-gives :
     call3.answer
@@ -65,7 +65,7 @@ call3-gives = refl
 
 -- call4: begin with 33 runs, message 1 a byte short
 abbrev call4 : Outcome
-call4 = begin stand_in call3.verifier p 33 (hex 95 0x14482009be253f8414bddda8601de65fbfb5a0c47106b6e449a3b686eca51465575068f8f005540b0257a3c3bd3ccaae83268d605ac8f7614cc6691e85ad8cc34ea906888ee4652ea04af3f5e9217cced4d488d3ee5435441293526e03ede5) key
+call4 = begin call3.verifier p 33 (hex 95 0x14482009be253f8414bddda8601de65fbfb5a0c47106b6e449a3b686eca5146540d670f53eaba517de134e64a30246ccf55c0fb28ccdcf0bc0ab0e62e88dfd8a0e10b3daf574f95e0ca15273ae65d72e8d8b2377f2695f95562f7c5352ee76)
 
 call4-gives :
     call4.answer
@@ -75,7 +75,7 @@ call4-gives = refl
 
 -- call5: begin with two runs, message 1 a byte short
 abbrev call5 : Outcome
-call5 = begin stand_in call4.verifier p 2 (hex 95 0x14482009be253f8414bddda8601de65fbfb5a0c47106b6e449a3b686eca51465575068f8f005540b0257a3c3bd3ccaae83268d605ac8f7614cc6691e85ad8cc34ea906888ee4652ea04af3f5e9217cced4d488d3ee5435441293526e03ede5) key
+call5 = begin call4.verifier p 2 (hex 95 0x14482009be253f8414bddda8601de65fbfb5a0c47106b6e449a3b686eca5146540d670f53eaba517de134e64a30246ccf55c0fb28ccdcf0bc0ab0e62e88dfd8a0e10b3daf574f95e0ca15273ae65d72e8d8b2377f2695f95562f7c5352ee76)
 
 call5-gives :
     call5.answer
@@ -85,7 +85,7 @@ call5-gives = refl
 
 -- call6: begin
 abbrev call6 : Outcome
-call6 = begin stand_in call5.verifier p 2 m1 key
+call6 = begin call5.verifier p 2 m1
 
 call6-gives :
     call6.answer
@@ -225,7 +225,7 @@ call19-gives = refl
 
 -- call20: begin; the commitment of run 1 changed
 abbrev call20 : Outcome
-call20 = begin stand_in call19.verifier p 2 m1 key
+call20 = begin call19.verifier p 2 m1
 
 call20-gives :
     call20.answer
@@ -275,7 +275,7 @@ call24-gives = refl
 
 -- call25: begin; h' of run 0 changed, and the commitment of run 1
 abbrev call25 : Outcome
-call25 = begin stand_in call24.verifier p 2 m1 key
+call25 = begin call24.verifier p 2 m1
 
 call25-gives :
     call25.answer
@@ -325,7 +325,7 @@ call29-gives = refl
 
 -- call30: begin
 abbrev call30 : Outcome
-call30 = begin stand_in call29.verifier p 2 m1 key
+call30 = begin call29.verifier p 2 m1
 
 call30-gives :
     call30.answer
@@ -372,7 +372,6 @@ damaged = record {
   message1 = call33.verifier.message1;
   message2 = call33.verifier.message2;
   message3 = call33.verifier.message3;
-  digest = call33.verifier.digest;
   leaves = hex 32 0x0002000000000000000000000000000000000000000000000000000000000000;
 }
 
@@ -418,7 +417,7 @@ call37-gives = refl
 
 -- call38: begin, the session damaged
 abbrev call38 : Outcome
-call38 = begin stand_in call37.verifier p 2 m1 key
+call38 = begin call37.verifier p 2 m1
 
 call38-gives :
     call38.answer

@@ -1,25 +1,21 @@
 -- The verifier's points where points of a run are equal, each call made on the session that the call before it left;
 -- the first on a fresh one.
 --
--- p, key, m1           parameters, matrix and y, and message 1 of an honest exchange
+-- p, m1                parameters, and message 1 of an honest exchange
 -- ends                 a message 2 in which points 0 and 2 of run 1 are equal
 -- call1, call2, ..     the calls, with all that they are lent
 -- call1-gives, ..      the number that the call answers
 use Rattle.std.specs.Prelude.{◌≡◌, refl, List, ℕ}
 use Rattle.parameters.specs.declared.Parameters.{Parameters}
-use Rattle.exchange.specs.Values.{Key}
-use Rattle.test_standin.specs.StandIn.{hex, stand_in}
+use Rattle.test_standin.specs.StandIn.{hex}
 use Rattle.calls.specs.Verifier.{Outcome, fresh, begin, points}
 use Rattle.test_calls.specs.Definitions.{definitions}
 
 abbrev p : Parameters
 p = record { m = 2; k = 1; w = 1; axes = 1; t = 3 }
 
-abbrev key : Key
-key = record { matrix = hex 1 0x02; y = hex 1 0x19 }
-
 abbrev m1 : List ℕ
-m1 = hex 96 0x2252e62b130ea7aa42e6da8ab8996b1143bfb6cee56c6544714288546b13c62facf71da55e485fb1838a198ed39a529acc9ce07aec7247976898c232819b515f89482943982bab77d289b63c833ab930d9bf41ec85d77b2a73dbf1829760fd5d
+m1 = hex 96 0x2252e62b130ea7aa42e6da8ab8996b1143bfb6cee56c6544714288546b13c62f28c1958c1c28a33280a7cbe7e3239f2dcbc78bfdb1571b02d3199db5e23a4ff1fd9df847e57e72d4c964d6997b4875dbc18f14293319f806397ca4921a05443c
 
 abbrev ends : List ℕ
 ends = hex 48 0xcbda11f6fe6169eb2c4e30e6f8afc735f82fcd9dff30e9ba5f471d78acc8d2015f471d785be1c940ec82f60f7e56e88a
@@ -36,7 +32,7 @@ call1-gives = refl
 
 -- call2: begin
 abbrev call2 : Outcome
-call2 = begin stand_in call1.verifier p 2 m1 key
+call2 = begin call1.verifier p 2 m1
 
 call2-gives :
     call2.answer
@@ -106,7 +102,7 @@ call8-gives = refl
 
 -- call9: begin
 abbrev call9 : Outcome
-call9 = begin stand_in call8.verifier p 2 m1 key
+call9 = begin call8.verifier p 2 m1
 
 call9-gives :
     call9.answer

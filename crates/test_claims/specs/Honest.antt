@@ -8,7 +8,6 @@ use Rattle.parameters.specs.declared.Parameters.{Parameters}
 use Rattle.relation.specs.Key.{vector_of}
 use Rattle.layout.specs.Layout.{leaves, y_length}
 use Rattle.exchange.specs.Values.{Key}
-use Rattle.exchange.specs.KeyDigest.{key_digest}
 use Rattle.exchange.specs.Messages.Laws.{Secret}
 use Rattle.exchange.specs.Messages.Opened.{honest, exchange-is}
 use Rattle.runs.specs.Run.{run_at}
@@ -21,7 +20,7 @@ use Rattle.test_claims.specs.StandIn.{length-stand_in}
 module _ (p : Parameters) (runs : ℕ) (key : Key) (salt root m2 is : List ℕ) where
   abbrev pub sent_by : List ℕ → Transcript
   sent_by x =
-      transcript (message1 stand_in p runs x salt root (key_digest stand_in p key)) m2 (message3 stand_in p runs x salt root key m2) is (message5 stand_in p runs x salt root key m2 is)
+      transcript (message1 stand_in p runs x salt root) m2 (message3 stand_in p runs x salt root key m2) is (message5 stand_in p runs x salt root key m2 is)
 
   pub honest-accepted : (x_a x : List ℕ) → length x_a ≡ p.k → length key.y ≡ y_length p → vector_of key.matrix key.y x_a ≡ x
       → Secret p x → length salt ≡ 32 → length is ≡ runs → ((e : ℕ) → e < runs → leaf_at is e < leaves p)

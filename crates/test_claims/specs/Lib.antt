@@ -1,5 +1,4 @@
 pub mod Honest
-pub mod Keys
 pub mod Meetings
 pub mod Named
 pub mod Openings

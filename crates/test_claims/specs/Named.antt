@@ -10,7 +10,6 @@ use Rattle.std.proofs.Common.{ap, arith, lit<, lit≤}
 use Rattle.answers.specs.declared.Answer.TheVariants.{Done}
 use Rattle.parameters.specs.declared.Parameters.{Parameters}
 use Rattle.layout.specs.Layout.{leaves}
-use Rattle.exchange.specs.KeyDigest.{key_digest}
 use Rattle.runs.specs.Messages.{leaf_at, message1, message3, message5}
 use Rattle.runs.specs.Opening.{Transcript, verdict}
 use Rattle.runs.specs.Opening.Laws.{accepted-then}
@@ -28,7 +27,7 @@ p = parameters 1
 
 unfoldable pub honest : ℕ → Transcript
 honest u = record {
-  message1 = message1 (weak 7) p 2 x salt root (key_digest (weak 7) p key);
+  message1 = message1 (weak 7) p 2 x salt root;
   message2 = messages2 16 1;
   message3 = message3 (weak 7) p 2 x salt root key (messages2 16 1);
   leaves = 0 ∷ u ∷ [];

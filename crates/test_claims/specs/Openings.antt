@@ -14,7 +14,6 @@ use Rattle.relation.specs.Key.{weight_of, vector_of}
 use Rattle.layout.specs.Layout.{leaves, work_length}
 use Rattle.layout.specs.Runs.{outputs_length}
 use Rattle.exchange.specs.Values.{Key}
-use Rattle.exchange.specs.KeyDigest.{key_digest}
 use Rattle.exchange.specs.Messages.Laws.{Secret}
 use Rattle.runs.specs.Messages.{leaf_at}
 use Rattle.runs.specs.Messages.Laws.{length-message1, length-message3, length-message5}
@@ -24,8 +23,8 @@ use Rattle.runs.specs.Opening.{Transcript}
 use Rattle.calls.specs.Prover.History.{after, made}
 use Rattle.calls.specs.Verifier.{Verifier}
 use Rattle.claims.specs.Words.{Sent, Comparable}
-use Rattle.claims.specs.Completeness.{ValidKey, once, LeadsToAcceptance}
-use Rattle.claims.specs.Completeness.Calls.{completeness, unchanged}
+use Rattle.claims.specs.Completeness.{ValidKey, LeadsToAcceptance}
+use Rattle.claims.specs.Completeness.Calls.{completeness}
 use Rattle.claims.specs.Completeness.Sample.{fresh_start, blank, blank-fits}
 use Rattle.claims.specs.Extraction.{Extracts}
 use Rattle.claims.specs.Extraction.Proof.{extracts}
@@ -88,7 +87,7 @@ below u h (suc (suc e)) l = absurd (omega arith)
 sent : (u : ℕ) → u < 4 → Sent p 2 (opened u)
 unfolding opened
 sent u h = record {
-  message1 = length-message1 stand_in p 2 x salt root (key_digest stand_in p key) refl length-stand_in;
+  message1 = length-message1 stand_in p 2 x salt root refl length-stand_in;
   message2 = refl;
   message3 = length-message3 stand_in length-stand_in p 2 x secret salt root key m2;
   message4 = refl;
@@ -133,9 +132,9 @@ valid = record {
   bytes-x_a = (lit< tt, (lit< tt, tt));
 }
 
-pub leads : (v : Verifier) → LeadsToAcceptance stand_in p 2 key (5 ∷ 0 ∷ []) (after stand_in []) v salt root m2 (1 ∷ 2 ∷ []) (blank p 2 (1 ∷ 2 ∷ [])) once
+pub leads : (v : Verifier) → LeadsToAcceptance stand_in p 2 key (5 ∷ 0 ∷ []) (after stand_in []) v salt root m2 (1 ∷ 2 ∷ []) (blank p 2 (1 ∷ 2 ∷ []))
 unfolding made
 leads v =
-    unchanged stand_in (completeness stand_in length-stand_in) p 2 (record { least = lit≤ tt; most = lit≤ tt }) key (5 ∷ 0 ∷ []) valid [] v salt root
+    completeness stand_in length-stand_in p 2 (record { least = lit≤ tt; most = lit≤ tt }) key (5 ∷ 0 ∷ []) valid [] v salt root
     (fresh_start salt root refl refl) m2 refl distinct (1 ∷ 2 ∷ []) (record { one-a-run = refl; below = below 2 (lit< tt) })
     (blank p 2 (1 ∷ 2 ∷ [])) (blank-fits p 2 (1 ∷ 2 ∷ []))

@@ -14,7 +14,6 @@ use Rattle.parameters.specs.declared.Parameters.{Parameters}
 use Rattle.relation.specs.Key.{vector_of}
 use Rattle.layout.specs.Runs.{digest_place}
 use Rattle.exchange.specs.Values.{Key}
-use Rattle.exchange.specs.KeyDigest.{key_digest}
 use Rattle.runs.specs.Messages.{message1}
 use Rattle.runs.specs.Opening.{Transcript}
 use Rattle.claims.specs.Weight.{Pair}
@@ -50,7 +49,7 @@ messages2 r ε = message2 16 1 ++ message2 r ε
 
 module _ (d : ℕ) where
   unfoldable pub m1 : List ℕ
-  m1 = message1 stand_in (p d) 2 x salt root (key_digest stand_in (p d) key)
+  m1 = message1 stand_in (p d) 2 x salt root
 
   unfoldable pub h : List ℕ
   h = part m1 (digest_place 1) 32

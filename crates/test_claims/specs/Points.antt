@@ -10,20 +10,14 @@ use Rattle.std.specs.Prelude.{◌≡◌, refl, true, false, List, [], ◌∷◌,
 use Rattle.std.proofs.Common.{sym, ◌∙◌}
 use Rattle.std.proofs.lemmas.Bool.{false≢true}
 use Rattle.parameters.specs.declared.Parameters.{Parameters}
-use Rattle.exchange.specs.Values.{Key}
 use Rattle.runs.specs.Points.{distinct_points, DistinctPoints}
 use Rattle.runs.specs.Points.Laws.{points-distinct, distinct-points}
 use Rattle.calls.specs.Lengths.{leaves_below}
 use Rattle.calls.specs.Verifier.{intact, standing, closed, due, begun, points_checks, pointed, points}
-use Rattle.test_standin.specs.StandIn.{stand_in}
 use Rattle.test_standin.specs.Definitions.{definitions}
 
 abbrev p : Parameters
 p = record { m = 2; k = 1; w = 1; axes = 1; t = 3 }
-
--- of any key
-abbrev key : Key
-key = record { matrix = 1 ∷ []; y = 5 ∷ [] }
 
 abbrev multipliers : List ℕ
 multipliers = 1 ∷ 0 ∷ 0 ∷ 0 ∷ 1 ∷ 0 ∷ 0 ∷ 0 ∷ 1 ∷ 0 ∷ 0 ∷ 0 ∷ []
@@ -53,8 +47,8 @@ first-and-third d = false≢true (sym tests.1 ∙ distinct-points p 2 first_and_
 pub three-bytes : DistinctPoints p 2 three_bytes
 three-bytes = points-distinct p 2 three_bytes tests.2
 
-pub answers : ((points (begun stand_in p 2 (replicate 96 0) key) same_in_both_runs).answer ≡ 0)
-    × ((points (begun stand_in p 2 (replicate 96 0) key) first_and_third).answer ≡ 14)
-    × ((points (begun stand_in p 2 (replicate 96 0) key) three_bytes).answer ≡ 0)
+pub answers : ((points (begun p 2 (replicate 96 0)) same_in_both_runs).answer ≡ 0)
+    × ((points (begun p 2 (replicate 96 0)) first_and_third).answer ≡ 14)
+    × ((points (begun p 2 (replicate 96 0)) three_bytes).answer ≡ 0)
 unfolding points points_checks pointed begun closed due standing intact leaves_below definitions
 answers = (refl, refl, refl)

@@ -116,7 +116,7 @@ fills-all-wrong r = changed ((r.otherwise all-equal).untouched 0 (lit< tt) (unfo
 -- ---- skipping the axes
 
 unfoldable pub skips_axes : Exchange → Answer
-skips_axes e = checks ((eq_list (stand_in (commitment_string stand_in p e key) 32) e.h, Commitment) ∷ [])
+skips_axes e = checks ((eq_list (stand_in (commitment_string stand_in p e) 32) e.h, Commitment) ∷ [])
 
 -- run 0's part has 63 bytes; α stands behind the sibling seed and the commitment
 unfoldable pub bent : Transcript

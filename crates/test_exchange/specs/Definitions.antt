@@ -13,7 +13,6 @@ use Rattle.polynomial.specs.Interpolant.{interpolant_of, vanishing_of}
 use Rattle.relation.specs.Key.{vector_of, locator_of, quotient_of}
 use Rattle.layout.specs.Runs.{message1_length, messages2_length, messages3_length, messages5_length, outputs_length}
 use Rattle.exchange.specs.Values.{Key}
-use Rattle.exchange.specs.KeyDigest.{key_digest}
 use Rattle.runs.specs.Run.{run_at}
 use Rattle.runs.specs.Messages as sent
 use Rattle.runs.specs.Opening.{transcript, verdict}
@@ -48,7 +47,7 @@ pub record Computed (s : Sample) : Type 0 where
   pub Q-is : locator_of s.p.w s.x ≡ s.Q
   pub P-is : quotient_of s.p.w s.x ≡ s.P
   pub F-is : vanishing_of s.p.m ≡ s.F
-  pub message1-is : sent.message1 stand_in s.p s.runs s.x s.salt s.root (key_digest stand_in s.p s.key) ≡ s.message1
+  pub message1-is : sent.message1 stand_in s.p s.runs s.x s.salt s.root ≡ s.message1
   pub message3-is : sent.message3 stand_in s.p s.runs s.x s.salt s.root s.key s.message2 ≡ s.message3
   pub message5-is : sent.message5 stand_in s.p s.runs s.x s.salt s.root s.key s.message2 s.leaves ≡ s.message5
   pub last5-is : sent.message5 stand_in s.p s.runs s.x s.salt s.root s.key s.message2 s.lasts ≡ s.last5

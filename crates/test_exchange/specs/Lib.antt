@@ -1,7 +1,6 @@
 pub mod Definitions
 pub mod Layouts
 pub mod Runs
-pub mod KeyDigests
 pub mod OneAxis
 pub mod OneAxisFindings
 pub mod TwoPositions

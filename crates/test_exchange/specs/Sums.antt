@@ -22,7 +22,7 @@ key = record { matrix = hex 1 0x47; y = hex 1 0xaa }
 abbrev made_up : Exchange
 made_up = record {
   prefix = hex 33 0xca463d08c8fae53d283d8070ac7218796cc3e7141e74a14b9b526ee738227b3200;
-  h = hex 32 0x346ccbb519d6260dd21454aeaa3a46d5110048f16f58be6f4538761860165bf3;
+  h = hex 32 0x8d3d4cb122b5dd8f44918c1a9f9d7658182443bdaf88661703c51810711b2171;
   message2 = hex 8 0x9cf14660944acc69;
   message3 = hex 32 0x42cb4316aa4b8a11722e6013b7afad7cf5f20a911fdf3a596588c2b60ac1c6ba;
   leaf = 1;
@@ -44,7 +44,7 @@ made_up-sums = refl
 abbrev made_up_last : Exchange
 made_up_last = record {
   prefix = hex 33 0x469dde61c8752dc4251747ca607e0dd2a6b2ca97fcb5f2aba94cbeef00e97ab400;
-  h = hex 32 0xdf5bfe169c84db777798ed5cd03caa44b02a0499c623ed176238cd291a557128;
+  h = hex 32 0x9998f1d95c71dc33cd290683cf9a6351d6003d4c3262576b1414ecb1bde7f1b8;
   message2 = hex 8 0x01020304403b0312;
   message3 = hex 32 0xb491dc66be87c352f6ece2eb49adbbfd4294b1939b4c331182ca505c19d5f721;
   leaf = 3;

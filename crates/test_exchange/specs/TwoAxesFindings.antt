@@ -20,7 +20,7 @@ key = record { matrix = hex 1 0x47; y = hex 1 0xaa }
 abbrev states_a : Exchange
 states_a = record {
   prefix = hex 33 0x3cfb0d17566bfb77d8d9cb20efe303d621dfb697f57fce8fe54eef4ccb2202df00;
-  h = hex 32 0xe892a89518f40ae26cfe92a65e661c5539c97e0f63b57500583fa5fc32f8c14a;
+  h = hex 32 0xffe2cbde48be070e6d0c8a516213088ecc66427e5659be0e427d276e94f211b2;
   message2 = hex 8 0x45c544212be863a7;
   message3 = hex 32 0x8eeac94e6046160e6a4a1bd68a2b938cb809e3ba1b4cff670ead43c6989e4a8f;
   leaf = 1;
@@ -30,7 +30,7 @@ states_a = record {
 abbrev states_b : Exchange
 states_b = record {
   prefix = hex 33 0x3cfb0d17566bfb77d8d9cb20efe303d621dfb697f57fce8fe54eef4ccb2202df00;
-  h = hex 32 0xe892a89518f40ae26cfe92a65e661c5539c97e0f63b57500583fa5fc32f8c14a;
+  h = hex 32 0xffe2cbde48be070e6d0c8a516213088ecc66427e5659be0e427d276e94f211b2;
   message2 = hex 8 0x45c544212be863a7;
   message3 = hex 32 0x8eeac94e6046160e6a4a1bd68a2b938cb809e3ba1b4cff670ead43c6989e4a8f;
   leaf = 3;
@@ -46,7 +46,7 @@ states-found = refl
 abbrev axes_a : Exchange
 axes_a = record {
   prefix = hex 33 0x3cfb0d17566bfb77d8d9cb20efe303d621dfb697f57fce8fe54eef4ccb2202df00;
-  h = hex 32 0xe892a89518f40ae26cfe92a65e661c5539c97e0f63b57500583fa5fc32f8c14a;
+  h = hex 32 0xffe2cbde48be070e6d0c8a516213088ecc66427e5659be0e427d276e94f211b2;
   message2 = hex 8 0x45c544212be863a7;
   message3 = hex 32 0x3506c3eb2a8e91618b3cbaa7a52148d5affd2035c48c9a2596a39e78e1b04d6b;
   leaf = 1;
@@ -56,7 +56,7 @@ axes_a = record {
 abbrev axes_b : Exchange
 axes_b = record {
   prefix = hex 33 0x3cfb0d17566bfb77d8d9cb20efe303d621dfb697f57fce8fe54eef4ccb2202df00;
-  h = hex 32 0xe892a89518f40ae26cfe92a65e661c5539c97e0f63b57500583fa5fc32f8c14a;
+  h = hex 32 0xffe2cbde48be070e6d0c8a516213088ecc66427e5659be0e427d276e94f211b2;
   message2 = hex 8 0x45c544212be863a7;
   message3 = hex 32 0x3506c3eb2a8e91618b3cbaa7a52148d5affd2035c48c9a2596a39e78e1b04d6b;
   leaf = 3;
@@ -72,7 +72,7 @@ axes-found = refl
 abbrev leaves_a : Exchange
 leaves_a = record {
   prefix = hex 33 0x3cfb0d17566bfb77d8d9cb20efe303d621dfb697f57fce8fe54eef4ccb2202df00;
-  h = hex 32 0x87d18480755b5ac8e38faaa6524e9888e87b137cb6ea2808006b7e478a49c7ae;
+  h = hex 32 0x9e22a7ca37b8c4f4e4301052c3fb842e7b196aeba8207116ea3c01b8ec4318a7;
   message2 = hex 8 0x45c544212be863a7;
   message3 = hex 32 0x022b0d9abfd431e0f14a424e809350673dd34bfa025a5a47a4ed1c2183617352;
   leaf = 0;
@@ -82,7 +82,7 @@ leaves_a = record {
 abbrev leaves_b : Exchange
 leaves_b = record {
   prefix = hex 33 0x3cfb0d17566bfb77d8d9cb20efe303d621dfb697f57fce8fe54eef4ccb2202df00;
-  h = hex 32 0x87d18480755b5ac8e38faaa6524e9888e87b137cb6ea2808006b7e478a49c7ae;
+  h = hex 32 0x9e22a7ca37b8c4f4e4301052c3fb842e7b196aeba8207116ea3c01b8ec4318a7;
   message2 = hex 8 0x45c544212be863a7;
   message3 = hex 32 0x022b0d9abfd431e0f14a424e809350673dd34bfa025a5a47a4ed1c2183617352;
   leaf = 3;

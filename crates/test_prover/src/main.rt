@@ -166,15 +166,12 @@ fn first(s: Prover, x_a: &[u8], matrix: &[u8], y: &[u8]) -> Prover {
     points(j, matrix, y)
 }
 
-// A second exchange: refused with the first one's salt and root, carried out with another root; points and leaf refused with another y.
+// A second exchange: refused with the first one's salt and root, carried out with another root.
 fn second(s: Prover, x_a: &[u8], matrix: &[u8], y: &[u8]) -> Prover {
-    let other_y = [0u8; 104];
     let a = begin(s, set_of(230), x_a, b"root", matrix, y);
     let b = begin(a, set_of(230), x_a, b"other root", matrix, y);
-    let c = points(b, matrix, &other_y);
-    let d = points(c, matrix, y);
-    let e = leaf_368(d, &[255, 255], matrix, &other_y);
-    leaf_368(e, &[255, 255], matrix, y)
+    let c = points(b, matrix, y);
+    leaf_368(c, &[255, 255], matrix, y)
 }
 
 // All calls, on one session.

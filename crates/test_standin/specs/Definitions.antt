@@ -27,7 +27,6 @@ use Rattle.exchange.specs.Reading.{bytes_at, points, point_at, encode, value}
 use Rattle.exchange.specs.Tree.{seeds_of, children, leaf_seeds, siblings, sibling_seeds, opened_seeds}
 use Rattle.exchange.specs.Leaf.{state, share, commitment}
 use Rattle.exchange.specs.Values.{x_a_of, q_of, p_of, a_of, b_of, c_of, point_of, multiplier_of, F, image_of, x_of, s_of, alpha, beta, part_v}
-use Rattle.exchange.specs.KeyDigest.{string9, key_digest}
 use Rattle.exchange.specs.Parties.{total, party_of, announced_bytes, axis_string, sums_of}
 use Rattle.exchange.specs.Announcing.{party_alpha, party_beta, formula_v, party_v}
 use Rattle.exchange.specs.Messages.{own_state, drawn, wanted, own_aux, own_share, own_commitment, message1, own_party, own_announced, message3, message5}
@@ -47,7 +46,7 @@ unfolding ◌⊕◌ xor_list eq_list part put_at zeroed eval plus scale times ex
     bits digit coordinate is_last message5_length work_length output_length runs_within messages5_length joined listed those least
     string node_bytes string1 string2 string3 string4 string5 string6 string7 bytes_at points point_at encode value
     seeds_of children leaf_seeds siblings sibling_seeds opened_seeds state share commitment
-    x_a_of q_of p_of a_of b_of c_of point_of multiplier_of F image_of x_of s_of alpha beta part_v string9 key_digest
+    x_a_of q_of p_of a_of b_of c_of point_of multiplier_of F image_of x_of s_of alpha beta part_v
     total party_of announced_bytes axis_string sums_of
     own_state drawn wanted own_aux own_share own_commitment message1 own_party own_announced message3 message5
     exchange path_of commitment_of alpha_of beta_of aux_of opened_state opened_share leaf_string leaf_commitment commitment_string

@@ -1,6 +1,6 @@
 -- The lines that the program `unlock` prints: fields parted by tabs, each line ended by a line feed.
 --
--- runs_word, digest_word, verdict_word, accepted_word, chance_word    words; 'refused' and 'set' are those of the key listing
+-- runs_word, verdict_word, accepted_word, chance_word    words; 'refused' and 'set' are those of the key listing
 -- power_text            the ASCII text '2^-'
 -- chance_text           the ASCII text 'about, that a prover without the key is accepted'
 -- three_digits n        the three digits of n, for n below 1,000
@@ -10,7 +10,6 @@
 -- number_fields ns      the fields of numbers one behind the other
 -- set_line p            the parameters, as the numbers of their set
 -- runs_line n           the run count
--- digest_line p key     the key digest, in hex
 -- message_line name s   a message: its name, its length and its digest
 -- verdict_line a        accepted, or refused with document 01's number
 -- chance_line p n       about how likely n runs accept a prover without the key: 1/2^D a run
@@ -25,16 +24,11 @@ use Rattle.text.specs.Split.{tab, line_feed}
 use Rattle.text.specs.Decimal.{decimal_text}
 use Rattle.text.specs.Hex.{hex_text}
 use Rattle.keytext.specs.Form.{set_word}
-use Rattle.exchange.specs.Values.{Key}
-use Rattle.exchange.specs.KeyDigest.{key_digest}
-use Rattle.keytext.specs.Listing.{refused_word, result_line}
+use Rattle.keytext.specs.Listing.{refused_word}
 pub mod Laws
 
 unfoldable pub runs_word : List ℕ
 runs_word = 114 ∷ 117 ∷ 110 ∷ 115 ∷ []
-
-unfoldable pub digest_word : List ℕ
-digest_word = 107 ∷ 101 ∷ 121 ∷ 32 ∷ 100 ∷ 105 ∷ 103 ∷ 101 ∷ 115 ∷ 116 ∷ []
 
 unfoldable pub verdict_word : List ℕ
 verdict_word = 118 ∷ 101 ∷ 114 ∷ 100 ∷ 105 ∷ 99 ∷ 116 ∷ []
@@ -74,9 +68,6 @@ set_line p = set_word ++ (number_fields (numbers_of p) ++ (line_feed ∷ []))
 
 unfoldable pub runs_line : ℕ → List ℕ
 runs_line n = runs_word ++ (number_field n ++ (line_feed ∷ []))
-
-unfoldable pub digest_line : Parameters → Key → List ℕ
-digest_line p key = result_line digest_word (key_digest SHAKE256 p key)
 
 unfoldable pub message_line : List ℕ → List ℕ → List ℕ
 message_line name s = name ++ (number_field (length s) ++ (digest_field s ++ (line_feed ∷ [])))

@@ -1,6 +1,5 @@
 // A whole exchange of prover and verifier (document 01, Sessions; document 02, request 01) on the key that standard input holds, or on the
-// default key where it is empty, with as many runs as the argument says. It prints the key digest, of each message name, length and
-// digest, then the verdict.
+// default key where it is empty, with as many runs as the argument says. Of each message it prints name, length and digest, then the verdict.
 mod count;
 mod default_key;
 mod report;
@@ -34,15 +33,6 @@ fn show_set(p: Parameters, runs: usize)
     let mut next = [0u8; 96];
     let k = crate::report::runs_line(&mut next, runs);
     io::write_all(STDOUT_FILENO, &next[..k]);
-}
-
-// The line of the key digest.
-fn show_digest(p: Parameters, matrix: &[u8], y: &[u8])
-    requires { Within p }
-{
-    let mut line = [0u8; 96];
-    let n = crate::report::digest_line(&mut line, p, matrix, y);
-    io::write_all(STDOUT_FILENO, &line[..n]);
 }
 
 // The line of a message.
@@ -261,7 +251,7 @@ fn received(
     requires { Within p × (runs ≤ most_runs) × (length message1.now < 1_000_000) }
 {
     show(b"1 commitment", message1);
-    let begun = verifier::fresh().begin(p, runs, message1, matrix, y);
+    let begun = verifier::fresh().begin(p, runs, message1);
     let answer = begun.answer;
     let Answer::Done = answer else {
         return answer;
@@ -286,7 +276,6 @@ fn begun(p: Parameters, runs: usize, matrix: &[u8], y: &[u8], x_a: &[u8], messag
         return;
     }
     show_set(p, runs);
-    show_digest(p, matrix, y);
     let next = sent.prover;
     let verdict = received(next, p, runs, message1, matrix, y, &mut work);
     show_verdict(verdict, p, runs);

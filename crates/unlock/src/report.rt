@@ -2,10 +2,9 @@
 ghost use Rattle.std.specs.Prelude.{◌≡◌, ◌∷◌, ◌++◌, ◌+◌, ◌≤◌, ◌<◌, length};
 ghost use Rattle.answers.specs.declared.Answer.TheVariants.{Refused};
 ghost use Rattle.parameters.specs.Limits.{Within};
-ghost use Rattle.exchange.specs.Values.{key_of};
 ghost use Rattle.keytext.specs.Listing.Laws.{Written};
 ghost use Rattle.layout.specs.Maxima.{most_runs};
-ghost use Rattle.unlock.specs.Lines.{number_text, number_field, set_line, runs_line, digest_line, message_line, verdict_line, chance_line};
+ghost use Rattle.unlock.specs.Lines.{number_text, number_field, set_line, runs_line, message_line, verdict_line, chance_line};
 
 use answers::{Answer, Refusal};
 use parameters::Parameters;
@@ -70,15 +69,6 @@ pub fn runs_line(out: &mut [u8; 96], runs: usize) -> usize
     let a = put(out, 0, b"runs");
     let b = number_field(out, a, runs);
     put(out, b, b"\n")
-}
-
-// The line of the key digest; the answer is its length.
-pub fn digest_line(out: &mut [u8; 96], p: Parameters, matrix: &[u8], y: &[u8]) -> usize
-    requires { Within p }
-    ensures { Written out.old 0 (digest_line p (key_of matrix.now y.now)) result out.new }
-{
-    let digest = key_digest::key_digest(p, matrix, y);
-    keytext::listing::result_line(out, 0, b"key digest", &digest)
 }
 
 // The line of a message; the answer is its length.

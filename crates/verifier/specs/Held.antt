@@ -1,25 +1,19 @@
 -- What the code holds and gives, in the words of the definitions of the calls (crate `calls`).
 --
 -- message1_in m, message2_in m, message3_in m   messages 1, 2 and 3 in the list that holds them one behind the other, each in its place
--- digest_in m        the key digest, which follows message 3
 -- session f p runs m leaves   a session that holds these
 -- held s            what a session in code holds
--- lengths_of m5 work   the lengths of message 5 and work area
--- opening_tests p is matrix y l   the lengths of what the opening is lent, one test each
 -- given c           what a method returned: document 01's number of its answer, and the session
 -- judged c work     the same of the opening, with what it left in the work area
-use Rattle.std.specs.Prelude.{Bool, List, ◌∷◌, ℕ, eqb, length}
+use Rattle.std.specs.Prelude.{List, ℕ}
 use Rattle.lists.specs.Part.{part}
 use Rattle.answers.specs.Number.{answer_number}
 use Rattle.parameters.specs.declared.Parameters.{Parameters}
-use Rattle.layout.specs.Lent.{lent_tests}
 use Rattle.layout.specs.Maxima.{most_message1, most_messages2, most_messages3}
-use Rattle.layout.specs.Runs.{messages5_length}
 use Rattle.verifier_phase.specs.declared.Phase.{Phase}
 use Rattle.calls.specs.Verifier as spec
 use Rattle.verifier.specs.declared.Verifier.{Verifier}
 use Rattle.verifier.specs.declared.Called.{Called}
-use Rattle.verifier.specs.declared.checks.Lengths.{Lengths}
 pub mod Laws
 
 abbrev pub message2_place : ℕ
@@ -28,11 +22,8 @@ message2_place = 1_056
 abbrev pub message3_place : ℕ
 message3_place = 3_104
 
-abbrev pub digest_place : ℕ
-digest_place = 4_128
-
 abbrev pub held_length : ℕ
-held_length = 4_160
+held_length = 4_128
 
 unfoldable pub message1_in : List ℕ → List ℕ
 message1_in m = part m 0 most_message1
@@ -43,9 +34,6 @@ message2_in m = part m message2_place most_messages2
 unfoldable pub message3_in : List ℕ → List ℕ
 message3_in m = part m message3_place most_messages3
 
-unfoldable pub digest_in : List ℕ → List ℕ
-digest_in m = part m digest_place 32
-
 abbrev pub session : Phase → Parameters → ℕ → List ℕ → List ℕ → spec.Verifier
 session f p runs m leaves = record {
   phase = f;
@@ -54,18 +42,11 @@ session f p runs m leaves = record {
   message1 = message1_in m;
   message2 = message2_in m;
   message3 = message3_in m;
-  digest = digest_in m;
   leaves = leaves;
 }
 
 abbrev pub held : Verifier → spec.Verifier
 held s = session s.phase s.parameters s.runs s.messages s.leaves
-
-abbrev pub lengths_of : List ℕ → List ℕ → Lengths
-lengths_of m5 work = record { message5 = length m5; work = length work }
-
-abbrev pub opening_tests : Parameters → List ℕ → ℕ → ℕ → Lengths → List Bool
-opening_tests p is matrix y l = eqb l.message5 (messages5_length p is) ∷ lent_tests p matrix y l.work
 
 abbrev pub given : Called → spec.Outcome
 given c = record { answer = answer_number c.answer; verifier = held c.verifier }

@@ -5,7 +5,7 @@
 -- verdict_at p t key e        the verdict on run e of an exchange
 -- Turned                     what holds before run e is judged: its part of message 5 starts at `place`, the runs before it are accepted, and the work
 --                            area is as it was, or its named length is zeros
--- RunAsked, RunsAsked        what the judging of a run and of all runs asks of its slices, and of the key: its digest is the one held
+-- RunAsked, RunsAsked        what the judging of a run and of all runs asks of its slices
 use Rattle.std.specs.Prelude.{◌≡◌, List, ℕ, ◌≤◌, ◌<◌, length, get_or}
 use Rattle.lists.specs.Zeroed.{zeroed}
 use Rattle.parameters.specs.declared.Parameters.{Parameters}
@@ -18,24 +18,22 @@ use Rattle.shake256.specs.Fips.{SHAKE256}
 use Rattle.answers.specs.declared.Answer.{Answer}
 use Rattle.answers.specs.declared.Answer.TheVariants.{Done}
 use Rattle.exchange.specs.Opening.{Exchange, verdict}
-use Rattle.exchange.specs.Values.{Key, key_of}
-use Rattle.exchange.specs.KeyDigest.{key_digest}
+use Rattle.exchange.specs.Values.{Key}
 use Rattle.runs.specs.Opening.{Transcript, transcript, exchange_at, lowest}
 use Rattle.openings.specs.Statement.{statement_at, exchange_in}
-use Rattle.verifier.specs.Held.{held_length, message1_in, message2_in, message3_in, digest_in}
+use Rattle.verifier.specs.Held.{held_length, message1_in, message2_in, message3_in}
 pub mod Laws
 
 abbrev pub transcript_in : List ℕ → List ℕ → List ℕ → Transcript
 transcript_in m is m5 = transcript (message1_in m) (message2_in m) (message3_in m) is m5
 
 unfoldable pub run_in : Parameters → ℕ → List ℕ → ℕ → List ℕ → Exchange
-run_in p e m leaf m5 = exchange_in p (statement_at p e (message1_in m) (message2_in m) (message3_in m) (digest_in m)) leaf m5
+run_in p e m leaf m5 = exchange_in p (statement_at p e (message1_in m) (message2_in m) (message3_in m)) leaf m5
 
 pub record RunAsked (p : Parameters) (e : ℕ) (m : List ℕ) (leaf : ℕ) (m5 matrix y work : List ℕ) : Type 0 where
   pub within : Within p
   pub few : e < most_runs
   pub sized-messages : length m ≡ held_length
-  pub keyed : digest_in m ≡ key_digest SHAKE256 p (key_of matrix y)
   pub below : leaf < leaves p
   pub sized-message5 : length m5 ≡ message5_length p leaf
   pub sized-matrix : length matrix ≡ matrix_length p
@@ -47,7 +45,6 @@ pub record RunsAsked (p : Parameters) (m is m5 matrix y work : List ℕ) : Type 
   pub some : 1 ≤ length is
   pub few : length is ≤ most_runs
   pub sized-messages : length m ≡ held_length
-  pub keyed : digest_in m ≡ key_digest SHAKE256 p (key_of matrix y)
   pub below : (e : ℕ) → e < length is → get_or is e 0 < leaves p
   pub sized-message5 : length m5 ≡ messages5_length p is
   pub lent : Lent p (length matrix) (length y) (length work)

@@ -7,25 +7,21 @@
 -- due-intact                        a call that is due in such a phase finds an intact session
 -- held-within, held-runs, held-leaves   its parameters and its run count are within their limits, its leaves are below n
 -- begin-passed, points-passed, response-passed, leaf-passed   the message taken has room in the session
--- opening-lengths-are               the test of the opening's lengths, from those that the code has
 -- Opened, opening-passed            what is known where the checks of the opening pass
 -- refused-opening, judged-opening   what the opening gives, from what its checks answered
 use Rattle.std.specs.Prelude.{◌≡◌, ◌&&◌, ◌||◌, not, cond, List, ℕ, ◌≤◌, ◌<◌, length, get_or}
-use Rattle.std.proofs.Math.Path.{refl, sym, ap}
-use Rattle.std.proofs.Common.{◌∙◌, arith}
+use Rattle.std.proofs.Math.Path.{refl, ap}
+use Rattle.std.proofs.Common.{sym, ◌∙◌, arith}
 use Rattle.std.proofs.Math.Bool.{Bool, true, false}
 use Rattle.std.proofs.lemmas.Bool.{false≢true}
 use Rattle.std.proofs.Math.Dec.{eqb}
 use borrow.Author.Tests.{eqb-true}
 use Rattle.lists.specs.Zeroed.{zeroed}
-use Rattle.lists.specs.Equal.{eq_list}
-use Rattle.lists.specs.Equal.Laws.{eq_list-true}
-use Rattle.lists.specs.Checks.{all_true}
-use Rattle.lists.specs.Checks.Laws.{all-at, and_left, and_right}
+use Rattle.lists.specs.Checks.Laws.{and_left, and_right}
 use Rattle.answers.specs.declared.Answer.{Answer}
 use Rattle.answers.specs.declared.Answer.TheVariants.{Done, Refused}
 use Rattle.answers.specs.declared.Refusal.{Refusal}
-use Rattle.answers.specs.declared.Refusal.TheVariants.{Parameter, Length, Leaf, NotDue, Closed as ExchangeClosed, SamePoint, OtherKey}
+use Rattle.answers.specs.declared.Refusal.TheVariants.{Parameter, Length, Leaf, NotDue, Closed as ExchangeClosed, SamePoint}
 use Rattle.answers.specs.Number.{answer_number}
 use Rattle.answers.specs.Checks.{check}
 use Rattle.answers.specs.Checks.Laws.{Done≢Refused, check-true, check-rest, check-passed}
@@ -39,16 +35,13 @@ use Rattle.layout.specs.Runs.Laws.{RunsWithin, runs-within, messages2-most}
 use Rattle.runs.specs.Points.{distinct_points}
 use Rattle.runs.specs.Opening.{verdict}
 use Rattle.exchange.specs.Values.{Key}
-use Rattle.exchange.specs.KeyDigest.{key_digest}
 use Rattle.layout.specs.Lent.{lent, Lent}
 use Rattle.layout.specs.Lent.Laws.{test-lent}
-use Rattle.verifier.specs.declared.checks.Lengths.{Lengths}
-use Rattle.verifier.specs.Held.{lengths_of, opening_tests}
 use Rattle.verifier_phase.specs.declared.Phase.{Phase}
 use Rattle.verifier_phase.specs.declared.Phase.TheVariants.{Fresh, Begun, Pointed, Responded, Chosen, Closed}
-use Rattle.calls.specs.Lengths.{start_lengths, opening_lengths, leaves_below}
+use Rattle.calls.specs.Lengths.{leaves_below}
 use Rattle.calls.specs.Lengths.Laws.{leaves-below}
-use Rattle.calls.specs.Verifier.{Verifier, held_leaves, held_transcript, ended, judge, opening, step, intact, standing, closed, due, settle, same_key, begin_checks, points_checks, response_checks, leaf_checks, opening_checks}
+use Rattle.calls.specs.Verifier.{Verifier, held_leaves, held_transcript, ended, judge, opening, step, intact, standing, closed, due, settle, begin_checks, points_checks, response_checks, leaf_checks, opening_checks}
 
 -- ---- what a call gives
 
@@ -133,16 +126,14 @@ module _ (s : Verifier) (h : intact s ≡ true) where
 length-passed : (n m : ℕ) (behind : Answer) → check (eqb n m) Length behind ≡ Done → n ≡ m
 length-passed n m behind e = eqb-true n m (check-true (eqb n m) Length behind e)
 
-pub begin-passed : (p : Parameters) (runs : ℕ) (m1 : List ℕ) (key : Key) → begin_checks p runs m1 key ≡ Done → Within p × (length m1 ≤ most_message1)
+pub begin-passed : (p : Parameters) (runs : ℕ) (m1 : List ℕ) → begin_checks p runs m1 ≡ Done → length m1 ≤ most_message1
 unfolding begin_checks
-begin-passed p runs m1 key e =
+begin-passed p runs m1 e =
     let first : Bool = within_limits p && runs_within runs in
-    let tests : List Bool = start_lengths p runs m1 key in
-    let rest : Answer = check (all_true tests) Length Done in
-    let within = check-true first Parameter rest e in
-    let size = eqb-true (length m1) (message1_length runs) (all-at tests (check-true (all_true tests) Length Done (check-rest first Parameter rest e)) 0) in
-    let few = runs-within runs (and_right (within_limits p) (runs_within runs) within) in
-    (test-within p (and_left (within_limits p) (runs_within runs) within), omega (arith, size, few.most))
+    let rest : Answer = check (eqb (length m1) (message1_length runs)) Length Done in
+    let size = length-passed (length m1) (message1_length runs) Done (check-rest first Parameter rest e) in
+    let few = runs-within runs (and_right (within_limits p) (runs_within runs) (check-true first Parameter rest e)) in
+    omega (arith, size, few.most)
 
 pub points-passed : (s : Verifier) (m2 : List ℕ) → points_checks s m2 ≡ Done → length m2 ≤ most_messages2
 unfolding points_checks
@@ -170,39 +161,27 @@ leaf-passed s is e =
     let few = (held-runs s (due-intact s Responded rest e record { begun = refl; still = refl })).most in
     omega (arith, size, few)
 
--- the lengths of message 5 and work area, as the code has them
-pub opening-lengths-are : (p : Parameters) (is m5 : List ℕ) (key : Key) (work : List ℕ) (l : Lengths) → l ≡ lengths_of m5 work → (b : Bool)
-    → all_true (opening_tests p is (length key.matrix) (length key.y) l) ≡ b → all_true (opening_lengths p is m5 key work) ≡ b
-opening-lengths-are p is m5 key work l q b e =
-    ap (λ (k : Lengths). all_true (opening_tests p is (length key.matrix) (length key.y) k)) (sym q) ∙ e
-
-pub record Opened (hash : List ℕ → ℕ → List ℕ) (s : Verifier) (m5 : ℕ) (key : Key) (work : ℕ) : Type 0 where
+pub record Opened (s : Verifier) (m5 matrix y work : ℕ) : Type 0 where
   pub within : Within s.parameters
   pub counted : RunsWithin s.runs
   pub below : (e : ℕ) → e < length (held_leaves s) → get_or (held_leaves s) e 0 < leaves s.parameters
   pub size : m5 ≡ messages5_length s.parameters (held_leaves s)
-  pub lent : Lent s.parameters (length key.matrix) (length key.y) work
-  pub keyed : s.digest ≡ key_digest hash s.parameters key
+  pub lent : Lent s.parameters matrix y work
 
 module _ (hash : List ℕ → ℕ → List ℕ) (s : Verifier) (m5 : List ℕ) (key : Key) (work : List ℕ) where
-  pub opening-passed : opening_checks hash s m5 key work ≡ Done → Opened hash s (length m5) key (length work)
-  unfolding opening_checks lent same_key
+  pub opening-passed : opening_checks hash s m5 key work ≡ Done → Opened s (length m5) (length key.matrix) (length key.y) (length work)
+  unfolding opening_checks lent
   opening-passed e =
       let five : Bool = eqb (length m5) (messages5_length s.parameters (held_leaves s)) in
       let others : Bool = lent s.parameters (length key.matrix) (length key.y) (length work) in
-      let same : Bool = eq_list (key_digest hash s.parameters key) s.digest in
-      let behind : Answer = check same OtherKey Done in
-      let rest : Answer = check (five && others) Length behind in
-      let passed = rest-done s Chosen rest e in
-      let both = check-true (five && others) Length behind passed in
-      let held = due-intact s Chosen rest e record { begun = refl; still = refl } in
+      let both = check-true (five && others) Length Done (rest-done s Chosen (check (five && others) Length Done) e) in
+      let held = due-intact s Chosen (check (five && others) Length Done) e record { begun = refl; still = refl } in
       record {
         within = held-within s held;
         counted = held-runs s held;
         below = held-leaves s held;
         size = eqb-true (length m5) (messages5_length s.parameters (held_leaves s)) (and_left five others both);
         lent = test-lent s.parameters (length key.matrix) (length key.y) (length work) (and_right five others both);
-        keyed = sym (eq_list-true _ _ (check-true same OtherKey Done (check-rest (five && others) Length behind passed)));
       }
 
 module _ (hash : List ℕ → ℕ → List ℕ) (s : Verifier) (m5 : List ℕ) (key : Key) (work : List ℕ) (b : Answer) (e : b ≡ opening_checks hash s m5 key work) where

@@ -5,22 +5,20 @@ ghost use Rattle.lists.specs.Checks.{all_true};
 ghost use Rattle.parameters.specs.Limits.{Within, within_limits};
 ghost use Rattle.shake256.specs.Fips.{SHAKE256};
 ghost use Rattle.layout.specs.Maxima.{most_runs};
-ghost use Rattle.layout.specs.Layout.{matrix_length, y_length};
-ghost use Rattle.layout.specs.Runs.{runs_within, message1_length};
+ghost use Rattle.layout.specs.Runs.{runs_within, messages5_length};
+ghost use Rattle.layout.specs.Lent.{lent_tests};
 ghost use Rattle.exchange.specs.Values.{key_of};
 ghost use Rattle.verifier_phase.specs.declared.Phase.{Phase};
 ghost use Rattle.calls.specs.Verifier as spec;
-ghost use Rattle.verifier.specs.Held.{held_length, session, lengths_of, opening_tests};
+ghost use Rattle.verifier.specs.Held.{session};
 
-use crate::{DIGEST_PLACE, HELD};
 use answers::{Answer, Refusal};
 use challenge::distinct_points;
-use key_digest::same_key;
+use layout::lent;
 use layout::runs::{
     leaves_below, message1_length, messages2_length, messages3_length, messages5_length,
     runs_within,
 };
-use layout::{lent, matrix_length, y_length};
 use parameters::{Parameters, within_limits};
 use verifier_phase::{Phase, step};
 
@@ -94,28 +92,14 @@ fn numbers_within(p: Parameters, runs: usize) -> bool
     runs_within(runs)
 }
 
-// Have message 1, matrix and y, of these lengths, the lengths that parameters and run count say?
-fn start_lengths(p: Parameters, runs: usize, message1: usize, matrix: usize, y: usize) -> bool
-    requires { Within p × (runs ≤ most_runs) }
-    ensures { result ≡ all_true (eqb message1 (message1_length runs) ∷ eqb matrix (matrix_length p) ∷ eqb y (y_length p) ∷ []) }
-{
-    if message1 != message1_length(runs) {
-        return false;
-    }
-    if matrix != matrix_length(p) {
-        return false;
-    }
-    y == y_length(p)
-}
-
 // The checks of begin.
-pub fn begin_checks(p: Parameters, runs: usize, message1: &[u8], matrix: &[u8], y: &[u8]) -> Answer
-    ensures { result ≡ spec.begin_checks p runs message1.now (key_of matrix.now y.now) }
+pub fn begin_checks(p: Parameters, runs: usize, message1: &[u8]) -> Answer
+    ensures { result ≡ spec.begin_checks p runs message1.now }
 {
     if !numbers_within(p, runs) {
         return Answer::Refused(Refusal::Parameter);
     }
-    if !start_lengths(p, runs, message1.len(), matrix.len(), y.len()) {
+    if message1.len() != message1_length(runs) {
         return Answer::Refused(Refusal::Length);
     }
     Answer::Done
@@ -190,49 +174,52 @@ pub fn leaf_checks(
     Answer::Done
 }
 
-// The lengths of message 5 and work area.
-#[derive(Drop)]
-pub struct Lengths {
-    pub message5: usize,
-    pub work: usize,
-}
-
 // Have message 5, matrix, y and work area, of these lengths, the lengths that the opening of runs with these leaves asks?
-fn opening_lengths(p: Parameters, leaves: &[u8], matrix: usize, y: usize, lengths: Lengths) -> bool
+fn opening_lengths(
+    p: Parameters,
+    leaves: &[u8],
+    message5: usize,
+    matrix: usize,
+    y: usize,
+    work: usize,
+) -> bool
     requires { Within p × (length leaves.now ≤ most_runs) }
-    ensures { result ≡ all_true (opening_tests p leaves.now matrix y lengths) }
+    ensures { result ≡ all_true (eqb message5 (messages5_length p leaves.now) ∷ lent_tests p matrix y work) }
 {
-    if lengths.message5 != messages5_length(p, leaves) {
+    if message5 != messages5_length(p, leaves) {
         return false;
     }
-    lent(p, matrix, y, lengths.work)
+    lent(p, matrix, y, work)
 }
 
-// The checks of the opening, where `messages` has the messages and the key digest that the session holds.
+// The checks of the opening.
 pub fn opening_checks(
     phase: Phase,
     p: Parameters,
     runs: usize,
-    messages: &[u8],
     leaves: &[u8],
-    lengths: Lengths,
+    message5: &[u8],
     matrix: &[u8],
     y: &[u8],
+    work: &[u8],
 ) -> Answer
-    requires { (length messages.now ≡ held_length) × (length leaves.now ≡ most_runs) }
-    ensures { (m5 work : List ℕ) → lengths ≡ lengths_of m5 work
-        → result ≡ spec.opening_checks SHAKE256 (session phase p runs messages.now leaves.now) m5
-        (key_of matrix.now y.now) work }
+    requires { length leaves.now ≡ most_runs }
+    ensures { (m : List ℕ) → result ≡ spec.opening_checks SHAKE256 (session phase p runs m leaves.now) message5.now
+        (key_of matrix.now y.now) work.now }
 {
     let state = state_checks(phase, p, runs, leaves, Phase::Chosen);
     let Answer::Done = state else {
         return state;
     };
-    if !opening_lengths(p, &leaves[..runs], matrix.len(), y.len(), lengths) {
+    if !opening_lengths(
+        p,
+        &leaves[..runs],
+        message5.len(),
+        matrix.len(),
+        y.len(),
+        work.len(),
+    ) {
         return Answer::Refused(Refusal::Length);
-    }
-    if !same_key(p, matrix, y, &messages[DIGEST_PLACE..HELD]) {
-        return Answer::Refused(Refusal::OtherKey);
     }
     Answer::Done
 }

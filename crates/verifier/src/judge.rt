@@ -8,7 +8,7 @@ ghost use Rattle.exchange.specs.Values.{key_of};
 ghost use Rattle.runs.specs.Opening.{verdict};
 ghost use Rattle.verifier.specs.Judging.{RunAsked, RunsAsked, run_in, transcript_in};
 
-use crate::{DIGEST_PLACE, HELD, MESSAGE2_PLACE, MESSAGE3_PLACE};
+use crate::{HELD, MESSAGE2_PLACE, MESSAGE3_PLACE};
 use answers::Answer;
 use layout::{
     MOST_OPENED, MOST_STATEMENT, message5_length, opened_length, statement_length, work_length,
@@ -23,8 +23,8 @@ fn wide(leaf: u8) -> usize
     leaf as usize
 }
 
-// Checks the opening of a run, from the messages 1 to 3 and the key digest that the session holds, its hidden leaf and its part of
-// message 5; the work area ends as zeros.
+// Checks the opening of a run, from the messages 1 to 3 that the session holds, its hidden leaf and its part of message 5; the work
+// area ends as zeros.
 fn judge_run(
     p: Parameters,
     run: usize,
@@ -49,8 +49,7 @@ fn judge_run(
         run as u8,
         &messages[..MESSAGE2_PLACE],
         &messages[MESSAGE2_PLACE..MESSAGE3_PLACE],
-        &messages[MESSAGE3_PLACE..DIGEST_PLACE],
-        &messages[DIGEST_PLACE..HELD],
+        &messages[MESSAGE3_PLACE..HELD],
         &mut statement[..stated],
     );
     check_opening(

@@ -1,4 +1,4 @@
-// The verifier's session. It holds the messages received so far, the key digest, the hidden leaves that it chose, and its phase.
+// The verifier's session. It holds the messages received so far, the hidden leaves that it chose, and its phase.
 mod checks;
 mod judge;
 
@@ -9,25 +9,21 @@ ghost use Rattle.calls.specs.Verifier as spec;
 ghost use Rattle.verifier.specs.Held.{held, given, judged};
 
 use answers::Answer;
-use checks::{Lengths, begin_checks, leaf_checks, opening_checks, points_checks, response_checks};
+use checks::{begin_checks, leaf_checks, opening_checks, points_checks, response_checks};
 use judge::judge;
-use key_digest::key_digest;
 use layout::MOST_RUNS;
 use lists::put_at;
 use parameters::Parameters;
 use verifier_phase::Phase;
 
-// The bytes of messages 1, 2 and 3, each in as many as it can have, and of the key digest, and where messages 2, 3 and the digest start
-// among them.
-pub const HELD: usize = 4160;
+// The bytes of messages 1, 2 and 3, each in as many as it can have, and where messages 2 and 3 start among them.
+pub const HELD: usize = 4128;
 
 pub const MESSAGE2_PLACE: usize = 1056;
 
 pub const MESSAGE3_PLACE: usize = 3104;
 
-pub const DIGEST_PLACE: usize = 4128;
-
-// A session. Each message stands at the front of its place; so do the leaves, one of each run. The key digest follows message 3.
+// A session. Each message stands at the front of its place; so do the leaves, one of each run.
 #[derive(Drop)]
 pub struct Verifier {
     pub phase: Phase,
@@ -65,29 +61,19 @@ pub fn fresh() -> Verifier
 }
 
 impl Verifier {
-    // Begins an exchange of so many runs with its parameters, message 1, matrix and y, whose digest is held; the exchange held is dropped.
-    pub fn begin(
-        self,
-        p: Parameters,
-        runs: usize,
-        message1: &[u8],
-        matrix: &[u8],
-        y: &[u8],
-    ) -> Called
-        ensures { given result ≡ spec.begin SHAKE256 (held self) p runs message1.now
-            (key_of matrix.now y.now) }
+    // Begins an exchange of so many runs with its parameters and message 1; the exchange held is dropped.
+    pub fn begin(self, p: Parameters, runs: usize, message1: &[u8]) -> Called
+        ensures { given result ≡ spec.begin (held self) p runs message1.now }
     {
-        let checked = begin_checks(p, runs, message1, matrix, y);
+        let checked = begin_checks(p, runs, message1);
         let Answer::Done = checked else {
             return Called {
                 verifier: self,
                 answer: checked,
             };
         };
-        let digest = key_digest(p, matrix, y);
         let mut messages = [0u8; HELD];
         put_at(&mut messages, 0, message1);
-        put_at(&mut messages, DIGEST_PLACE, &digest);
         let next = Verifier {
             phase: Phase::Begun,
             parameters: p,
@@ -200,27 +186,15 @@ impl Verifier {
         let p = self.parameters;
         let runs = self.runs;
         let leaves = self.leaves;
-        let lengths = Lengths {
-            message5: message5.len(),
-            work: work.len(),
-        };
-        let checked = opening_checks(phase, p, runs, &self.messages, &leaves, lengths, matrix, y);
+        let checked = opening_checks(phase, p, runs, &leaves, message5, matrix, y, work);
         let Answer::Done = checked else {
             return Called {
                 verifier: self,
                 answer: checked,
             };
         };
-        let answer = judge(
-            p,
-            &self.messages,
-            &leaves[..runs],
-            message5,
-            matrix,
-            y,
-            work,
-        );
         let messages = self.messages;
+        let answer = judge(p, &messages, &leaves[..runs], message5, matrix, y, work);
         let next = Verifier {
             phase: Phase::Closed,
             parameters: p,

@@ -1,7 +1,6 @@
 //! Calls with all that they are lent, so that one call can be made of two implementations and its effects compared.
 
 use crate::extractor::{extract, Answer};
-use crate::key::PublicKey;
 use crate::lent::Lent;
 use crate::numbers::Number;
 use crate::parameters::Parameters;
@@ -59,7 +58,7 @@ pub struct ProverCall {
 #[allow(missing_docs)]
 pub enum VerifierCall {
     /// begin
-    Begin { parameters: Parameters, runs: usize, message_1: Vec<u8>, matrix: Vec<u8>, y: Vec<u8> },
+    Begin { parameters: Parameters, runs: usize, message_1: Vec<u8> },
     /// points
     Points { message_2: Vec<u8> },
     /// response
@@ -115,9 +114,7 @@ impl VerifierCall {
     pub fn make(&self, verifier: &mut Verifier) -> Effect {
         let mut work = Vec::new();
         let number = match self {
-            VerifierCall::Begin { parameters, runs, message_1, matrix, y } => {
-                verifier.begin(*parameters, *runs, message_1, PublicKey { matrix, y })
-            }
+            VerifierCall::Begin { parameters, runs, message_1 } => verifier.begin(*parameters, *runs, message_1),
             VerifierCall::Points { message_2 } => verifier.points(message_2),
             VerifierCall::Response { message_3 } => verifier.response(message_3),
             VerifierCall::Leaf { leaves } => verifier.leaf(leaves),

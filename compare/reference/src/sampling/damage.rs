@@ -1,4 +1,4 @@
-//! Damage to bytes, lengths, points and keys.
+//! Damage to bytes, lengths and points.
 
 use crate::messages::check_points;
 use crate::parameters::Parameters;
@@ -19,20 +19,6 @@ pub fn flip_challenge_bit(random: &mut Random, parameters: &Parameters, message_
         if check_points(parameters, &changed).is_ok() {
             return message_2.copy_from_slice(&changed);
         }
-    }
-}
-
-/// Makes another key of matrix and y, which keep their lengths: a bit of one of them, of both, or all bytes.
-pub fn change_key(random: &mut Random, matrix: &mut [u8], y: &mut [u8]) {
-    let kind = random.below(8);
-    if kind == 0 {
-        matrix.iter_mut().chain(y.iter_mut()).for_each(|byte| *byte = random.byte());
-    }
-    if kind < 5 {
-        flip_bit(random, matrix);
-    }
-    if kind == 1 || kind > 4 {
-        flip_bit(random, y);
     }
 }
 

@@ -149,12 +149,11 @@ pub fn honest_exchange(key: &Key, start: &Start, leaves: &[u8]) -> Exchange {
     Exchange { message_1, message_2: start.message_2.clone(), message_3, leaves: leaves.to_vec(), message_5 }
 }
 
-/// What a fresh verifier that is begun and lent one key answers to the opening of an exchange whose other calls are carried
-/// out.
+/// What a fresh verifier answers to the opening of an exchange whose other calls are carried out.
 pub fn verdict(parameters: &Parameters, key: PublicKey, exchange: &Exchange) -> Number {
     let mut work = vec![0xa5; parameters.work_bytes()];
     let mut verifier = Verifier::default();
-    assert_eq!(verifier.begin(*parameters, exchange.runs(), &exchange.message_1, key), CARRIED_OUT);
+    assert_eq!(verifier.begin(*parameters, exchange.runs(), &exchange.message_1), CARRIED_OUT);
     assert_eq!(verifier.points(&exchange.message_2), CARRIED_OUT);
     assert_eq!(verifier.response(&exchange.message_3), CARRIED_OUT);
     assert_eq!(verifier.leaf(&exchange.leaves), CARRIED_OUT);

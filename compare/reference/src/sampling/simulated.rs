@@ -93,8 +93,7 @@ impl<'a> PointsFirst<'a> {
     /// The exchange that hides these leaves; it is accepted whatever they are.
     pub fn exchange(&self, leaves: &[u8]) -> Exchange {
         let runs: Vec<_> = self.committed.iter().zip(challenges(&self.parameters, &self.message_2)).collect();
-        let key_digest = self.key.digest(&self.parameters);
-        let h: Vec<Digest> = self.committed.iter().map(|run| run.h(&key_digest)).collect();
+        let h: Vec<Digest> = self.committed.iter().map(Committed::h).collect();
         let responses = runs.iter().flat_map(|(run, challenge)| run.response(challenge, self.key));
         let openings = runs.iter().zip(leaves);
         let openings = openings.flat_map(|((run, challenge), &leaf)| run.opening(challenge, leaf, self.key).to_bytes());

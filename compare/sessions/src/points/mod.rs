@@ -6,7 +6,6 @@ mod order;
 
 use crate::count::Count;
 use crate::effects::{answers, require};
-use crate::steps::{prover_step, Provers, Verifiers};
 use crate::{extractor, prover, verifier};
 use reference::extractor::Answer;
 use reference::numbers::{Number, CARRIED_OUT, POINT_REPEATED};
@@ -32,6 +31,9 @@ fn pairs_of_positions() -> impl Iterator<Item = (usize, usize)> {
     (0..8).flat_map(|second| (0..second).map(move |first| (first, second)))
 }
 
+/// A session of both implementations.
+type Sessions<Expected, Found> = (Expected, Found);
+
 /// An exchange of a key: its calls at all three places, and the sessions whose points are due.
 struct Sample {
     key: Key,
@@ -40,8 +42,8 @@ struct Sample {
     prover_calls: Vec<ProverCall>,
     verifier_calls: Vec<VerifierCall>,
     extractor_call: ExtractorCall,
-    prover: Provers,
-    verifier: Verifiers,
+    prover: Sessions<Prover, unlock::prover::Prover>,
+    verifier: Sessions<Verifier, unlock::verifier::Verifier>,
 }
 
 /// The extractor's call for openings that hide leaf 0 and leaf n−1 in every run.
@@ -215,7 +217,7 @@ fn one_position(random: &mut Random, count: &mut Count) {
         let mut sessions = (Prover::default(), unlock::prover::Prover::new());
         for call in prover::calls(random, &key, start, &vec![0; runs]) {
             let name = format!("prover of one position, {runs} equal runs");
-            prover_step(&mut sessions, (&call, CARRIED_OUT), &name, count);
+            order::prover_step(&mut sessions, (&call, CARRIED_OUT), &name, count);
         }
     }
 }

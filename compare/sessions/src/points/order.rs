@@ -1,8 +1,9 @@
 //! Repeated points beside what stands before 14 in the order and behind it.
 
-use super::{in_either, refused, Sample, POINTS, SET};
+use super::{in_either, refused, Sample, Sessions, POINTS, SET};
 use crate::count::Count;
-use crate::steps::{prover_step, verifier_step};
+use crate::effects::answers;
+use crate::{prover, verifier};
 use reference::numbers::{
     Number, CARRIED_OUT, CLOSED, COMMITMENT_DIFFERS, EXCHANGES_DIFFER, LEAF_NOT_BELOW_N, NOT_DUE,
     PARAMETER_OUTSIDE_LIMITS, POINT_REPEATED, RESPONSE_DIFFERS, SAME_HIDDEN_LEAVES, WRONG_LENGTH,
@@ -10,6 +11,28 @@ use reference::numbers::{
 use reference::prover::Prover;
 use reference::sampling::calls::{ExtractorCall, ProverCall, VerifierCall};
 use reference::verifier::Verifier;
+
+/// Makes a prover's call that must answer a number, of sessions that go on.
+pub(super) fn prover_step(
+    (expected, found): &mut Sessions<Prover, unlock::prover::Prover>,
+    (call, wanted): (&ProverCall, Number),
+    name: &str,
+    count: &mut Count,
+) {
+    let number = prover::compare_one(call, expected, found, count);
+    count.settle(name, number.and_then(|number| answers(number, wanted)));
+}
+
+/// The same of a verifier's call.
+fn verifier_step(
+    (expected, found): &mut Sessions<Verifier, unlock::verifier::Verifier>,
+    (call, wanted): (&VerifierCall, Number),
+    name: &str,
+    count: &mut Count,
+) {
+    let number = verifier::compare_one(call, expected, found, count);
+    count.settle(name, number.and_then(|number| answers(number, wanted)));
+}
 
 /// A prover's session refuses repeated points twice, takes distinct ones and goes on; 11 and 12 come before 14.
 pub(super) fn prover_goes_on(sample: &Sample, count: &mut Count) {
@@ -57,8 +80,8 @@ pub(super) fn verifier_goes_on(sample: &Sample, count: &mut Count) {
     }
 }
 
-/// Where message 2 starts in a prover's session: behind phase, parameters, run count, x, salt, root and key digest.
-const PROVER_MESSAGE_2: usize = 7 + 255 + 32 + 16 + 32;
+/// Where message 2 starts in a prover's session: behind phase, parameters, run count, x, salt and root.
+const PROVER_MESSAGE_2: usize = 7 + 255 + 32 + 16;
 /// Where message 2 starts in a verifier's session: behind phase, parameters, run count and message 1.
 const VERIFIER_MESSAGE_2: usize = 7 + 32 + 32 * 32;
 

@@ -9,7 +9,7 @@
 use Rattle.std.specs.Prelude.{◌≡◌, refl, cond, ℕ, eqb}
 use Rattle.std.proofs.Common.{sym, ap, ◌∙◌, arith, ne_eqb}
 use Rattle.answers.specs.declared.Refusal.{Refusal}
-use Rattle.answers.specs.declared.Refusal.TheVariants.{Parameter, Length, Weight, Leaf, Commitment, Response, Exchange, SameLeaf, Malformed, NotDue, Closed, Repeated, SamePoint, OtherKey}
+use Rattle.answers.specs.declared.Refusal.TheVariants.{Parameter, Length, Weight, Leaf, Commitment, Response, Exchange, SameLeaf, Malformed, NotDue, Closed, Repeated, SamePoint}
 use Rattle.answers.specs.declared.Answer.{Answer}
 use Rattle.answers.specs.declared.Answer.TheVariants.{Done, Refused}
 use Rattle.answers.specs.Number.{refusal_number, answer_number}
@@ -27,8 +27,7 @@ refusal_from n =
     (cond (eqb n 10) Malformed
     (cond (eqb n 11) NotDue
     (cond (eqb n 12) Closed
-    (cond (eqb n 13) Repeated
-    (cond (eqb n 14) SamePoint OtherKey))))))))))))
+    (cond (eqb n 13) Repeated SamePoint)))))))))))
 
 abbrev answer_from : ℕ → Answer
 answer_from n = cond (eqb n 0) Done (Refused (refusal_from n))
@@ -47,7 +46,6 @@ refusal-back NotDue = refl
 refusal-back Closed = refl
 refusal-back Repeated = refl
 refusal-back SamePoint = refl
-refusal-back OtherKey = refl
 
 pub refusals-apart : (r r' : Refusal) → refusal_number r ≡ refusal_number r' → r ≡ r'
 refusals-apart r r' e = sym (refusal-back r) ∙ ap refusal_from e ∙ refusal-back r'
@@ -56,11 +54,11 @@ number-from : (r : Refusal) (n : ℕ) → refusal_number r ≡ n → refusal_num
 number-from r n e = ap (λ (m : ℕ). refusal_number (refusal_from m)) (sym e) ∙ ap refusal_number (refusal-back r) ∙ e
 
 pub refused-not-0 : (r : Refusal) → refusal_number r ≡ 0 → ⊥
-refused-not-0 r e = let z : ◌≡◌ {A = ℕ} 15 0 = number-from r 0 e in omega arith
+refused-not-0 r e = let z : ◌≡◌ {A = ℕ} 14 0 = number-from r 0 e in omega arith
 
 pub six-unused : (a : Answer) → answer_number a ≡ 6 → ⊥
 six-unused Done e = omega arith
-six-unused (Refused r) e = let z : ◌≡◌ {A = ℕ} 15 6 = number-from r 6 e in omega arith
+six-unused (Refused r) e = let z : ◌≡◌ {A = ℕ} 14 6 = number-from r 6 e in omega arith
 
 answer_back : (a : Answer) → answer_from (answer_number a) ≡ a
 answer_back Done = refl

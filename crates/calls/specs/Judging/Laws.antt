@@ -38,9 +38,9 @@ none_told d q = refl
 -- ---- a run
 
 module _ (hash : List ℕ → ℕ → List ℕ) (p : Parameters) (key : Key) (e : Exchange) where
-  accepted-run : (digest_differs hash p key e || response_differs hash p key e) ≡ false → run.verdict hash p e key ≡ Done
+  accepted-run : (digest_differs hash p e || response_differs hash p key e) ≡ false → run.verdict hash p e key ≡ Done
   unfolding run.verdict digest_differs response_differs
-  accepted-run = go (eq_list (hash (commitment_string hash p e key) 32) e.h) (eq_list (hash (response_string hash p e key) 32) e.message3)
+  accepted-run = go (eq_list (hash (commitment_string hash p e) 32) e.h) (eq_list (hash (response_string hash p e key) 32) e.message3)
     where
       go : (a b : Bool) → (not a || not b) ≡ false → checks ((a, Commitment) ∷ (b, Response) ∷ []) ≡ Done
       go true true h = refl
@@ -50,14 +50,14 @@ module _ (hash : List ℕ → ℕ → List ℕ) (p : Parameters) (key : Key) (e 
   record RefusedRun : Type 0 where
     pub refusal : Refusal
     pub refuses : run.verdict hash p e key ≡ Refused refusal
-    pub number : answer_number (Refused refusal) ≡ answer_of (conditions_of true (digest_differs hash p key e) (response_differs hash p key e))
+    pub number : answer_number (Refused refusal) ≡ answer_of (conditions_of true (digest_differs hash p e) (response_differs hash p key e))
 
-  refused-run : (digest_differs hash p key e || response_differs hash p key e) ≡ true → RefusedRun
+  refused-run : (digest_differs hash p e || response_differs hash p key e) ≡ true → RefusedRun
   unfolding run.verdict digest_differs response_differs answer_of first_of holds
   refused-run =
-      go (eq_list (hash (commitment_string hash p e key) 32) e.h) (eq_list (hash (response_string hash p e key) 32) e.message3) refl refl
+      go (eq_list (hash (commitment_string hash p e) 32) e.h) (eq_list (hash (response_string hash p e key) 32) e.message3) refl refl
     where
-      go : (a b : Bool) → eq_list (hash (commitment_string hash p e key) 32) e.h ≡ a
+      go : (a b : Bool) → eq_list (hash (commitment_string hash p e) 32) e.h ≡ a
           → eq_list (hash (response_string hash p e key) 32) e.message3 ≡ b → (not a || not b) ≡ true → RefusedRun
       go true true x y h = absurd (false≢true h)
       go true false x y h = record { refusal = Response; refuses = rw (x, y); number = rw (x, y) }
@@ -65,7 +65,7 @@ module _ (hash : List ℕ → ℕ → List ℕ) (p : Parameters) (key : Key) (e 
 
   run-judged : judged (answer_number (run.verdict hash p e key)) ≡ true
   unfolding run.verdict
-  run-judged = go (eq_list (hash (commitment_string hash p e key) 32) e.h) (eq_list (hash (response_string hash p e key) 32) e.message3)
+  run-judged = go (eq_list (hash (commitment_string hash p e) 32) e.h) (eq_list (hash (response_string hash p e key) 32) e.message3)
     where
       go : (a b : Bool) → judged (answer_number (checks ((a, Commitment) ∷ (b, Response) ∷ []))) ≡ true
       go true true = refl
@@ -76,7 +76,7 @@ module _ (hash : List ℕ → ℕ → List ℕ) (p : Parameters) (key : Key) (e 
 
 module _ (hash : List ℕ → ℕ → List ℕ) (p : Parameters) (runs : ℕ) (t : Transcript) (key : Key) where
   abbrev differs : ℕ → Bool
-  differs e = digest_differs hash p key (exchange_at p t e) || response_differs hash p key (exchange_at p t e)
+  differs e = digest_differs hash p (exchange_at p t e) || response_differs hash p key (exchange_at p t e)
 
   abbrev verdict_at : ℕ → Answer
   verdict_at e = run.verdict hash p (exchange_at p t e) key
@@ -87,11 +87,11 @@ module _ (hash : List ℕ → ℕ → List ℕ) (p : Parameters) (runs : ℕ) (t
 
   verdict-at : (r : ℕ) → Least differs runs r
       → answer_number (lowest verdict_at runs)
-      ≡ answer_of (conditions_of (ltb r runs) (digest_differs hash p key (exchange_at p t r)) (response_differs hash p key (exchange_at p t r)))
+      ≡ answer_of (conditions_of (ltb r runs) (digest_differs hash p (exchange_at p t r)) (response_differs hash p key (exchange_at p t r)))
   verdict-at r least = go (dec_lt r runs)
     where
       go : Dec (r < runs) → answer_number (lowest verdict_at runs)
-          ≡ answer_of (conditions_of (ltb r runs) (digest_differs hash p key (exchange_at p t r)) (response_differs hash p key (exchange_at p t r)))
+          ≡ answer_of (conditions_of (ltb r runs) (digest_differs hash p (exchange_at p t r)) (response_differs hash p key (exchange_at p t r)))
       go (yes l) =
           let z = refused-run hash p key (exchange_at p t r) (least.passes l) in
           rw (lt-ltb r runs l) (ap answer_number (lowest-first verdict_at runs r l (before-accepted r least) z.refuses) ∙ z.number)
@@ -100,7 +100,7 @@ module _ (hash : List ℕ → ℕ → List ℕ) (p : Parameters) (runs : ℕ) (t
           let e : r ≡ runs = omega arith in
           rw (le-ltb r runs (omega arith))
           (ap answer_number (ap (lowest verdict_at) (sym e) ∙ before-accepted r least)
-          ∙ sym (none_told (digest_differs hash p key (exchange_at p t r)) (response_differs hash p key (exchange_at p t r))))
+          ∙ sym (none_told (digest_differs hash p (exchange_at p t r)) (response_differs hash p key (exchange_at p t r))))
 
   pub verdict-told : answer_number (verdict hash p runs t key) ≡ answer_of (opening_conditions hash p runs t key)
   unfolding verdict opening_conditions refused_run

@@ -165,7 +165,7 @@ module _ (hash : List ℕ → ℕ → List ℕ) where
 
   leaf-answered : (s : Prover) (is : List ℕ) (key : Key) (work out : List ℕ) → leaf_checks hash s is key work out ≡ Done → standing s ≡ Answered
   unfolding leaf_due
-  leaf-answered s is key work out e = answered-phase (standing s) (leaf-passed hash s work out key is e).0
+  leaf-answered s is key work out e = answered-phase (standing s) (leaf-passed hash s work out key is e)
 
   -- ---- a call takes from what is left
 

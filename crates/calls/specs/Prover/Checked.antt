@@ -11,7 +11,7 @@ use Rattle.std.proofs.lemmas.Bool.{not-false}
 use Rattle.lists.specs.Checks.{all_true}
 use Rattle.lists.specs.Checks.Laws.{and_left, and_right}
 use Rattle.answers.specs.declared.Answer.TheVariants.{Done}
-use Rattle.answers.specs.declared.Refusal.TheVariants.{Parameter, Length, Weight, Leaf, NotDue, Closed as ExchangeClosed, Repeated, SamePoint, OtherKey}
+use Rattle.answers.specs.declared.Refusal.TheVariants.{Parameter, Length, Weight, Leaf, NotDue, Closed as ExchangeClosed, Repeated, SamePoint}
 use Rattle.answers.specs.Number.{answer_number}
 use Rattle.answers.specs.Checks.{checks}
 use Rattle.answers.specs.Order.{holds, first_of, answer_of}
@@ -24,7 +24,7 @@ use Rattle.layout.specs.Runs.Laws.{RunsWithin, runs-within}
 use Rattle.exchange.specs.Values.{Key}
 use Rattle.runs.specs.Points.{distinct_points}
 use Rattle.calls.specs.Lengths.{begin_lengths, points_lengths, leaf_lengths, leaves_below}
-use Rattle.calls.specs.Prover.{Prover, closed, points_due, leaf_due, repeated, same_key, begin_checks, points_checks, leaf_checks}
+use Rattle.calls.specs.Prover.{Prover, closed, points_due, leaf_due, repeated, begin_checks, points_checks, leaf_checks}
 use Rattle.calls.specs.Prover.History.{Begin, secret_of}
 
 pub record Allowed (b : Begin) (work out : List ℕ) : Type 0 where
@@ -40,15 +40,15 @@ begin-row : (a b c d : Bool) → answer_number (checks ((a, Parameter) ∷ (b, L
 unfolding told picked absent
 begin-row a b c d = picked-order ((a, Parameter) ∷ (b, Length) ∷ (c, Weight) ∷ (d, Repeated) ∷ []) refl
 
-points-row : (a b c d e : Bool) → answer_number (checks ((a, ExchangeClosed) ∷ (b, NotDue) ∷ (c, Length) ∷ (d, SamePoint) ∷ (e, OtherKey) ∷ []))
-    ≡ answer_of ((12, not a) ∷ (11, not b) ∷ (2, not c) ∷ (14, not d) ∷ (15, not e) ∷ [])
+points-row : (a b c d : Bool) → answer_number (checks ((a, ExchangeClosed) ∷ (b, NotDue) ∷ (c, Length) ∷ (d, SamePoint) ∷ []))
+    ≡ answer_of ((12, not a) ∷ (11, not b) ∷ (2, not c) ∷ (14, not d) ∷ [])
 unfolding told picked absent
-points-row a b c d e = picked-order ((a, ExchangeClosed) ∷ (b, NotDue) ∷ (c, Length) ∷ (d, SamePoint) ∷ (e, OtherKey) ∷ []) refl
+points-row a b c d = picked-order ((a, ExchangeClosed) ∷ (b, NotDue) ∷ (c, Length) ∷ (d, SamePoint) ∷ []) refl
 
-leaf-row : (a b c d e : Bool) → answer_number (checks ((a, ExchangeClosed) ∷ (b, NotDue) ∷ (c, Length) ∷ (d, OtherKey) ∷ (e, Leaf) ∷ []))
-    ≡ answer_of ((12, not a) ∷ (11, not b) ∷ (2, not c) ∷ (15, not d) ∷ (4, not e) ∷ [])
+leaf-row : (a b c d : Bool) → answer_number (checks ((a, ExchangeClosed) ∷ (b, NotDue) ∷ (c, Length) ∷ (d, Leaf) ∷ []))
+    ≡ answer_of ((12, not a) ∷ (11, not b) ∷ (2, not c) ∷ (4, not d) ∷ [])
 unfolding told picked absent
-leaf-row a b c d e = picked-order ((a, ExchangeClosed) ∷ (b, NotDue) ∷ (c, Length) ∷ (d, OtherKey) ∷ (e, Leaf) ∷ []) refl
+leaf-row a b c d = picked-order ((a, ExchangeClosed) ∷ (b, NotDue) ∷ (c, Length) ∷ (d, Leaf) ∷ []) refl
 
 module _ (hash : List ℕ → ℕ → List ℕ) (s : Prover) (work out : List ℕ) where
   module _ (b : Begin) where
@@ -67,20 +67,19 @@ module _ (hash : List ℕ → ℕ → List ℕ) (s : Prover) (work out : List �
   module _ (key : Key) where
     pub points-ordered : (m2 : List ℕ) → answer_number (points_checks hash s m2 key work out)
         ≡ answer_of ((12, closed s) ∷ (11, not (points_due s)) ∷ (2, not (all_true (points_lengths s.parameters s.runs m2 key work out)))
-        ∷ (14, not (distinct_points s.parameters s.runs m2)) ∷ (15, not (same_key hash s key)) ∷ [])
+        ∷ (14, not (distinct_points s.parameters s.runs m2)) ∷ [])
     unfolding points_checks
     points-ordered m2 =
         points-row (not (closed s)) (points_due s) (all_true (points_lengths s.parameters s.runs m2 key work out))
-        (distinct_points s.parameters s.runs m2) (same_key hash s key)
+        (distinct_points s.parameters s.runs m2)
         ∙ rw (not-not (closed s))
 
     pub leaf-ordered : (is : List ℕ) → answer_number (leaf_checks hash s is key work out)
         ≡ answer_of ((12, closed s) ∷ (11, not (leaf_due s)) ∷ (2, not (all_true (leaf_lengths s.parameters s.runs is key work out)))
-        ∷ (15, not (same_key hash s key)) ∷ (4, not (leaves_below s.parameters is)) ∷ [])
+        ∷ (4, not (leaves_below s.parameters is)) ∷ [])
     unfolding leaf_checks
     leaf-ordered is =
-        leaf-row (not (closed s)) (leaf_due s) (all_true (leaf_lengths s.parameters s.runs is key work out)) (same_key hash s key)
-        (leaves_below s.parameters is)
+        leaf-row (not (closed s)) (leaf_due s) (all_true (leaf_lengths s.parameters s.runs is key work out)) (leaves_below s.parameters is)
         ∙ rw (not-not (closed s))
 
 -- ---- what a number says
@@ -100,25 +99,23 @@ begin-by false false false true false q = absurd (omega arith)
 begin-by false false false false true q = absurd (omega arith)
 begin-by false false false false false q = (refl, refl, refl, refl)
 
-pub points-by : (a b c d e : Bool) → answer_of ((12, a) ∷ (11, b) ∷ (2, c) ∷ (14, d) ∷ (15, e) ∷ []) ≡ 0
-    → (a ≡ false) × (b ≡ false) × (c ≡ false) × (d ≡ false) × (e ≡ false)
+pub points-by : (a b c d : Bool) → answer_of ((12, a) ∷ (11, b) ∷ (2, c) ∷ (14, d) ∷ []) ≡ 0
+    → (a ≡ false) × (b ≡ false) × (c ≡ false) × (d ≡ false)
 unfolding answer_of first_of holds
-points-by true b c d e q = absurd (omega arith)
-points-by false true c d e q = absurd (omega arith)
-points-by false false true d e q = absurd (omega arith)
-points-by false false false true e q = absurd (omega arith)
-points-by false false false false true q = absurd (omega arith)
-points-by false false false false false q = (refl, refl, refl, refl, refl)
+points-by true b c d q = absurd (omega arith)
+points-by false true c d q = absurd (omega arith)
+points-by false false true d q = absurd (omega arith)
+points-by false false false true q = absurd (omega arith)
+points-by false false false false q = (refl, refl, refl, refl)
 
-pub leaf-by : (a b c d e : Bool) → answer_of ((12, a) ∷ (11, b) ∷ (2, c) ∷ (15, d) ∷ (4, e) ∷ []) ≡ 0
-    → (a ≡ false) × (b ≡ false) × (c ≡ false) × (d ≡ false) × (e ≡ false)
+pub leaf-by : (a b c d : Bool) → answer_of ((12, a) ∷ (11, b) ∷ (2, c) ∷ (4, d) ∷ []) ≡ 0
+    → (a ≡ false) × (b ≡ false) × (c ≡ false) × (d ≡ false)
 unfolding answer_of first_of holds
-leaf-by true b c d e q = absurd (omega arith)
-leaf-by false true c d e q = absurd (omega arith)
-leaf-by false false true d e q = absurd (omega arith)
-leaf-by false false false true e q = absurd (omega arith)
-leaf-by false false false false true q = absurd (omega arith)
-leaf-by false false false false false q = (refl, refl, refl, refl, refl)
+leaf-by true b c d q = absurd (omega arith)
+leaf-by false true c d q = absurd (omega arith)
+leaf-by false false true d q = absurd (omega arith)
+leaf-by false false false true q = absurd (omega arith)
+leaf-by false false false false q = (refl, refl, refl, refl)
 
 -- the tests of a begin's arguments
 pub allowed-by : (b : Begin) (work out : List ℕ) → not (within_limits b.parameters && runs_within b.runs) ≡ false
@@ -140,12 +137,10 @@ module _ (hash : List ℕ → ℕ → List ℕ) (s : Prover) (work out : List �
   module _ (key : Key) where
     pub points-passed : (m2 : List ℕ) → points_checks hash s m2 key work out ≡ Done
         → (points_due s ≡ true) × (all_true (points_lengths s.parameters s.runs m2 key work out) ≡ true)
-        × (distinct_points s.parameters s.runs m2 ≡ true) × (same_key hash s key ≡ true)
+        × (distinct_points s.parameters s.runs m2 ≡ true)
     points-passed m2 e =
-        let t = points-by _ _ _ _ _ (sym (points-ordered hash s work out key m2) ∙ ap answer_number e) in
-        (not-false _ t.1, not-false _ t.2, not-false _ t.3, not-false _ t.4)
+        let t = points-by _ _ _ _ (sym (points-ordered hash s work out key m2) ∙ ap answer_number e) in
+        (not-false _ t.1, not-false _ t.2, not-false _ t.3)
 
-    pub leaf-passed : (is : List ℕ) → leaf_checks hash s is key work out ≡ Done → (leaf_due s ≡ true) × (same_key hash s key ≡ true)
-    leaf-passed is e =
-        let t = leaf-by _ _ _ _ _ (sym (leaf-ordered hash s work out key is) ∙ ap answer_number e) in
-        (not-false _ t.1, not-false _ t.3)
+    pub leaf-passed : (is : List ℕ) → leaf_checks hash s is key work out ≡ Done → leaf_due s ≡ true
+    leaf-passed is e = not-false _ (leaf-by _ _ _ _ (sym (leaf-ordered hash s work out key is) ∙ ap answer_number e)).1

@@ -10,7 +10,6 @@
 -- points_since h          message 2 of the points call carried out since then
 -- leaf_since h            was a leaf call carried out since then?
 -- repeats o salt root    'salt and root both equal those of the exchange held'
--- same_key b key          matrix and y have the digest of the begin's
 -- conditions h c         the conditions of document 01's numbers; the parameters of points and leaf are those of the last begin
 -- message h c            what a call that is carried out gives: message 1, 3 or 5
 -- area h c               the named length of its work area
@@ -29,7 +28,6 @@ use Rattle.relation.specs.Key.{weight_of, vector_of}
 use Rattle.layout.specs.Layout.{work_length}
 use Rattle.layout.specs.Runs.{runs_within}
 use Rattle.exchange.specs.Values.{Key}
-use Rattle.exchange.specs.KeyDigest.{key_digest}
 use Rattle.runs.specs.Messages.{message1, message3, message5}
 use Rattle.runs.specs.Points.{distinct_points}
 use Rattle.calls.specs.Lengths.{begin_lengths, points_lengths, leaf_lengths, leaves_below}
@@ -131,38 +129,29 @@ unfoldable pub repeats : Option Begin → List ℕ → List ℕ → Bool
 repeats none salt root = false
 repeats (some b) salt root = eq_list salt b.salt && eq_list root b.root
 
-unfoldable pub same_key : (List ℕ → ℕ → List ℕ) → Begin → Key → Bool
-same_key hash b key = eq_list (key_digest hash b.parameters key) (key_digest hash b.parameters b.key)
-
-unfoldable pub conditions : (List ℕ → ℕ → List ℕ) → List Made → Call → Conditions
-conditions hash h (begin_call b work out) =
+unfoldable pub conditions : List Made → Call → Conditions
+conditions h (begin_call b work out) =
     (1, not (within_limits b.parameters && runs_within b.runs))
     ∷ (2, not (all_true (begin_lengths b.parameters b.runs b.x_a b.salt b.root b.key work out)))
     ∷ (3, not (leb (weight_of (secret_of b)) b.parameters.w))
     ∷ (13, repeats (last_begin h) b.salt b.root)
     ∷ []
-conditions hash h (points_call m2 key work out) =
+conditions h (points_call m2 key work out) =
     (12, leaf_since h)
     ∷ (11, not (is_some (last_begin h)) || is_some (points_since h))
     ∷ told (last_begin h) []
-    (λ b. (2, not (all_true (points_lengths b.parameters b.runs m2 key work out)))
-    ∷ (14, not (distinct_points b.parameters b.runs m2))
-    ∷ (15, not (same_key hash b key))
-    ∷ [])
-conditions hash h (leaf_call is key work out) =
+    (λ b. (2, not (all_true (points_lengths b.parameters b.runs m2 key work out))) ∷ (14, not (distinct_points b.parameters b.runs m2)) ∷ [])
+conditions h (leaf_call is key work out) =
     (12, leaf_since h)
     ∷ (11, not (is_some (last_begin h)) || not (is_some (points_since h)))
     ∷ told (last_begin h) []
-    (λ b. (2, not (all_true (leaf_lengths b.parameters b.runs is key work out)))
-    ∷ (15, not (same_key hash b key))
-    ∷ (4, not (leaves_below b.parameters is))
-    ∷ [])
+    (λ b. (2, not (all_true (leaf_lengths b.parameters b.runs is key work out))) ∷ (4, not (leaves_below b.parameters is)) ∷ [])
 
 -- ---- what the call gives
 
 module _ (hash : List ℕ → ℕ → List ℕ) (h : List Made) where
   unfoldable pub message : Call → List ℕ
-  message (begin_call b work out) = message1 hash b.parameters b.runs (secret_of b) b.salt b.root (key_digest hash b.parameters b.key)
+  message (begin_call b work out) = message1 hash b.parameters b.runs (secret_of b) b.salt b.root
   message (points_call m2 key work out) = told (last_begin h) [] (λ b. message3 hash b.parameters b.runs (secret_of b) b.salt b.root key m2)
   message (leaf_call is key work out) =
       told (last_begin h) [] (λ b. told (points_since h) [] (λ m2. message5 hash b.parameters b.runs (secret_of b) b.salt b.root key m2 is))
@@ -181,7 +170,7 @@ abbrev pub seen : Outcome → Seen
 seen o = record { number = o.answer; out = o.out; work = o.work }
 
 unfoldable pub expected : (List ℕ → ℕ → List ℕ) → List Made → Call → Seen
-expected hash h c = go (answer_of (conditions hash h c))
+expected hash h c = go (answer_of (conditions h c))
   where
     go : ℕ → Seen
     go n = record {

@@ -31,7 +31,7 @@ use Rattle.exchange.specs.Values.{Key}
 use Rattle.runs.specs.Points.{distinct_points}
 use Rattle.calls.specs.Lengths.{begin_lengths, points_lengths, leaf_lengths, leaves_below}
 use Rattle.calls.specs.Held.{is_some, told}
-use Rattle.calls.specs.Prover.History.{Begin, Call, begin_call, points_call, leaf_call, Made, outcome, after, made, begin_in, begun, pointed, opened, last_begin, points_since, leaf_since, secret_of, repeats, same_key, conditions}
+use Rattle.calls.specs.Prover.History.{Begin, Call, begin_call, points_call, leaf_call, Made, outcome, after, made, begin_in, begun, pointed, opened, last_begin, points_since, leaf_since, secret_of, repeats, conditions}
 use Rattle.calls.specs.Prover.Checked.{Allowed, allowed-by, begin-by, points-by, leaf-by}
 use Rattle.calls.specs.Prover.Told.{number-told}
 
@@ -50,23 +50,21 @@ pub record Repeats (h : List Made) (b : Begin) (work out : List ℕ) : Type 0 wh
   pub is_held : last_begin h ≡ some held
   pub same : Same b held
 
-pub record PointsDue (hash : List ℕ → ℕ → List ℕ) (h : List Made) (m2 : List ℕ) (key : Key) (work out : List ℕ) : Type 0 where
+pub record PointsDue (h : List Made) (m2 : List ℕ) (key : Key) (work out : List ℕ) : Type 0 where
   pub held : Begin
   pub is_held : last_begin h ≡ some held
   pub first : points_since h ≡ none
   pub unopened : leaf_since h ≡ false
   pub sized : all_true (points_lengths held.parameters held.runs m2 key work out) ≡ true
   pub distinct : distinct_points held.parameters held.runs m2 ≡ true
-  pub same_key : same_key hash held key ≡ true
 
-pub record LeafDue (hash : List ℕ → ℕ → List ℕ) (h : List Made) (is : List ℕ) (key : Key) (work out : List ℕ) : Type 0 where
+pub record LeafDue (h : List Made) (is : List ℕ) (key : Key) (work out : List ℕ) : Type 0 where
   pub held : Begin
   pub is_held : last_begin h ≡ some held
   pub message2 : List ℕ
   pub pointed : points_since h ≡ some message2
   pub unopened : leaf_since h ≡ false
   pub sized : all_true (leaf_lengths held.parameters held.runs is key work out) ≡ true
-  pub same_key : same_key hash held key ≡ true
   pub below : leaves_below held.parameters is ≡ true
 
 -- ---- by the order
@@ -76,11 +74,11 @@ unfolding answer_of first_of holds
 begin-of true = refl
 begin-of false = refl
 
-points-of : answer_of ((12, false) ∷ (11, false) ∷ (2, false) ∷ (14, false) ∷ (15, false) ∷ []) ≡ 0
+points-of : answer_of ((12, false) ∷ (11, false) ∷ (2, false) ∷ (14, false) ∷ []) ≡ 0
 unfolding answer_of first_of holds
 points-of = refl
 
-leaf-of : answer_of ((12, false) ∷ (11, false) ∷ (2, false) ∷ (15, false) ∷ (4, false) ∷ []) ≡ 0
+leaf-of : answer_of ((12, false) ∷ (11, false) ∷ (2, false) ∷ (4, false) ∷ []) ≡ 0
 unfolding answer_of first_of holds
 leaf-of = refl
 
@@ -173,48 +171,38 @@ module _ (hash : List ℕ → ℕ → List ℕ) (cs : List Call) where
   h = made hash cs
 
   module _ (m2 : List ℕ) (key : Key) (work out : List ℕ) where
-    pub points-carried : (outcome hash (after hash cs) (points_call m2 key work out)).answer ≡ 0 → PointsDue hash (made hash cs) m2 key work out
+    pub points-carried : (outcome hash (after hash cs) (points_call m2 key work out)).answer ≡ 0 → PointsDue (made hash cs) m2 key work out
     unfolding conditions
     points-carried e = go (last_begin h) refl (sym (number-told hash cs (points_call m2 key work out)) ∙ e)
       where
         go : (o : Option Begin) → last_begin h ≡ o
             → answer_of ((12, leaf_since h) ∷ (11, not (is_some o) || is_some (points_since h))
             ∷ told o []
-            (λ b. (2, not (all_true (points_lengths b.parameters b.runs m2 key work out)))
-            ∷ (14, not (distinct_points b.parameters b.runs m2)) ∷ (15, not (same_key hash b key)) ∷ []))
-            ≡ 0 → PointsDue hash h m2 key work out
+            (λ b. (2, not (all_true (points_lengths b.parameters b.runs m2 key work out))) ∷ (14, not (distinct_points b.parameters b.runs m2)) ∷ []))
+            ≡ 0 → PointsDue h m2 key work out
         go none same q = absurd (unstarted-not-0 (leaf_since h) q)
         go (some b) same q =
-            let t = points-by _ _ _ _ _ q in
-            record {
-              held = b;
-              is_held = same;
-              first = is_none _ t.1;
-              unopened = t.0;
-              sized = not-false _ t.2;
-              distinct = not-false _ t.3;
-              same_key = not-false _ t.4;
-            }
+            let t = points-by _ _ _ _ q in
+            record { held = b; is_held = same; first = is_none _ t.1; unopened = t.0; sized = not-false _ t.2; distinct = not-false _ t.3 }
 
-    pub points-due-after-begin : PointsDue hash (made hash cs) m2 key work out → (outcome hash (after hash cs) (points_call m2 key work out)).answer ≡ 0
+    pub points-due-after-begin : PointsDue (made hash cs) m2 key work out → (outcome hash (after hash cs) (points_call m2 key work out)).answer ≡ 0
     unfolding conditions
     points-due-after-begin d =
-        number-told hash cs (points_call m2 key work out) ∙ rw (d.unopened, d.is_held, d.first, d.sized, d.distinct, d.same_key) points-of
+        number-told hash cs (points_call m2 key work out) ∙ rw (d.unopened, d.is_held, d.first, d.sized, d.distinct) points-of
 
   module _ (is : List ℕ) (key : Key) (work out : List ℕ) where
-    pub leaf-carried : (outcome hash (after hash cs) (leaf_call is key work out)).answer ≡ 0 → LeafDue hash (made hash cs) is key work out
+    pub leaf-carried : (outcome hash (after hash cs) (leaf_call is key work out)).answer ≡ 0 → LeafDue (made hash cs) is key work out
     unfolding conditions
     leaf-carried e = go (last_begin h) refl (sym (number-told hash cs (leaf_call is key work out)) ∙ e)
       where
         go : (o : Option Begin) → last_begin h ≡ o
             → answer_of ((12, leaf_since h) ∷ (11, not (is_some o) || not (is_some (points_since h)))
             ∷ told o []
-            (λ b. (2, not (all_true (leaf_lengths b.parameters b.runs is key work out)))
-            ∷ (15, not (same_key hash b key)) ∷ (4, not (leaves_below b.parameters is)) ∷ [])) ≡ 0
-            → LeafDue hash h is key work out
+            (λ b. (2, not (all_true (leaf_lengths b.parameters b.runs is key work out))) ∷ (4, not (leaves_below b.parameters is)) ∷ [])) ≡ 0
+            → LeafDue h is key work out
         go none same q = absurd (unstarted-not-0 (leaf_since h) q)
         go (some b) same q =
-            let t = leaf-by _ _ _ _ _ q in
+            let t = leaf-by _ _ _ _ q in
             let m = is-some (points_since h) t.1 in
             record {
               held = b;
@@ -223,15 +211,14 @@ module _ (hash : List ℕ → ℕ → List ℕ) (cs : List Call) where
               pointed = m.1;
               unopened = t.0;
               sized = not-false _ t.2;
-              same_key = not-false _ t.3;
-              below = not-false _ t.4;
+              below = not-false _ t.3;
             }
 
-    pub leaf-due-after-points : LeafDue hash (made hash cs) is key work out → (outcome hash (after hash cs) (leaf_call is key work out)).answer ≡ 0
+    pub leaf-due-after-points : LeafDue (made hash cs) is key work out → (outcome hash (after hash cs) (leaf_call is key work out)).answer ≡ 0
     unfolding conditions
     leaf-due-after-points d =
         number-told hash cs (leaf_call is key work out)
-        ∙ rw (d.unopened, d.is_held, d.pointed, d.sized, d.same_key, d.below) leaf-of
+        ∙ rw (d.unopened, d.is_held, d.pointed, d.sized, d.below) leaf-of
 
 -- ---- one after the other
 
@@ -255,21 +242,21 @@ leaf-adds h is key work out n e = rw (eq-eqb n 0 e) (refl, refl)
 module _ (hash : List ℕ → ℕ → List ℕ) (cs : List Call) where
   pub points-after-begin : (b : Begin) (work out : List ℕ) → (outcome hash (after hash cs) (begin_call b work out)).answer ≡ 0
       → (m2 : List ℕ) (key : Key) (work' out' : List ℕ) → all_true (points_lengths b.parameters b.runs m2 key work' out') ≡ true
-      → distinct_points b.parameters b.runs m2 ≡ true → same_key hash b key ≡ true
+      → distinct_points b.parameters b.runs m2 ≡ true
       → (outcome hash (after hash (begin_call b work out ∷ cs)) (points_call m2 key work' out')).answer ≡ 0
   unfolding made
-  points-after-begin b work out e m2 key work' out' sized distinct same =
+  points-after-begin b work out e m2 key work' out' sized distinct =
       let told = begin-adds (made hash cs) b work out _ e in
       points-due-after-begin hash (begin_call b work out ∷ cs) m2 key work' out'
-      (record { held = b; is_held = told.0; first = told.1; unopened = told.2; sized = sized; distinct = distinct; same_key = same })
+      (record { held = b; is_held = told.0; first = told.1; unopened = told.2; sized = sized; distinct = distinct })
 
   pub leaf-after-points : (m2 : List ℕ) (key : Key) (work out : List ℕ) → (outcome hash (after hash cs) (points_call m2 key work out)).answer ≡ 0
       → (b : Begin) → last_begin (made hash cs) ≡ some b
       → (is : List ℕ) (key' : Key) (work' out' : List ℕ) → all_true (leaf_lengths b.parameters b.runs is key' work' out') ≡ true
-      → same_key hash b key' ≡ true → leaves_below b.parameters is ≡ true
+      → leaves_below b.parameters is ≡ true
       → (outcome hash (after hash (points_call m2 key work out ∷ cs)) (leaf_call is key' work' out')).answer ≡ 0
   unfolding made
-  leaf-after-points m2 key work out e b last is key' work' out' sized same below =
+  leaf-after-points m2 key work out e b last is key' work' out' sized below =
       let told = points-adds (made hash cs) m2 key work out _ e in
       leaf-due-after-points hash (points_call m2 key work out ∷ cs) is key' work' out'
       (record {
@@ -279,7 +266,6 @@ module _ (hash : List ℕ → ℕ → List ℕ) (cs : List Call) where
         pointed = told.1;
         unopened = told.2 ∙ (points-carried hash cs m2 key work out e).unopened;
         sized = sized;
-        same_key = same;
         below = below;
       })
 

@@ -9,8 +9,7 @@
 -- last_begin h            the last begin carried out
 -- points_since, response_since, leaf_since   message 2, message 3 and the leaves of the call of that kind carried out since then
 -- opened_since h          was an opening judged since then? Accepted, 5 and 7 'close the verifier'
--- of_exchange h m5 d f    f of the last begin and of the exchange that these calls' messages and message 5 are
--- same_key b key          matrix and y have the digest of the begin's
+-- of_exchange h m5 d f    f of the last begin's parameters and run count and of the exchange that these calls' messages and message 5 are
 -- conditions h c         the conditions of document 01's numbers; the parameters are those of the last begin
 -- area h                 the named length of the work area
 -- Seen, seen o           number and work area of a call
@@ -19,18 +18,16 @@
 use Rattle.std.specs.Prelude.{Bool, true, false, ◌&&◌, ◌||◌, not, cond, List, [], ◌∷◌, ℕ, eqb, length}
 use Rattle.std.proofs.Math.Option.{Option, none, some}
 use Rattle.lists.specs.Zeroed.{zeroed}
-use Rattle.lists.specs.Equal.{eq_list}
 use Rattle.lists.specs.Checks.{all_true}
 use Rattle.answers.specs.Order.{Conditions, answer_of}
 use Rattle.parameters.specs.declared.Parameters.{Parameters}
 use Rattle.parameters.specs.Limits.{within_limits}
 use Rattle.layout.specs.Layout.{work_length}
-use Rattle.layout.specs.Runs.{runs_within, messages2_length, messages3_length}
+use Rattle.layout.specs.Runs.{runs_within, message1_length, messages2_length, messages3_length}
 use Rattle.exchange.specs.Values.{Key}
-use Rattle.exchange.specs.KeyDigest.{key_digest}
 use Rattle.runs.specs.Points.{distinct_points}
 use Rattle.runs.specs.Opening.{Transcript, transcript}
-use Rattle.calls.specs.Lengths.{start_lengths, opening_lengths, leaves_below}
+use Rattle.calls.specs.Lengths.{opening_lengths, leaves_below}
 use Rattle.calls.specs.Judging.{opening_conditions, judged}
 use Rattle.calls.specs.Held.{is_some, or_else, told}
 use Rattle.calls.specs.Verifier as verifier
@@ -42,7 +39,6 @@ pub record Begin : Type 0 where
   pub parameters : Parameters
   pub runs : ℕ
   pub message1 : List ℕ
-  pub key : Key
 
 pub data Call : Type 0 where
   begin_call : Begin → Call
@@ -77,7 +73,7 @@ judging o = record { answer = o.answer; verifier = o.verifier; work = o.work }
 
 module _ (hash : List ℕ → ℕ → List ℕ) where
   unfoldable pub outcome : Verifier → Call → Called
-  outcome s (begin_call b) = plain (verifier.begin hash s b.parameters b.runs b.message1 b.key)
+  outcome s (begin_call b) = plain (verifier.begin s b.parameters b.runs b.message1)
   outcome s (points_call m2) = plain (verifier.points s m2)
   outcome s (response_call m3) = plain (verifier.response s m3)
   outcome s (leaf_call is) = plain (verifier.leaf s is)
@@ -168,21 +164,18 @@ opened_since (m ∷ h) = cond (is_some (begun m)) false (opened m || opened_sinc
 
 -- ---- the number
 
-unfoldable pub of_exchange : {A : Type 0} → List Made → List ℕ → A → (Begin → Transcript → A) → A
+unfoldable pub of_exchange : {A : Type 0} → List Made → List ℕ → A → (Parameters → ℕ → Transcript → A) → A
 of_exchange h m5 d f =
     told (last_begin h) d
     (λ b. told (points_since h) d
     (λ m2. told (response_since h) d
     (λ m3. told (leaf_since h) d
-    (λ is. f b (transcript b.message1 m2 m3 is m5)))))
-
-unfoldable pub same_key : (List ℕ → ℕ → List ℕ) → Begin → Key → Bool
-same_key hash b key = eq_list (key_digest hash b.parameters key) (key_digest hash b.parameters b.key)
+    (λ is. f b.parameters b.runs (transcript b.message1 m2 m3 is m5)))))
 
 unfoldable pub conditions : (List ℕ → ℕ → List ℕ) → List Made → Call → Conditions
 conditions hash h (begin_call b) =
     (1, not (within_limits b.parameters && runs_within b.runs))
-    ∷ (2, not (all_true (start_lengths b.parameters b.runs b.message1 b.key)))
+    ∷ (2, not (eqb (length b.message1) (message1_length b.runs)))
     ∷ []
 conditions hash h (points_call m2) =
     (12, opened_since h)
@@ -201,9 +194,7 @@ conditions hash h (opening_call m5 key work) =
     (12, opened_since h)
     ∷ (11, not (is_some (leaf_since h)))
     ∷ of_exchange h m5 []
-    (λ b t. (2, not (all_true (opening_lengths b.parameters t.leaves m5 key work)))
-    ∷ (15, not (same_key hash b key))
-    ∷ opening_conditions hash b.parameters b.runs t key)
+    (λ p runs t. (2, not (all_true (opening_lengths p t.leaves m5 key work))) ∷ opening_conditions hash p runs t key)
 
 -- ---- what the call gives
 

@@ -7,32 +7,29 @@
 -- judged-ended     a judged opening closes the session and leaves the named length of the work area zeros: '5, 6, 7 close the verifier',
 --                  'Closing changes nothing else that a session holds'
 -- ended-closed     such a session is closed
-use Rattle.std.specs.Prelude.{◌≡◌, cond, ◌||◌, ◌&&◌}
-use Rattle.std.proofs.Math.Path.{refl, ap}
+use Rattle.std.specs.Prelude.{◌≡◌, not, cond, ◌||◌, ◌&&◌, List, [], ◌∷◌, length}
+use Rattle.std.proofs.Math.Path.{refl}
 use Rattle.std.proofs.Common.{sym, ◌∙◌, true≢false, arith}
-use Rattle.std.proofs.Math.Bool.{Bool, true, false, not}
-use mathlib.Core.List.{List, [], ◌∷◌, map}
+use Rattle.std.proofs.Math.Bool.{Bool, true, false}
+use Rattle.std.proofs.lemmas.Bool.{false≢true}
 use Prim.Native.Nat.{ℕ}
 use Rattle.std.proofs.Math.Dec.{eqb}
 use Rattle.lists.specs.Zeroed.{zeroed}
 use Rattle.lists.specs.Checks.{all_true}
-use Rattle.lists.specs.Checks.Laws.{and_left, and_right}
 use Rattle.answers.specs.declared.Answer.{Answer}
 use Rattle.answers.specs.declared.Answer.TheVariants.{Done, Refused}
-use Rattle.answers.specs.declared.Refusal.{Refusal}
-use Rattle.answers.specs.declared.Refusal.TheVariants.{Parameter, Length, NotDue, Closed as ExchangeClosed, OtherKey}
-use Rattle.answers.specs.Number.{refusal_number}
-use Rattle.answers.specs.Checks.{check, checks}
+use Rattle.answers.specs.declared.Refusal.TheVariants.{Parameter, Length, NotDue, Closed as ExchangeClosed}
+use Rattle.answers.specs.Checks.{checks}
 use Rattle.parameters.specs.Limits.{within_limits}
 use Rattle.layout.specs.Layout.{work_length}
-use Rattle.layout.specs.Runs.{runs_within}
+use Rattle.layout.specs.Runs.{runs_within, message1_length}
 use Rattle.exchange.specs.Values.{Key}
 use Rattle.verifier_phase.specs.declared.Phase.TheVariants.{Fresh, Closed}
 use Rattle.calls.specs.Held.{is_some}
-use Rattle.calls.specs.Lengths.{start_lengths, opening_lengths}
+use Rattle.calls.specs.Lengths.{opening_lengths}
 use Rattle.calls.specs.Judging.{judged}
 use Rattle.calls.specs.Judging.Laws.{verdict-judged}
-use Rattle.calls.specs.Verifier.{Verifier, settle, intact, standing, closed, due, step, held_leaves, held_transcript, begin, begin_checks, begun, points, points_checks, pointed, response, response_checks, responded, leaf, leaf_checks, chosen, same_key, ended, opening_checks, judge, opening}
+use Rattle.calls.specs.Verifier.{Verifier, Judged, settle, intact, standing, closed, due, step, held_leaves, held_transcript, begin, begin_checks, begun, points, points_checks, pointed, response, response_checks, responded, leaf, leaf_checks, chosen, ended, opening_checks, judge, opening}
 use Rattle.calls.specs.Verifier.History.{Begin, Call, begin_call, points_call, response_call, leaf_call, opening_call, lent_work, begin_in, opened, outcome}
 use Rattle.calls.specs.Verifier.Since.{counted}
 
@@ -44,10 +41,10 @@ settle-same (Refused r) s next e = refl
 module _ (hash : List ℕ → ℕ → List ℕ) (s : Verifier) where
   pub begin-due : (b : Begin) → ((outcome hash s (begin_call b)).answer ≡ 11 → ⊥) × ((outcome hash s (begin_call b)).answer ≡ 12 → ⊥)
   unfolding outcome begin begin_checks
-  begin-due b = go (within_limits b.parameters && runs_within b.runs) (all_true (start_lengths b.parameters b.runs b.message1 b.key))
+  begin-due b = go (within_limits b.parameters && runs_within b.runs) (eqb (length b.message1) (message1_length b.runs))
     where
       number : Bool → Bool → ℕ
-      number x y = (settle (checks ((x, Parameter) ∷ (y, Length) ∷ [])) s (begun hash b.parameters b.runs b.message1 b.key)).answer
+      number x y = (settle (checks ((x, Parameter) ∷ (y, Length) ∷ [])) s (begun b.parameters b.runs b.message1)).answer
 
       go : (x y : Bool) → (number x y ≡ 11 → ⊥) × (number x y ≡ 12 → ⊥)
       go true true = omega arith
@@ -72,53 +69,40 @@ module _ (hash : List ℕ → ℕ → List ℕ) (s : Verifier) where
       go false = refl
 
   module _ (m5 : List ℕ) (key : Key) (work : List ℕ) where
-    early-same : (a : Answer) → judged (judge hash s m5 key work a).answer ≡ false
-        → ((judge hash s m5 key work a).verifier ≡ s) × ((judge hash s m5 key work a).work ≡ work)
-    unfolding judge
-    early-same Done e = absurd (true≢false (sym (verdict-judged hash s.parameters _ (held_transcript s m5) key) ∙ e))
-    early-same (Refused r) e = (refl, refl)
+    -- the opening, from whether the exchange is open, the call is due and the lengths pass
+    abbrev opening_from : Bool → Bool → Bool → Judged
+    opening_from x y z = judge hash s m5 key work (checks ((x, ExchangeClosed) ∷ (y, NotDue) ∷ (z, Length) ∷ []))
 
-    -- what a judged opening leaves, from what its checks before 5 say
-    abbrev Ends : Answer → Type 0
-    Ends a =
-        judged (judge hash s m5 key work a).answer ≡ true
-        → ((judge hash s m5 key work a).verifier ≡ ended s) × ((judge hash s m5 key work a).work ≡ zeroed (work_length s.parameters) work)
-
-    -- by any checks whose numbers are not those of a judged opening
-    judged-from : (cs : List (Bool × Refusal)) → all_true (map (λ c. not (judged (refusal_number c.1))) cs) ≡ true → Ends (checks cs)
+    early-same : (x y z : Bool) → judged (opening_from x y z).answer ≡ false → ((opening_from x y z).verifier ≡ s) × ((opening_from x y z).work ≡ work)
     unfolding judge
-    judged-from [] h = λ e. (refl, refl)
-    judged-from (c ∷ cs) h = go c.0 (judged-from cs (and_right (not (judged (refusal_number c.1))) _ h))
-      where
-        go : (b : Bool) → Ends (checks cs) → Ends (check b c.1 (checks cs))
-        go true rest e = rest e
-        go false rest e = absurd (true≢false (sym (and_left (not (judged (refusal_number c.1))) _ h) ∙ ap not e))
+    early-same true true true e = absurd (true≢false (sym (verdict-judged hash s.parameters _ (held_transcript s m5) key) ∙ e))
+    early-same true true false e = (refl, refl)
+    early-same true false z e = (refl, refl)
+    early-same false y z e = (refl, refl)
+
+    judged-from : (x y z : Bool) → judged (opening_from x y z).answer ≡ true
+        → ((opening_from x y z).verifier ≡ ended s) × ((opening_from x y z).work ≡ zeroed (work_length s.parameters) work)
+    unfolding judge
+    judged-from true true true e = (refl, refl)
+    judged-from true true false e = absurd (false≢true e)
+    judged-from true false z e = absurd (false≢true e)
+    judged-from false y z e = absurd (false≢true e)
 
     pub judged-ended : judged (outcome hash s (opening_call m5 key work)).answer ≡ true
         → ((outcome hash s (opening_call m5 key work)).verifier ≡ ended s)
         × ((outcome hash s (opening_call m5 key work)).work ≡ zeroed (work_length s.parameters) work)
     unfolding outcome opening opening_checks
-    judged-ended e =
-        judged-from (
-        (not (closed s), ExchangeClosed)
-        ∷ (due s _, NotDue)
-        ∷ (all_true (opening_lengths s.parameters (held_leaves s) m5 key work), Length)
-        ∷ (same_key hash s key, OtherKey)
-        ∷ []
-        ) refl e
+    judged-ended e = judged-from (not (closed s)) (due s _) (all_true (opening_lengths s.parameters (held_leaves s) m5 key work)) e
 
     opening-same : judged (outcome hash s (opening_call m5 key work)).answer ≡ false
         → ((outcome hash s (opening_call m5 key work)).verifier ≡ s) × ((outcome hash s (opening_call m5 key work)).work ≡ work)
-    unfolding outcome opening
-    opening-same e = early-same (opening_checks hash s m5 key work) e
+    unfolding outcome opening opening_checks
+    opening-same e = early-same (not (closed s)) (due s _) (all_true (opening_lengths s.parameters (held_leaves s) m5 key work)) e
 
   pub refused-same : (c : Call) → counted (record { call = c; number = (outcome hash s c).answer }) ≡ false
       → ((outcome hash s c).verifier ≡ s) × ((outcome hash s c).work ≡ lent_work c)
   unfolding outcome counted opened begin points response leaf
-  refused-same (begin_call b) e = (
-    settle-same (begin_checks b.parameters b.runs b.message1 b.key) s (begun hash b.parameters b.runs b.message1 b.key) e,
-    refl,
-  )
+  refused-same (begin_call b) e = (settle-same (begin_checks b.parameters b.runs b.message1) s (begun b.parameters b.runs b.message1) e, refl)
   refused-same (points_call m2) e = (settle-same (points_checks s m2) s (pointed s m2) e, refl)
   refused-same (response_call m3) e = (settle-same (response_checks s m3) s (responded s m3) e, refl)
   refused-same (leaf_call is) e = (settle-same (leaf_checks s is) s (chosen s is) e, refl)

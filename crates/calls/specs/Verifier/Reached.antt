@@ -2,22 +2,20 @@
 --
 -- Telling, telling h     what a history tells: the last begin, and the messages, the leaves, the judging and the calls since then
 -- next m t               what it tells after one more call
--- session hash t         the session that it must be
+-- session t              the session that it must be
 -- Passed t               the begin, points, response and leaf that it tells passed their checks
 -- Stage, at st           how far an exchange has come, and what a history of this stage tells
 use Rattle.std.specs.Prelude.{◌≡◌, Bool, true, false, ◌&&◌, ◌||◌, cond, List, [], ◌∷◌, ℕ, eqb, length, replicate}
 use Rattle.std.proofs.Math.Option.{Option, none, some}
 use Rattle.lists.specs.Part.{put_at}
-use Rattle.lists.specs.Checks.{all_true}
 use Rattle.parameters.specs.Limits.{within_limits}
 use Rattle.layout.specs.Maxima.{most_runs, most_message1, most_messages2, most_messages3}
-use Rattle.layout.specs.Runs.{runs_within, messages2_length, messages3_length}
+use Rattle.layout.specs.Runs.{runs_within, message1_length, messages2_length, messages3_length}
 use Rattle.exchange.specs.Values.{Key}
-use Rattle.exchange.specs.KeyDigest.{key_digest}
 use Rattle.runs.specs.Points.{distinct_points}
 use Rattle.verifier_phase.specs.declared.Phase.{Phase}
 use Rattle.verifier_phase.specs.declared.Phase.TheVariants.{Begun, Pointed, Responded, Chosen, Closed}
-use Rattle.calls.specs.Lengths.{start_lengths, leaves_below}
+use Rattle.calls.specs.Lengths.{leaves_below}
 use Rattle.calls.specs.Held.{is_some, or_else, told}
 use Rattle.calls.specs.Verifier.{Verifier, fresh}
 use Rattle.calls.specs.Verifier.History.{Begin, Call, begin_call, points_call, response_call, leaf_call, opening_call, Made, begun, pointed, responded, chosen, opened, last_begin, points_since, response_since, leaf_since, opened_since}
@@ -61,8 +59,8 @@ abbrev pub phase_of : Telling → Phase
 phase_of t =
     cond t.opened Closed (cond (is_some t.leaf) Chosen (cond (is_some t.response) Responded (cond (is_some t.points) Pointed Begun)))
 
-abbrev pub session : (List ℕ → ℕ → List ℕ) → Telling → Verifier
-session hash t =
+abbrev pub session : Telling → Verifier
+session t =
     told t.begin fresh
     (λ b. record {
       phase = phase_of t;
@@ -71,13 +69,12 @@ session hash t =
       message1 = put_at (replicate most_message1 0) 0 b.message1;
       message2 = told t.points (replicate most_messages2 0) (put_at (replicate most_messages2 0) 0);
       message3 = told t.response (replicate most_messages3 0) (put_at (replicate most_messages3 0) 0);
-      digest = key_digest hash b.parameters b.key;
       leaves = told t.leaf (replicate most_runs 0) (put_at (replicate most_runs 0) 0);
     })
 
 pub record Passed (t : Telling) : Type 0 where
   pub limits : told t.begin true (λ b. within_limits b.parameters && runs_within b.runs) ≡ true
-  pub sized1 : told t.begin true (λ b. all_true (start_lengths b.parameters b.runs b.message1 b.key)) ≡ true
+  pub sized1 : told t.begin true (λ b. eqb (length b.message1) (message1_length b.runs)) ≡ true
   pub sized2 : told t.begin true (λ b. told t.points true (λ m2. eqb (length m2) (messages2_length b.parameters b.runs))) ≡ true
   pub distinct : told t.begin true (λ b. told t.points true (λ m2. distinct_points b.parameters b.runs m2)) ≡ true
   pub sized3 : told t.begin true (λ b. told t.response true (λ m3. eqb (length m3) (messages3_length b.runs))) ≡ true

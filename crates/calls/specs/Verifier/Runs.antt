@@ -1,18 +1,14 @@
 -- What follows for runs of the verifier's calls.
 --
 -- in_order                the calls since the last begin are begin, points, response, leaf, opening, in this order, as far as the exchange has come
--- same-key-then, same-key-when   the test of number 15 passes exactly when the digests are the same
--- AcceptedAfter           begin, points, response and leaf and nothing else since then, the lengths pass, matrix and y have the digest of the begin's, and
---                         all runs of the opening are `Accepted`
+-- AcceptedAfter           begin, points, response and leaf and nothing else since then, the lengths pass, and all runs of the opening are `Accepted`
 -- accepted-exactly        after every run an opening is accepted exactly when it is `AcceptedAfter` that run
--- begin-taken, points-taken, response-taken, leaf-taken, opening-judged   the call that is due is carried out, where its message is as it has
---                         to be, and where it takes matrix and y, these too
+-- begin-taken, points-taken, response-taken, leaf-taken, opening-judged   the call that is due is carried out, where its message is as it has to be
 use Rattle.std.proofs.Math.Path.{◌≡◌, refl, sym, ap}
 use Rattle.std.proofs.Common.{◌∙◌, arith}
 use Rattle.std.specs.Prelude.{Bool, List, [], ◌∷◌, ◌↔◌, ℕ, length}
 use Rattle.std.proofs.Math.Bool.{true, false}
 use borrow.Author.Tests.{eq-eqb}
-use Rattle.lists.specs.Equal.Laws.{eq_list-true, eq_list-of}
 use Rattle.lists.specs.Checks.{all_true}
 use Rattle.answers.specs.declared.Answer.TheVariants.{Done}
 use Rattle.answers.specs.Number.{answer_number}
@@ -21,18 +17,17 @@ use Rattle.answers.specs.Order.{holds, first_of, answer_of}
 use Rattle.parameters.specs.Limits.{within_limits}
 use Rattle.layout.specs.Runs.{runs_within, message1_length, messages2_length, messages3_length}
 use Rattle.exchange.specs.Values.{Key}
-use Rattle.exchange.specs.KeyDigest.{key_digest}
 use Rattle.runs.specs.Points.{distinct_points}
 use Rattle.runs.specs.Opening.{transcript, verdict, Accepted}
 use Rattle.runs.specs.Opening.Laws.{accepted-then, accepted-when}
-use Rattle.calls.specs.Lengths.{public_lengths, opening_lengths, leaves_below}
+use Rattle.calls.specs.Lengths.{opening_lengths, leaves_below}
 use Rattle.calls.specs.Judging.{opening_conditions}
 use Rattle.calls.specs.Verifier as verifier
 use Rattle.calls.specs.Verifier.{Verifier}
-use Rattle.calls.specs.Verifier.History.{Begin, Call, begin_call, points_call, response_call, leaf_call, opening_call, Seen, outcome, after, made, of_exchange, same_key, conditions, expected}
+use Rattle.calls.specs.Verifier.History.{Begin, Call, begin_call, points_call, response_call, leaf_call, opening_call, Seen, outcome, after, made, conditions, of_exchange, expected}
 use Rattle.calls.specs.Verifier.Since.{since}
 use Rattle.calls.specs.Verifier.Reached.{Telling, telling, Stage, unbegun, at_begin, at_points, at_response, at_leaf, at_opening, at}
-use Rattle.calls.specs.Verifier.Reached.Moves.{history_at, history-tells, expected-same, opening-told, opening-refused, opening-other-key}
+use Rattle.calls.specs.Verifier.Reached.Moves.{history_at, history-tells, expected-same, opening-told, opening-refused}
 use Rattle.calls.specs.Verifier.Reached.Laws.{Reached, reached, since-stage}
 use Rattle.calls.specs.Verifier.Told.{told-by-calls}
 
@@ -47,16 +42,6 @@ module _ (hash : List ℕ → ℕ → List ℕ) where
   number_at cs st e c =
       ap (λ (s : Seen). s.number) (told-by-calls hash cs c ∙ expected-same hash (made hash cs) (history_at st) (e ∙ sym (history-tells st)) c)
 
-  -- ---- the key
-
-  pub same-key-then : (b : Begin) (key : Key) → same_key hash b key ≡ true → key_digest hash b.parameters key ≡ key_digest hash b.parameters b.key
-  unfolding same_key
-  same-key-then b key q = eq_list-true _ _ q
-
-  pub same-key-when : (b : Begin) (key : Key) → key_digest hash b.parameters key ≡ key_digest hash b.parameters b.key → same_key hash b key ≡ true
-  unfolding same_key
-  same-key-when b key e = eq_list-of _ _ e
-
   -- ---- acceptance
 
   module _ (cs : List Call) (m5 : List ℕ) (key : Key) (work : List ℕ) where
@@ -67,14 +52,13 @@ module _ (hash : List ℕ → ℕ → List ℕ) where
       pub leaves : List ℕ
       pub calls : since (made hash cs) ≡ leaf_call leaves ∷ response_call message3 ∷ points_call message2 ∷ begin_call begin ∷ []
       pub lengths : all_true (opening_lengths begin.parameters leaves m5 key work) ≡ true
-      pub same_key : key_digest hash begin.parameters key ≡ key_digest hash begin.parameters begin.key
       pub accepted : Accepted hash begin.parameters begin.runs (transcript begin.message1 message2 message3 leaves m5) key
 
     accepted-if : AcceptedAfter → (outcome hash (after hash cs) (opening_call m5 key work)).answer ≡ 0
     accepted-if a =
         number_at cs (at_leaf a.begin a.message2 a.message3 a.leaves)
         (since-stage hash cs (at_leaf a.begin a.message2 a.message3 a.leaves) a.calls) (opening_call m5 key work)
-        ∙ opening-told hash a.begin a.message2 a.message3 a.leaves m5 key work a.lengths (same-key-when a.begin key a.same_key)
+        ∙ opening-told hash a.begin a.message2 a.message3 a.leaves m5 key work a.lengths
         ∙ ap answer_number
         (accepted-when hash a.begin.parameters a.begin.runs (transcript a.begin.message1 a.message2 a.message3 a.leaves m5) key
         a.accepted)
@@ -86,24 +70,22 @@ module _ (hash : List ℕ → ℕ → List ℕ) where
     complete-at (at_begin b) e z = absurd (let q : ◌≡◌ {A = ℕ} 11 0 = z in omega arith)
     complete-at (at_points b m2) e z = absurd (let q : ◌≡◌ {A = ℕ} 11 0 = z in omega arith)
     complete-at (at_response b m2 m3) e z = absurd (let q : ◌≡◌ {A = ℕ} 11 0 = z in omega arith)
-    complete-at (at_leaf b m2 m3 is) e z = go (all_true (opening_lengths b.parameters is m5 key work)) (same_key hash b key) refl refl
+    complete-at (at_leaf b m2 m3 is) e z = go (all_true (opening_lengths b.parameters is m5 key work)) refl
       where
-        go : (x y : Bool) → all_true (opening_lengths b.parameters is m5 key work) ≡ x → same_key hash b key ≡ y → AcceptedAfter
-        go true true p q = record {
+        go : (x : Bool) → all_true (opening_lengths b.parameters is m5 key work) ≡ x → AcceptedAfter
+        go true p = record {
           begin = b;
           message2 = m2;
           message3 = m3;
           leaves = is;
           calls = e;
           lengths = p;
-          same_key = same-key-then b key q;
           accepted =
               accepted-then hash b.parameters b.runs (transcript b.message1 m2 m3 is m5) key
               (answers-apart (verdict hash b.parameters b.runs (transcript b.message1 m2 m3 is m5) key) Done
-              (sym (opening-told hash b m2 m3 is m5 key work p q) ∙ z));
+              (sym (opening-told hash b m2 m3 is m5 key work p) ∙ z));
         }
-        go true false p q = absurd (let n : ◌≡◌ {A = ℕ} 15 0 = sym (opening-other-key hash b m2 m3 is m5 key work p q) ∙ z in omega arith)
-        go false y p q = absurd (let n : ◌≡◌ {A = ℕ} 2 0 = sym (opening-refused hash b m2 m3 is m5 key work p) ∙ z in omega arith)
+        go false p = absurd (let q : ◌≡◌ {A = ℕ} 2 0 = sym (opening-refused hash b m2 m3 is m5 key work p) ∙ z in omega arith)
     complete-at (at_opening b m2 m3 is m5' key' work') e z = absurd (let q : ◌≡◌ {A = ℕ} 12 0 = z in omega arith)
 
     accepted-only : (outcome hash (after hash cs) (opening_call m5 key work)).answer ≡ 0 → AcceptedAfter
@@ -120,10 +102,10 @@ module _ (hash : List ℕ → ℕ → List ℕ) where
   -- ---- the call that is due
 
   pub begin-taken : (s : Verifier) (b : Begin) → within_limits b.parameters ≡ true → runs_within b.runs ≡ true
-      → length b.message1 ≡ message1_length b.runs → all_true (public_lengths b.parameters b.key) ≡ true
+      → length b.message1 ≡ message1_length b.runs
       → (outcome hash s (begin_call b)).answer ≡ 0
   unfolding outcome verifier.begin verifier.begin_checks
-  begin-taken s b p r q l = rw (p, r, eq-eqb (length b.message1) (message1_length b.runs) q, l)
+  begin-taken s b p r q = rw (p, r, eq-eqb (length b.message1) (message1_length b.runs) q)
 
   module _ (cs : List Call) (b : Begin) where
     pub points-taken : since (made hash cs) ≡ begin_call b ∷ [] → (m2 : List ℕ) → length m2 ≡ messages2_length b.parameters b.runs
@@ -151,9 +133,7 @@ module _ (hash : List ℕ → ℕ → List ℕ) where
 
         pub opening-judged : (is : List ℕ) → since (made hash cs) ≡ leaf_call is ∷ response_call m3 ∷ points_call m2 ∷ begin_call b ∷ []
             → (m5 : List ℕ) (key : Key) (work : List ℕ) → all_true (opening_lengths b.parameters is m5 key work) ≡ true
-            → key_digest hash b.parameters key ≡ key_digest hash b.parameters b.key
             → (outcome hash (after hash cs) (opening_call m5 key work)).answer
             ≡ answer_number (verdict hash b.parameters b.runs (transcript b.message1 m2 m3 is m5) key)
-        opening-judged is e m5 key work p q =
-            number_at cs (at_leaf b m2 m3 is) (since-stage hash cs (at_leaf b m2 m3 is) e) (opening_call m5 key work)
-            ∙ opening-told hash b m2 m3 is m5 key work p (same-key-when b key q)
+        opening-judged is e m5 key work p =
+            number_at cs (at_leaf b m2 m3 is) (since-stage hash cs (at_leaf b m2 m3 is) e) (opening_call m5 key work) ∙ opening-told hash b m2 m3 is m5 key work p

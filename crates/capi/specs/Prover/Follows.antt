@@ -30,8 +30,6 @@ use Rattle.layout.specs.Maxima.{most_messages2}
 use Rattle.layout.specs.Runs.{runs_within, messages2_length}
 use Rattle.layout.specs.Runs.Laws.{messages2-most}
 use Rattle.exchange.specs.Values.{Key}
-use Rattle.shake256.proofs.Laws.{length-SHAKE256}
-use Rattle.exchange.specs.KeyDigest.Laws.{length-key_digest}
 use Rattle.calls.specs.Lengths.{begin_lengths, points_lengths}
 use Rattle.calls.specs.Prover.{Prover, Outcome as Called, fresh, settle, closed, points_due, begin, begin_checks, begun, points, points_checks, answered, leaf, leaf_checks, opened}
 use Rattle.prover.specs.Checks.{points-ready}
@@ -63,17 +61,16 @@ module _ (b : List ℕ) (size : length b ≡ prover_size) where
     x = length_part b 7 255 (omega arith);
     salt = length_part b 262 32 (omega arith);
     root = length_part b 294 16 (omega arith);
-    digest = length_part b 310 32 (omega arith);
-    message2 = length_part b 342 most_messages2 (omega arith);
+    message2 = length_part b 310 most_messages2 (omega arith);
   }
 
   pub new-follows : prover_from (prover_new b).session ≡ fresh
   unfolding fresh
-  new-follows = rw (← fits-so b prover_size _ _ size) (prover-back fresh (record { x = refl; salt = refl; root = refl; digest = refl; message2 = refl }))
+  new-follows = rw (← fits-so b prover_size _ _ size) (prover-back fresh (record { x = refl; salt = refl; root = refl; message2 = refl }))
 
   pub new-size : length (prover_new b).session ≡ prover_size
   unfolding fresh
-  new-size = rw (← fits-so b prover_size _ _ size) (length-prover_bytes fresh (record { x = refl; salt = refl; root = refl; digest = refl; message2 = refl }))
+  new-size = rw (← fits-so b prover_size _ _ size) (length-prover_bytes fresh (record { x = refl; salt = refl; root = refl; message2 = refl }))
 
   -- ---- any call
 
@@ -112,7 +109,6 @@ module _ (b : List ℕ) (size : length b ≡ prover_size) where
           x = front 255 (vector_of key.matrix key.y x_a) (omega arith);
           salt = eqb-true (length salt) 32 (so 1);
           root = eqb-true (length root) 16 (so 2);
-          digest = length-key_digest SHAKE256 length-SHAKE256 p key;
           message2 = refl;
         }
 
@@ -139,7 +135,6 @@ module _ (b : List ℕ) (size : length b ≡ prover_size) where
           x = read-lengths.x;
           salt = read-lengths.salt;
           root = read-lengths.root;
-          digest = read-lengths.digest;
           message2 = length-put_at s.message2 0 m2 (omega arith) ∙ held;
         }
 
@@ -154,4 +149,4 @@ module _ (b : List ℕ) (size : length b ≡ prover_size) where
   leaf-follows is key work out =
       call-follows _ work out (λ z. leaf SHAKE256 z is key work out)
       (settle-follows (leaf_checks SHAKE256 s is key work out) out work (opened SHAKE256 s is key work out) refl
-      (λ e. record { x = read-lengths.x; salt = read-lengths.salt; root = read-lengths.root; digest = read-lengths.digest; message2 = read-lengths.message2 }))
+      (λ e. record { x = read-lengths.x; salt = read-lengths.salt; root = read-lengths.root; message2 = read-lengths.message2 }))

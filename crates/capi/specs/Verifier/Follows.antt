@@ -15,19 +15,17 @@ use Rattle.answers.specs.Number.{refusal_number}
 use Rattle.answers.specs.Number.Laws.{refused-not-0}
 use Rattle.answers.specs.declared.Answer.{Answer}
 use Rattle.answers.specs.declared.Answer.TheVariants.{Done, Refused}
-use Rattle.answers.specs.declared.Refusal.TheVariants.{Length, NotDue, Closed as ExchangeClosed, OtherKey}
+use Rattle.answers.specs.declared.Refusal.TheVariants.{Length, NotDue, Closed as ExchangeClosed}
 use Rattle.answers.specs.Checks.{check}
 use Rattle.parameters.specs.declared.Parameters.{Parameters}
 use Rattle.layout.specs.Maxima.{most_runs, most_message1, most_messages2, most_messages3}
 use Rattle.shake256.specs.Fips.{SHAKE256}
-use Rattle.shake256.proofs.Laws.{length-SHAKE256}
 use Rattle.exchange.specs.Values.{Key}
-use Rattle.exchange.specs.KeyDigest.Laws.{length-key_digest}
 use Rattle.verifier_phase.specs.declared.Phase.TheVariants.{Chosen}
 use Rattle.calls.specs.Lengths.{opening_lengths}
 use Rattle.calls.specs.Judging.Laws.{verdict-judged}
 use Rattle.verifier.specs.Laws.{begin-passed, points-passed, response-passed, leaf-passed}
-use Rattle.calls.specs.Verifier.{Verifier, Outcome as Called, Judged as Opened, fresh, settle, closed, due, held_leaves, held_transcript, begin, begin_checks, begun, points, points_checks, pointed, response, response_checks, responded, leaf, leaf_checks, chosen, same_key, opening, opening_checks, judge, ended}
+use Rattle.calls.specs.Verifier.{Verifier, Outcome as Called, Judged as Opened, fresh, settle, closed, due, held_leaves, held_transcript, begin, begin_checks, begun, points, points_checks, pointed, response, response_checks, responded, leaf, leaf_checks, chosen, opening, opening_checks, judge, ended}
 use Rattle.stored.specs.Verifier.{verifier_size, verifier_bytes, verifier_from}
 use Rattle.stored.specs.Verifier.Laws.{VerifierLengths, length-verifier_bytes, verifier-back}
 use Rattle.capi.specs.Session.{Kept, verifier_new}
@@ -57,8 +55,7 @@ module _ (b : List ℕ) (size : length b ≡ verifier_size) where
     message1 = length_part b 7 most_message1 (omega arith);
     message2 = length_part b 1_063 most_messages2 (omega arith);
     message3 = length_part b 3_111 most_messages3 (omega arith);
-    digest = length_part b 4_135 32 (omega arith);
-    leaves = length_part b 4_167 most_runs (omega arith);
+    leaves = length_part b 4_135 most_runs (omega arith);
   }
 
   settle-follows : (a : Answer) (next : Verifier) → (a ≡ Done → VerifierLengths next) → Follows (verifier_after b (settle a s next)) (settle a s next)
@@ -78,25 +75,23 @@ module _ (b : List ℕ) (size : length b ≡ verifier_size) where
 
   pub new-follows : verifier_from (verifier_new b).session ≡ fresh
   unfolding fresh
-  new-follows = rw (← fits-so b verifier_size _ _ size) (verifier-back fresh (record { message1 = refl; message2 = refl; message3 = refl; digest = refl; leaves = refl }))
+  new-follows = rw (← fits-so b verifier_size _ _ size) (verifier-back fresh (record { message1 = refl; message2 = refl; message3 = refl; leaves = refl }))
 
   pub new-size : length (verifier_new b).session ≡ verifier_size
   unfolding fresh
-  new-size = rw (← fits-so b verifier_size _ _ size) (length-verifier_bytes fresh (record { message1 = refl; message2 = refl; message3 = refl; digest = refl; leaves = refl }))
+  new-size = rw (← fits-so b verifier_size _ _ size) (length-verifier_bytes fresh (record { message1 = refl; message2 = refl; message3 = refl; leaves = refl }))
 
   -- ---- the calls but the opening
 
-  pub begin-follows : (p : Parameters) (runs : ℕ) (m1 : List ℕ) (key : Key)
-      → Follows (verifier_begin b p runs m1 key) (begin SHAKE256 s p runs m1 key)
+  pub begin-follows : (p : Parameters) (runs : ℕ) (m1 : List ℕ) → Follows (verifier_begin b p runs m1) (begin s p runs m1)
   unfolding begin begun
-  begin-follows p runs m1 key =
-      call-follows _ (λ z. begin SHAKE256 z p runs m1 key) (settle-follows (begin_checks p runs m1 key) (begun SHAKE256 p runs m1 key) (λ e.
-      let long = begin-passed p runs m1 key e in
+  begin-follows p runs m1 =
+      call-follows _ (λ z. begin z p runs m1) (settle-follows (begin_checks p runs m1) (begun p runs m1) (λ e.
+      let long = begin-passed p runs m1 e in
       record {
         message1 = length-put_at (replicate most_message1 0) 0 m1 (omega arith);
         message2 = refl;
         message3 = refl;
-        digest = length-key_digest SHAKE256 length-SHAKE256 p key;
         leaves = refl;
       }))
 
@@ -110,7 +105,6 @@ module _ (b : List ℕ) (size : length b ≡ verifier_size) where
         message1 = read-lengths.message1;
         message2 = length-put_at s.message2 0 m2 (omega arith) ∙ held;
         message3 = read-lengths.message3;
-        digest = read-lengths.digest;
         leaves = read-lengths.leaves;
       }))
 
@@ -124,7 +118,6 @@ module _ (b : List ℕ) (size : length b ≡ verifier_size) where
         message1 = read-lengths.message1;
         message2 = read-lengths.message2;
         message3 = length-put_at s.message3 0 m3 (omega arith) ∙ held;
-        digest = read-lengths.digest;
         leaves = read-lengths.leaves;
       }))
 
@@ -138,7 +131,6 @@ module _ (b : List ℕ) (size : length b ≡ verifier_size) where
         message1 = read-lengths.message1;
         message2 = read-lengths.message2;
         message3 = read-lengths.message3;
-        digest = read-lengths.digest;
         leaves = length-put_at s.leaves 0 is (omega arith) ∙ held;
       }))
 
@@ -151,17 +143,14 @@ module _ (b : List ℕ) (size : length b ≡ verifier_size) where
       message1 = read-lengths.message1;
       message2 = read-lengths.message2;
       message3 = read-lengths.message3;
-      digest = read-lengths.digest;
       leaves = read-lengths.leaves;
     }
 
-    abbrev row : Bool → Bool → Bool → Bool → Answer
-    row x y z u = check x ExchangeClosed (check y NotDue (check z Length (check u OtherKey Done)))
-
-    judge-follows : (x y z u : Bool)
-        → FollowsJudged (opening_after b (judge SHAKE256 s m5 key work (row x y z u))) (judge SHAKE256 s m5 key work (row x y z u))
+    judge-follows : (x y z : Bool)
+        → FollowsJudged (opening_after b (judge SHAKE256 s m5 key work (check x ExchangeClosed (check y NotDue (check z Length Done)))))
+        (judge SHAKE256 s m5 key work (check x ExchangeClosed (check y NotDue (check z Length Done))))
     unfolding judge opening_after
-    judge-follows true true true true =
+    judge-follows true true true =
         let judged = verdict-judged SHAKE256 s.parameters s.runs (held_transcript s m5) key in
         record {
           number = refl;
@@ -169,13 +158,12 @@ module _ (b : List ℕ) (size : length b ≡ verifier_size) where
           size = rw judged (length-verifier_bytes (ended s) ended-lengths);
           work = refl;
         }
-    judge-follows true true true false = record { number = refl; session = refl; size = size; work = refl }
-    judge-follows true true false u = record { number = refl; session = refl; size = size; work = refl }
-    judge-follows true false z u = record { number = refl; session = refl; size = size; work = refl }
-    judge-follows false y z u = record { number = refl; session = refl; size = size; work = refl }
+    judge-follows true true false = record { number = refl; session = refl; size = size; work = refl }
+    judge-follows true false z = record { number = refl; session = refl; size = size; work = refl }
+    judge-follows false y z = record { number = refl; session = refl; size = size; work = refl }
 
     pub opening-follows : FollowsJudged (verifier_opening b m5 key work) (opening SHAKE256 s m5 key work)
     unfolding verifier_opening opening opening_checks
     opening-follows =
         rw (← fits-so b verifier_size (opening_after b (opening SHAKE256 s m5 key work)) _ size)
-        (judge-follows (not (closed s)) (due s Chosen) (all_true (opening_lengths s.parameters (held_leaves s) m5 key work)) (same_key SHAKE256 s key))
+        (judge-follows (not (closed s)) (due s Chosen) (all_true (opening_lengths s.parameters (held_leaves s) m5 key work)))

@@ -19,7 +19,7 @@ use Rattle.answers.specs.Number.{refusal_number}
 use Rattle.answers.specs.Number.Laws.{refused-not-0}
 use Rattle.answers.specs.declared.Answer.{Answer}
 use Rattle.answers.specs.declared.Answer.TheVariants.{Done, Refused}
-use Rattle.answers.specs.declared.Refusal.TheVariants.{Parameter, Length, NotDue, Closed as ExchangeClosed, OtherKey}
+use Rattle.answers.specs.declared.Refusal.TheVariants.{Parameter, Length, NotDue, Closed as ExchangeClosed}
 use Rattle.answers.specs.Checks.{check}
 use Rattle.answers.specs.Checks.Laws.{check-true}
 use Rattle.parameters.specs.declared.Parameters.{Parameters}
@@ -33,7 +33,7 @@ use Rattle.exchange.specs.Values.{Key}
 use Rattle.verifier_phase.specs.declared.Phase.{Phase}
 use Rattle.verifier_phase.specs.declared.Phase.TheVariants.{Begun, Pointed, Responded, Chosen}
 use Rattle.calls.specs.Lengths.{opening_lengths}
-use Rattle.calls.specs.Verifier.{Verifier, Outcome as Called, Judged as Opened, settle, closed, due, held_leaves, begin, begin_checks, begun, points, points_checks, pointed, response, response_checks, responded, leaf, leaf_checks, chosen, same_key, opening, opening_checks, judge, ended}
+use Rattle.calls.specs.Verifier.{Verifier, Outcome as Called, Judged as Opened, settle, closed, due, held_leaves, begin, begin_checks, begun, points, points_checks, pointed, response, response_checks, responded, leaf, leaf_checks, chosen, opening, opening_checks, judge, ended}
 use Rattle.verifier.specs.Laws.{Inner, due-intact, held-within, held-runs, opening-passed}
 use Rattle.stored.specs.Parameters.{Small, within-small}
 use Rattle.stored.specs.Verifier.{verifier_size, verifier_bytes, verifier_from}
@@ -60,11 +60,10 @@ due-within : (s : Verifier) (here : Phase) (rest : Answer) → Inner here → ch
 due-within s here rest inner e = let i = due-intact s here rest e inner in record { within = held-within s i; counted = held-runs s i }
 
 module _ (s : Verifier) where
-  pub begin-within : (p : Parameters) (runs : ℕ) (m1 : List ℕ) (key : Key) → (begin SHAKE256 s p runs m1 key).answer ≡ 0
-      → Held (begin SHAKE256 s p runs m1 key).verifier
+  pub begin-within : (p : Parameters) (runs : ℕ) (m1 : List ℕ) → (begin s p runs m1).answer ≡ 0 → Held (begin s p runs m1).verifier
   unfolding begin begin_checks begun
-  begin-within p runs m1 key =
-      settled (begin_checks p runs m1 key) s (begun SHAKE256 p runs m1 key)
+  begin-within p runs m1 =
+      settled (begin_checks p runs m1) s (begun p runs m1)
       (λ e. let both = check-true (within_limits p && runs_within runs) Parameter _ e in record {
         within = test-within p (and_left (within_limits p) (runs_within runs) both);
         counted = runs-within runs (and_right (within_limits p) (runs_within runs) both);
@@ -104,35 +103,32 @@ module _ (b : List ℕ) (m : ℕ) (call : Verifier → Called) where
 
 -- ---- begin with a set
 
-module _ (b ns : List ℕ) (runs : ℕ) (m1 : List ℕ) (key : Key) where
+module _ (b ns : List ℕ) (runs : ℕ) (m1 : List ℕ) where
   abbrev with : Parameters → Kept
-  with p = verifier_begin b p runs m1 key
+  with p = verifier_begin b p runs m1
 
-  pub begin-unnamed : (length ns ≡ set_length → ⊥) → kept (refusal_number Length) b ≡ verifier_begin_set b ns runs m1 key
+  pub begin-unnamed : (length ns ≡ set_length → ⊥) → kept (refusal_number Length) b ≡ verifier_begin_set b ns runs m1
   begin-unnamed h = set-not ns with (kept (refusal_number Length) b) h
 
-  pub begin-named : (p : Parameters) (r : Kept) → length ns ≡ set_length → p ≡ parameters_of ns → r ≡ with p → r ≡ verifier_begin_set b ns runs m1 key
+  pub begin-named : (p : Parameters) (r : Kept) → length ns ≡ set_length → p ≡ parameters_of ns → r ≡ with p → r ≡ verifier_begin_set b ns runs m1
   begin-named p r e is so = so ∙ set_so ns with (kept (refusal_number Length) b) p e is
 
 -- ---- the opening
 
 module _ (hash : List ℕ → ℕ → List ℕ) (s : Verifier) (m5 : List ℕ) (key : Key) (work : List ℕ) where
-  abbrev row : Bool → Bool → Bool → Bool → Answer
-  row a b c d = check a ExchangeClosed (check b NotDue (check c Length (check d OtherKey Done)))
-
-  judged-within : (a b c d : Bool) → (row a b c d ≡ Done → Held s) → judges (judge hash s m5 key work (row a b c d)).answer ≡ true
-      → Held (judge hash s m5 key work (row a b c d)).verifier
+  judged-within : (a b c : Bool) → (check a ExchangeClosed (check b NotDue (check c Length Done)) ≡ Done → Held s)
+      → judges (judge hash s m5 key work (check a ExchangeClosed (check b NotDue (check c Length Done)))).answer ≡ true
+      → Held (judge hash s m5 key work (check a ExchangeClosed (check b NotDue (check c Length Done)))).verifier
   unfolding judge ended
-  judged-within true true true true within e = let h = within refl in record { within = h.within; counted = h.counted }
-  judged-within true true true false within e = absurd (false≢true e)
-  judged-within true true false d within e = absurd (false≢true e)
-  judged-within true false c d within e = absurd (false≢true e)
-  judged-within false b c d within e = absurd (false≢true e)
+  judged-within true true true within e = let h = within refl in record { within = h.within; counted = h.counted }
+  judged-within true true false within e = absurd (false≢true e)
+  judged-within true false c within e = absurd (false≢true e)
+  judged-within false b c within e = absurd (false≢true e)
 
   pub opening-within : judges (opening hash s m5 key work).answer ≡ true → Held (opening hash s m5 key work).verifier
   unfolding opening opening_checks
   opening-within =
-      judged-within (not (closed s)) (due s Chosen) (all_true (opening_lengths s.parameters (held_leaves s) m5 key work)) (same_key hash s key)
+      judged-within (not (closed s)) (due s Chosen) (all_true (opening_lengths s.parameters (held_leaves s) m5 key work))
       (λ e. let h = opening-passed hash s m5 key work e in record { within = h.within; counted = h.counted })
 
 pub judged-small : (o o' : Opened) → o ≡ o' → (judges o'.answer ≡ true → Held o'.verifier)

@@ -30,7 +30,7 @@ abbrev plain : Kept → Judged
 plain r = judged r.number r.session []
 
 unfoldable pub on_buffer : List ℕ → Call → Judged
-on_buffer b (begin_call s) = plain (verifier_begin_set b (numbers_of s.parameters) s.runs s.message1 s.key)
+on_buffer b (begin_call s) = plain (verifier_begin_set b (numbers_of s.parameters) s.runs s.message1)
 on_buffer b (points_call m2) = plain (verifier_points b m2)
 on_buffer b (response_call m3) = plain (verifier_response b m3)
 on_buffer b (leaf_call is) = plain (verifier_leaf b is)
@@ -59,8 +59,8 @@ plain_follows r o f = record { number = f.number; session = f.session; size = f.
 pub call-follows : (b : List ℕ) → length b ≡ verifier_size → (c : Call) → FollowsCall (on_buffer b c) (outcome SHAKE256 (verifier_from b) c)
 unfolding on_buffer outcome
 call-follows b size (begin_call s) =
-    rw (set-named s.parameters (λ p. verifier_begin b p s.runs s.message1 s.key) _)
-    (plain_follows _ _ (begin-follows b size s.parameters s.runs s.message1 s.key))
+    rw (set-named s.parameters (λ p. verifier_begin b p s.runs s.message1) _)
+    (plain_follows _ _ (begin-follows b size s.parameters s.runs s.message1))
 call-follows b size (points_call m2) = plain_follows _ _ (points-follows b size m2)
 call-follows b size (response_call m3) = plain_follows _ _ (response-follows b size m3)
 call-follows b size (leaf_call is) = plain_follows _ _ (leaf-follows b size is)

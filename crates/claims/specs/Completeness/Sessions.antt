@@ -3,29 +3,22 @@
 -- held-front                      what was put at the front of an array is read from there
 -- secret                          x of a valid key
 -- key_lengths-pass, leaves-pass    matrix, y and work area have lengths that no call refuses, and the leaves are below n
--- other-digest                    digests that differ do not pass for the same
 -- begun_prover, answered_prover, closed_prover   the prover's session after begin, points and leaf
 -- held-stands                     its phase counts
--- prover_begin-is, prover_points-is, prover_leaf-is   what its calls give, lent a matrix and y with the key's digest
--- prover_points-15, prover_leaf-15   and with another digest
+-- prover_begin-is, prover_points-is, prover_leaf-is   what its calls give
 -- pointed_verifier, responded_verifier, chosen_verifier   the verifier's session after points, response and leaf
 -- due-passes                      the checks of a verifier's call that is due: 12 and 11 are past
 -- verifier_begin-is, verifier_points-is, verifier_response-is, verifier_leaf-is, verifier_opening-is   what the verifier's calls give
--- verifier_opening-15              and its opening, lent a matrix or y with another digest
-use Rattle.std.specs.Prelude.{◌≡◌, Bool, List, [], ◌∷◌, ℕ, ◌≤◌, eqb, length, take, replicate}
+use Rattle.std.specs.Prelude.{◌≡◌, Bool, true, false, List, [], ◌∷◌, ℕ, ◌≤◌, eqb, length, take, replicate}
 use Rattle.std.proofs.Math.Path.{refl, ap}
-use Rattle.std.proofs.Common.{sym, ◌∙◌, arith, take_at}
-use Rattle.std.proofs.Math.Bool.{true, false}
+use Rattle.std.proofs.Common.{◌∙◌, arith, take_at}
 use borrow.Author.Tests.{eq-eqb, le-leb}
 use Rattle.lists.specs.Part.{put_at}
-use Rattle.lists.specs.Equal.{eq_list}
-use Rattle.lists.specs.Equal.Laws.{eq_list-true, eq_list-of}
 use Rattle.lists.specs.Checks.{all_true}
-use Rattle.lists.specs.Checks.Laws.{not_so}
 use Rattle.lists.specs.Zeroed.{zeroed}
 use Rattle.answers.specs.declared.Answer.TheVariants.{Done}
 use Rattle.answers.specs.declared.Refusal.{Refusal}
-use Rattle.answers.specs.declared.Refusal.TheVariants.{Length, Leaf, SamePoint, OtherKey}
+use Rattle.answers.specs.declared.Refusal.TheVariants.{Length, Leaf, SamePoint}
 use Rattle.answers.specs.Number.{answer_number}
 use Rattle.answers.specs.Checks.{checks}
 use Rattle.parameters.specs.declared.Parameters.{Parameters}
@@ -38,7 +31,6 @@ use Rattle.layout.specs.Maxima.{most_runs, most_message1, most_messages2, most_m
 use Rattle.layout.specs.Runs.{message1_length, messages2_length, messages3_length, messages5_length}
 use Rattle.layout.specs.Runs.Laws.{RunsWithin, within-runs}
 use Rattle.exchange.specs.Values.{Key}
-use Rattle.exchange.specs.KeyDigest.{key_digest}
 use Rattle.exchange.specs.Messages.Laws.{Secret}
 use Rattle.runs.specs.Messages.{message1, message3, message5}
 use Rattle.runs.specs.Points.{distinct_points, DistinctPoints}
@@ -83,23 +75,12 @@ key_lengths-pass p key lent work h = rw (eq-eqb _ _ lent.matrix, eq-eqb _ _ lent
 leaves-pass : (p : Parameters) (runs : ℕ) (is : List ℕ) → Leaves p runs is → leaves_below p is ≡ true
 leaves-pass p runs is h = below-leaves p is (λ e l. h.below e (let k = h.one-a-run in omega arith))
 
-other-digest : (a b : List ℕ) → (a ≡ b → ⊥) → eq_list a b ≡ false
-other-digest a b n = sym (not_so (eq_list a b) (λ e. n (eq_list-true a b e)))
-
 -- ---- the prover's calls
 
-module _ (p : Parameters) (runs : ℕ) (x salt root digest : List ℕ) where
+module _ (p : Parameters) (runs : ℕ) (x salt root : List ℕ) where
   abbrev held_prover : Phase → List ℕ → Prover
-  held_prover phase m2 = record {
-    phase = phase;
-    parameters = p;
-    runs = runs;
-    x = prover.padded 255 x;
-    salt = salt;
-    root = root;
-    digest = digest;
-    message2 = m2;
-  }
+  held_prover phase m2 =
+      record { phase = phase; parameters = p; runs = runs; x = prover.padded 255 x; salt = salt; root = root; message2 = m2 }
 
   abbrev pub begun_prover : Prover
   begun_prover = held_prover Begun (replicate most_messages2 0)
@@ -115,13 +96,10 @@ module _ (hash : List ℕ → ℕ → List ℕ) (p : Parameters) (runs : ℕ) (c
   abbrev x : List ℕ
   x = vector_of key.matrix key.y x_a
 
-  abbrev d : List ℕ
-  d = key_digest hash p key
-
   pub prover_begin-is : (s : Prover) → length salt ≡ 32 → length root ≡ 16 → prover.repeated s salt root ≡ false → (work out : List ℕ)
       → work_length p ≤ length work → length out ≡ message1_length runs
       → prover.begin hash s p runs x_a salt root key work out
-      ≡ record { answer = 0; prover = begun_prover p runs x salt root d; out = message1 hash p runs x salt root d; work = zeroed (work_length p) work }
+      ≡ record { answer = 0; prover = begun_prover p runs x salt root; out = message1 hash p runs x salt root; work = zeroed (work_length p) work }
   unfolding prover.begin prover.begin_checks prover.begun
   prover_begin-is s salt-length root-length not-repeated work out hw ho =
       rw (
@@ -139,84 +117,55 @@ module _ (hash : List ℕ → ℕ → List ℕ) (p : Parameters) (runs : ℕ) (c
   held_x-is : take p.m (prover.padded 255 x) ≡ x
   held_x-is = held-front p.m (replicate 255 0) x (secret p key x_a valid).long
 
-  held-stands : (phase : Phase) (m2 : List ℕ) → prover.is_fresh phase ≡ false → prover.standing (held_prover p runs x salt root d phase m2) ≡ phase
+  held-stands : (phase : Phase) (m2 : List ℕ) → prover.is_fresh phase ≡ false → prover.standing (held_prover p runs x salt root phase m2) ≡ phase
   unfolding prover.standing prover.intact prover.held_x
   held-stands phase m2 e = rw (e, held_x-is, within-test p valid.within, within-runs runs counted, le-leb (weight_of x) p.w valid.light)
 
-  -- lent a matrix and y, the key's own or others
-  module _ (m2 : List ℕ) (size : length m2 ≡ messages2_length p runs) (lent : Key) (sized : Lent p lent) (work out : List ℕ)
-      (hw : work_length p ≤ length work) where
-    module _ (distinct : DistinctPoints p runs m2) (ho : length out ≡ messages3_length runs) where
-      pub prover_points-is : key_digest hash p lent ≡ d → prover.points hash (begun_prover p runs x salt root d) m2 lent work out
-          ≡ record {
-            answer = 0;
-            prover = answered_prover p runs x salt root d m2;
-            out = message3 hash p runs x salt root lent m2;
-            work = zeroed (work_length p) work;
-          }
-      unfolding prover.points prover.points_checks prover.closed prover.points_due prover.same_key prover.answered prover.held_x
-      prover_points-is same =
-          rw (
-            held-stands Begun (replicate most_messages2 0) refl,
-            eq-eqb (length m2) (messages2_length p runs) size,
-            eq-eqb (length out) (messages3_length runs) ho,
-            key_lengths-pass p lent sized work hw,
-            distinct-points p runs m2 distinct,
-            eq_list-of _ _ same,
-            held_x-is,
-          )
+  module _ (m2 : List ℕ) (size : length m2 ≡ messages2_length p runs) (work out : List ℕ) (hw : work_length p ≤ length work) where
+    pub prover_points-is : DistinctPoints p runs m2 → length out ≡ messages3_length runs
+        → prover.points hash (begun_prover p runs x salt root) m2 key work out
+        ≡ record {
+          answer = 0;
+          prover = answered_prover p runs x salt root m2;
+          out = message3 hash p runs x salt root key m2;
+          work = zeroed (work_length p) work;
+        }
+    unfolding prover.points prover.points_checks prover.closed prover.points_due prover.answered prover.held_x
+    prover_points-is distinct ho =
+        rw (
+          held-stands Begun (replicate most_messages2 0) refl,
+          eq-eqb (length m2) (messages2_length p runs) size,
+          eq-eqb (length out) (messages3_length runs) ho,
+          key_lengths-pass p key valid.lent work hw,
+          distinct-points p runs m2 distinct,
+          held_x-is,
+        )
 
-      pub prover_points-15 : (key_digest hash p lent ≡ d → ⊥) → prover.points hash (begun_prover p runs x salt root d) m2 lent work out
-          ≡ record { answer = 15; prover = begun_prover p runs x salt root d; out = out; work = work }
-      unfolding prover.points prover.points_checks prover.closed prover.points_due prover.same_key
-      prover_points-15 other =
-          rw (
-            held-stands Begun (replicate most_messages2 0) refl,
-            eq-eqb (length m2) (messages2_length p runs) size,
-            eq-eqb (length out) (messages3_length runs) ho,
-            key_lengths-pass p lent sized work hw,
-            distinct-points p runs m2 distinct,
-            other-digest _ _ other,
-          )
-
-    module _ (is : List ℕ) (leaves : Leaves p runs is) (ho : length out ≡ messages5_length p is) where
-      pub prover_leaf-is : key_digest hash p lent ≡ d → prover.leaf hash (answered_prover p runs x salt root d m2) is lent work out
-          ≡ record {
-            answer = 0;
-            prover = closed_prover p runs x salt root d m2;
-            out = message5 hash p runs x salt root lent m2 is;
-            work = zeroed (work_length p) work;
-          }
-      unfolding prover.leaf prover.leaf_checks prover.closed prover.leaf_due prover.same_key prover.opened prover.held_x prover.held_message2
-      prover_leaf-is same =
-          rw (
-            held-stands Answered (prover.padded most_messages2 m2) refl,
-            eq-eqb (length is) runs leaves.one-a-run,
-            eq-eqb (length out) (messages5_length p is) ho,
-            key_lengths-pass p lent sized work hw,
-            eq_list-of _ _ same,
-            leaves-pass p runs is leaves,
-            held_x-is,
-            held-front (messages2_length p runs) (replicate most_messages2 0) m2 size,
-          )
-
-      pub prover_leaf-15 : (key_digest hash p lent ≡ d → ⊥) → prover.leaf hash (answered_prover p runs x salt root d m2) is lent work out
-          ≡ record { answer = 15; prover = answered_prover p runs x salt root d m2; out = out; work = work }
-      unfolding prover.leaf prover.leaf_checks prover.closed prover.leaf_due prover.same_key
-      prover_leaf-15 other =
-          rw (
-            held-stands Answered (prover.padded most_messages2 m2) refl,
-            eq-eqb (length is) runs leaves.one-a-run,
-            eq-eqb (length out) (messages5_length p is) ho,
-            key_lengths-pass p lent sized work hw,
-            other-digest _ _ other,
-          )
+    pub prover_leaf-is : (is : List ℕ) → Leaves p runs is → length out ≡ messages5_length p is
+        → prover.leaf hash (answered_prover p runs x salt root m2) is key work out
+        ≡ record {
+          answer = 0;
+          prover = closed_prover p runs x salt root m2;
+          out = message5 hash p runs x salt root key m2 is;
+          work = zeroed (work_length p) work;
+        }
+    unfolding prover.leaf prover.leaf_checks prover.closed prover.leaf_due prover.opened prover.held_x prover.held_message2
+    prover_leaf-is is leaves ho =
+        rw (
+          held-stands Answered (prover.padded most_messages2 m2) refl,
+          eq-eqb (length is) runs leaves.one-a-run,
+          eq-eqb (length out) (messages5_length p is) ho,
+          key_lengths-pass p key valid.lent work hw,
+          leaves-pass p runs is leaves,
+          held_x-is,
+          held-front (messages2_length p runs) (replicate most_messages2 0) m2 size,
+        )
 
 -- ---- the verifier's calls
 
-module _ (hash : List ℕ → ℕ → List ℕ) (p : Parameters) (runs : ℕ) (key : Key) (m1 m2 : List ℕ) where
+module _ (p : Parameters) (runs : ℕ) (m1 m2 : List ℕ) where
   abbrev pub pointed_verifier : Verifier
-  pointed_verifier = verifier.pointed (verifier.begun hash p runs m1 key) m2
+  pointed_verifier = verifier.pointed (verifier.begun p runs m1) m2
 
   module _ (m3 : List ℕ) where
     abbrev pub responded_verifier : Verifier
@@ -233,20 +182,19 @@ unfolding verifier.closed verifier.due verifier.standing verifier.intact
 due-passes s here cs within counted below not-fresh not-closed is-due =
     rw (within-test s.parameters within, within-runs s.runs counted, below, not-fresh, not-closed, is-due)
 
-module _ (hash : List ℕ → ℕ → List ℕ) (p : Parameters) (within : Within p) (runs : ℕ) (counted : RunsWithin runs) (key : Key) where
-  pub verifier_begin-is : Lent p key → (v : Verifier) (m1 : List ℕ) → length m1 ≡ message1_length runs
-      → verifier.begin hash v p runs m1 key ≡ record { answer = 0; verifier = verifier.begun hash p runs m1 key }
+module _ (p : Parameters) (within : Within p) (runs : ℕ) (counted : RunsWithin runs) where
+  pub verifier_begin-is : (v : Verifier) (m1 : List ℕ) → length m1 ≡ message1_length runs
+      → verifier.begin v p runs m1 ≡ record { answer = 0; verifier = verifier.begun p runs m1 }
   unfolding verifier.begin verifier.begin_checks
-  verifier_begin-is lent v m1 e =
-      rw (within-test p within, within-runs runs counted, eq-eqb (length m1) (message1_length runs) e, eq-eqb _ _ lent.matrix, eq-eqb _ _ lent.y)
+  verifier_begin-is v m1 e = rw (within-test p within, within-runs runs counted, eq-eqb (length m1) (message1_length runs) e)
 
   module _ (m1 m2 m3 is : List ℕ) where
     pub verifier_points-is : length m2 ≡ messages2_length p runs → DistinctPoints p runs m2
-        → verifier.points (verifier.begun hash p runs m1 key) m2 ≡ record { answer = 0; verifier = pointed_verifier hash p runs key m1 m2 }
+        → verifier.points (verifier.begun p runs m1) m2 ≡ record { answer = 0; verifier = pointed_verifier p runs m1 m2 }
     unfolding verifier.points verifier.points_checks verifier.begun
     verifier_points-is e distinct =
         rw (
-          due-passes (verifier.begun hash p runs m1 key) phase.Begun
+          due-passes (verifier.begun p runs m1) phase.Begun
               ((eqb (length m2) (messages2_length p runs), Length) ∷ (distinct_points p runs m2, SamePoint) ∷ []) within counted
               (below-zeros p runs most_runs) refl refl refl,
           eq-eqb _ _ e,
@@ -254,57 +202,47 @@ module _ (hash : List ℕ → ℕ → List ℕ) (p : Parameters) (within : Withi
         )
 
     pub verifier_response-is : length m3 ≡ messages3_length runs
-        → verifier.response (pointed_verifier hash p runs key m1 m2) m3 ≡ record { answer = 0; verifier = responded_verifier hash p runs key m1 m2 m3 }
+        → verifier.response (pointed_verifier p runs m1 m2) m3 ≡ record { answer = 0; verifier = responded_verifier p runs m1 m2 m3 }
     unfolding verifier.response verifier.response_checks verifier.begun verifier.pointed
     verifier_response-is e =
         rw (
-          due-passes (pointed_verifier hash p runs key m1 m2) phase.Pointed ((eqb (length m3) (messages3_length runs), Length) ∷ []) within counted
+          due-passes (pointed_verifier p runs m1 m2) phase.Pointed ((eqb (length m3) (messages3_length runs), Length) ∷ []) within counted
               (below-zeros p runs most_runs) refl refl refl,
           eq-eqb _ _ e,
         )
 
     pub verifier_leaf-is : Leaves p runs is
-        → verifier.leaf (responded_verifier hash p runs key m1 m2 m3) is ≡ record { answer = 0; verifier = chosen_verifier hash p runs key m1 m2 m3 is }
+        → verifier.leaf (responded_verifier p runs m1 m2 m3) is ≡ record { answer = 0; verifier = chosen_verifier p runs m1 m2 m3 is }
     unfolding verifier.leaf verifier.leaf_checks verifier.begun verifier.pointed verifier.responded
     verifier_leaf-is h =
         rw (
-          due-passes (responded_verifier hash p runs key m1 m2 m3) phase.Responded ((eqb (length is) runs, Length) ∷ (leaves_below p is, Leaf) ∷ [])
-              within counted (below-zeros p runs most_runs) refl refl refl,
+          due-passes (responded_verifier p runs m1 m2 m3) phase.Responded ((eqb (length is) runs, Length) ∷ (leaves_below p is, Leaf) ∷ []) within counted
+              (below-zeros p runs most_runs) refl refl refl,
           eq-eqb _ _ h.one-a-run,
           leaves-pass p runs is h,
         )
 
-    -- lent a matrix and y, the key's own or others
-    module _ (lent : Key) (sized : Lent p lent) (m5 work : List ℕ) (h : Leaves p runs is) (e : length m5 ≡ messages5_length p is)
-        (hw : work_length p ≤ length work) where
-      held-leaves : verifier.held_leaves (chosen_verifier hash p runs key m1 m2 m3 is) ≡ is
+    module _ (hash : List ℕ → ℕ → List ℕ) (key : Key) (lent : Lent p key) (m5 work : List ℕ) where
+      held-leaves : Leaves p runs is → verifier.held_leaves (chosen_verifier p runs m1 m2 m3 is) ≡ is
       unfolding verifier.begun verifier.pointed verifier.responded verifier.chosen
-      held-leaves = held-front runs (replicate most_runs 0) is h.one-a-run
+      held-leaves h = held-front runs (replicate most_runs 0) is h.one-a-run
 
-      opening-checked : (same : Bool) → eq_list (key_digest hash p lent) (key_digest hash p key) ≡ same
-          → verifier.opening_checks hash (chosen_verifier hash p runs key m1 m2 m3 is) m5 lent work ≡ checks ((same, OtherKey) ∷ [])
-      unfolding verifier.opening_checks verifier.same_key verifier.begun verifier.pointed verifier.responded verifier.chosen
-      opening-checked same q =
-          due-passes (chosen_verifier hash p runs key m1 m2 m3 is) phase.Chosen
-          ((all_true (opening_lengths p (verifier.held_leaves (chosen_verifier hash p runs key m1 m2 m3 is)) m5 lent work), Length)
-          ∷ (eq_list (key_digest hash p lent) (key_digest hash p key), OtherKey) ∷ [])
-          within counted (ap (leaves_below p) held-leaves ∙ leaves-pass p runs is h) refl refl refl
-          ∙ rw (held-leaves, eq-eqb _ _ e, key_lengths-pass p lent sized work hw, q)
-
-      pub verifier_opening-15 : (key_digest hash p lent ≡ key_digest hash p key → ⊥)
-          → verifier.opening hash (chosen_verifier hash p runs key m1 m2 m3 is) m5 lent work
-          ≡ record { answer = 15; verifier = chosen_verifier hash p runs key m1 m2 m3 is; work = work }
-      unfolding verifier.opening verifier.judge
-      verifier_opening-15 other = rw (opening-checked false (other-digest _ _ other))
+      opening-passes : Leaves p runs is → length m5 ≡ messages5_length p is → work_length p ≤ length work
+          → verifier.opening_checks hash (chosen_verifier p runs m1 m2 m3 is) m5 key work ≡ Done
+      unfolding verifier.opening_checks verifier.begun verifier.pointed verifier.responded verifier.chosen
+      opening-passes h e hw =
+          due-passes (chosen_verifier p runs m1 m2 m3 is) phase.Chosen
+          ((all_true (opening_lengths p (verifier.held_leaves (chosen_verifier p runs m1 m2 m3 is)) m5 key work), Length) ∷ [])
+          within counted (ap (leaves_below p) (held-leaves h) ∙ leaves-pass p runs is h) refl refl refl
+          ∙ rw (held-leaves h, eq-eqb _ _ e, key_lengths-pass p key lent work hw)
 
       pub verifier_opening-is : length m1 ≡ message1_length runs → length m2 ≡ messages2_length p runs → length m3 ≡ messages3_length runs
-          → key_digest hash p lent ≡ key_digest hash p key
-          → (verifier.opening hash (chosen_verifier hash p runs key m1 m2 m3 is) m5 lent work).answer
-          ≡ answer_number (verdict hash p runs (transcript m1 m2 m3 is m5) lent)
+          → Leaves p runs is → length m5 ≡ messages5_length p is → work_length p ≤ length work
+          → (verifier.opening hash (chosen_verifier p runs m1 m2 m3 is) m5 key work).answer
+          ≡ answer_number (verdict hash p runs (transcript m1 m2 m3 is m5) key)
       unfolding verifier.held_transcript verifier.begun verifier.pointed verifier.responded verifier.chosen
-      verifier_opening-is size1 size2 size3 same =
-          ap (λ (o : verifier.Judged). o.answer)
-          (opening-closes hash (chosen_verifier hash p runs key m1 m2 m3 is) m5 lent work (opening-checked true (eq_list-of _ _ same)))
+      verifier_opening-is size1 size2 size3 h e hw =
+          ap (λ (o : verifier.Judged). o.answer) (opening-closes hash (chosen_verifier p runs m1 m2 m3 is) m5 key work (opening-passes h e hw))
           ∙ rw (
             held-front (message1_length runs) (replicate most_message1 0) m1 size1,
             held-front (messages2_length p runs) (replicate most_messages2 0) m2 size2,

@@ -108,7 +108,7 @@ module _ (hash : List ℕ → ℕ → List ℕ) (hash-length : (s : List ℕ) (n
   unfolding OneDigest string_at
   digest-4 q i l n n' =
       sym (commitment-disclosed hash p e i n)
-      ∙ commitments-same hash hash-length p e e' matched.same-prefix key matched.length5 matched.length5' (unfold Equal string_at in q) i l
+      ∙ commitments-same hash hash-length p e e' matched.same-prefix matched.length5 matched.length5' (unfold Equal string_at in q) i l
       ∙ commitment-disclosed hash p e' i n'
 
   -- the strings at a place that is compared have one digest, where those of the places before it are equal
@@ -154,5 +154,5 @@ module _ (hash : List ℕ → ℕ → List ℕ) (hash-length : (s : List ℕ) (n
 
   pub same-commitments : AllEqual → (i : ℕ) → i < leaves p → leaf_commitment hash p e i ≡ leaf_commitment hash p e' i
   same-commitments h =
-      commitments-same hash hash-length p e e' matched.same-prefix key matched.length5 matched.length5'
+      commitments-same hash hash-length p e e' matched.same-prefix matched.length5 matched.length5'
       (unfold Equal string_at in h (5, 0) (mem-compared p e e' (5, 0) at_commitment))

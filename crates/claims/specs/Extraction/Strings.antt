@@ -8,7 +8,7 @@
 -- digests-same         layer 7: every axis's digest is the same
 -- axis-same            layer 6: the parties of the axis announce the same
 use Rattle.std.specs.Prelude.{◌≡◌, cond, ℕ, ◌<◌, length, drop}
-use Rattle.std.proofs.Math.Path.{refl, sym, ap}
+use Rattle.std.proofs.Math.Path.{sym, ap}
 use Rattle.std.proofs.Common.{◌∙◌}
 use mathlib.Core.List.{List, []}
 use Rattle.parameters.specs.declared.Parameters.{Parameters}
@@ -17,7 +17,6 @@ use Rattle.exchange.specs.Sequences.Laws.{append_inj, joined-inj}
 use Rattle.exchange.specs.Strings.{string, string4, string5, string7}
 use Rattle.exchange.specs.Leaf.Laws.{SameAux, length-state}
 use Rattle.exchange.specs.Values.{Key}
-use Rattle.exchange.specs.KeyDigest.{key_digest}
 use Rattle.exchange.specs.Parties.{axis_string}
 use Rattle.exchange.specs.Parties.Laws.{axis_string-inj}
 use Rattle.exchange.specs.Opening.{Exchange, aux_of, opened_state, leaf_string, leaf_commitment, commitment_string, announced, response_string}
@@ -51,15 +50,15 @@ module _ (hash : List ℕ → ℕ → List ℕ) (hash-length : (s : List ℕ) (n
       string4-inj p e.prefix e'.prefix i (opened_state hash p e i) (opened_state hash p e' i) (aux_of p e) (aux_of p e') same-prefix
       (length-opened e i ∙ sym (length-opened e' i)) q
 
-  module _ (key : Key) where
-    pub commitments-same : length e.message5 ≡ message5_length p e.leaf → length e'.message5 ≡ message5_length p e'.leaf
-        → commitment_string hash p e key ≡ commitment_string hash p e' key → (i : ℕ) → i < leaves p → leaf_commitment hash p e i ≡ leaf_commitment hash p e' i
-    unfolding commitment_string string5
-    commitments-same l l' q =
-        joined-inj (leaf_commitment hash p e) (leaf_commitment hash p e') (leaves p) 32
-        (λ i h. length-commitments hash p e hash-length l i) (λ i h. length-commitments hash p e' hash-length l' i)
-        (append_inj (key_digest hash p key) _ (key_digest hash p key) _ refl (strings-inj 5 e.prefix e'.prefix _ _ same-prefix q)).1
+  pub commitments-same : length e.message5 ≡ message5_length p e.leaf → length e'.message5 ≡ message5_length p e'.leaf
+      → commitment_string hash p e ≡ commitment_string hash p e' → (i : ℕ) → i < leaves p → leaf_commitment hash p e i ≡ leaf_commitment hash p e' i
+  unfolding commitment_string string5
+  commitments-same l l' q =
+      joined-inj (leaf_commitment hash p e) (leaf_commitment hash p e') (leaves p) 32
+      (λ i h. length-commitments hash p e hash-length l i) (λ i h. length-commitments hash p e' hash-length l' i)
+      (strings-inj 5 e.prefix e'.prefix _ _ same-prefix q)
 
+  module _ (key : Key) where
     -- layer 6's string of axis j, counted from 0
     abbrev pub axis_string_of : Exchange → ℕ → List ℕ
     axis_string_of e j = axis_string p e.prefix j (announced hash p e key j)

@@ -23,7 +23,7 @@ use Rattle.tower.specs.Field.Laws.{bytes_of-point}
 use Rattle.shake256.specs.Fips.{SHAKE256}
 use Rattle.answers.specs.declared.Answer.{Answer}
 use Rattle.answers.specs.declared.Answer.TheVariants.{Done, Refused}
-use Rattle.answers.specs.declared.Refusal.TheVariants.{Parameter, Length, Leaf, Exchange as Differs, SameLeaf, NotDue, Closed as ExchangeClosed, SamePoint, OtherKey}
+use Rattle.answers.specs.declared.Refusal.TheVariants.{Parameter, Length, Leaf, Exchange as Differs, SameLeaf, NotDue, Closed as ExchangeClosed, SamePoint}
 use Rattle.answers.specs.Number.{refusal_number, answer_number}
 use Rattle.answers.specs.Checks.{checks}
 use Rattle.parameters.specs.declared.Parameters.{Parameters}
@@ -94,33 +94,31 @@ points-alone p n m2 m2' same = same_test _ _ (agreeing p n m2 m2' same) (agreein
 
 -- ---- points calls
 
--- 15 or nothing stands behind 14
-abbrev row : Bool → Bool → Bool → Bool → Bool → Answer
-row a b c d e = checks ((a, ExchangeClosed) ∷ (b, NotDue) ∷ (c, Length) ∷ (d, SamePoint) ∷ (e, OtherKey) ∷ [])
+abbrev row : Bool → Bool → Bool → Bool → Answer
+row a b c d = checks ((a, ExchangeClosed) ∷ (b, NotDue) ∷ (c, Length) ∷ (d, SamePoint) ∷ [])
 
-row_carried : (a b c d e : Bool) → answer_number (row a b c d e) ≡ 0 → d ≡ true
-row_carried false b c d e q = absurd (omega arith)
-row_carried true false c d e q = absurd (omega arith)
-row_carried true true false d e q = absurd (omega arith)
-row_carried true true true false e q = absurd (omega arith)
-row_carried true true true true e q = refl
+row_carried : (a b c d : Bool) → answer_number (row a b c d) ≡ 0 → d ≡ true
+row_carried false b c d e = absurd (omega arith)
+row_carried true false c d e = absurd (omega arith)
+row_carried true true false d e = absurd (omega arith)
+row_carried true true true false e = absurd (omega arith)
+row_carried true true true true e = refl
 
-row-14 : (a b c d e : Bool) → answer_number (row (not a) b c d e) ≡ 14 → (a ≡ false) × (b ≡ true) × (c ≡ true) × (d ≡ false)
-row-14 true b c d e q = absurd (omega arith)
-row-14 false false c d e q = absurd (omega arith)
-row-14 false true false d e q = absurd (omega arith)
-row-14 false true true true true q = absurd (omega arith)
-row-14 false true true true false q = absurd (omega arith)
-row-14 false true true false e q = (refl, refl, refl, refl)
+row-14 : (a b c d : Bool) → answer_number (row (not a) b c d) ≡ 14 → (a ≡ false) × (b ≡ true) × (c ≡ true) × (d ≡ false)
+row-14 true b c d e = absurd (omega arith)
+row-14 false false c d e = absurd (omega arith)
+row-14 false true false d e = absurd (omega arith)
+row-14 false true true true e = absurd (omega arith)
+row-14 false true true false e = (refl, refl, refl, refl)
 
-module _ (closed due lengths : Bool) (p : Parameters) (runs : ℕ) (m2 : List ℕ) (same : Bool) (n : ℕ)
-    (numbered : n ≡ answer_number (row (not closed) due lengths (distinct_points p runs m2) same)) where
+module _ (closed due lengths : Bool) (p : Parameters) (runs : ℕ) (m2 : List ℕ) (n : ℕ)
+    (numbered : n ≡ answer_number (row (not closed) due lengths (distinct_points p runs m2))) where
   carried-distinct : n ≡ 0 → DistinctPoints p runs m2
-  carried-distinct e = points-distinct p runs m2 (row_carried (not closed) due lengths _ same (sym numbered ∙ e))
+  carried-distinct e = points-distinct p runs m2 (row_carried (not closed) due lengths _ (sym numbered ∙ e))
 
   only-repeated : n ≡ 14 → RepeatedPoint closed due lengths p runs m2
   only-repeated e =
-      let f = row-14 closed due lengths (distinct_points p runs m2) same (sym numbered ∙ e) in
+      let f = row-14 closed due lengths (distinct_points p runs m2) (sym numbered ∙ e) in
       record { not-closed = f.0; is-due = f.1; lengths-right = f.2; not-distinct = not-distinct p runs m2 f.3 }
 
   repeated-14 : RepeatedPoint closed due lengths p runs m2 → n ≡ 14
@@ -132,7 +130,7 @@ module _ (closed due lengths : Bool) (p : Parameters) (runs : ℕ) (m2 : List �
 prover-number : (hash : List ℕ → ℕ → List ℕ) (s : Prover) (m2 : List ℕ) (key : Key) (work out : List ℕ)
     → (prover.points hash s m2 key work out).answer
     ≡ answer_number (row (not (prover.closed s)) (prover.points_due s) (all_true (points_lengths s.parameters s.runs m2 key work out))
-    (distinct_points s.parameters s.runs m2) (prover.same_key hash s key))
+    (distinct_points s.parameters s.runs m2))
 unfolding outcome prover.points_checks
 prover-number hash s m2 key work out = number-of hash s (points_call m2 key work out)
 
@@ -142,7 +140,7 @@ settle-number (Refused r) s next = refl
 
 verifier-number : (s : Verifier) (m2 : List ℕ) → (verifier.points s m2).answer
     ≡ answer_number (row (not (verifier.closed s)) (verifier.due s Begun) (eqb (length m2) (messages2_length s.parameters s.runs))
-    (distinct_points s.parameters s.runs m2) true)
+    (distinct_points s.parameters s.runs m2))
 unfolding verifier.points verifier.points_checks
 verifier-number s m2 = settle-number (verifier.points_checks s m2) s (verifier.pointed s m2)
 
@@ -283,16 +281,16 @@ request02 = record {
   points-differ-pairwise = record {
     at-prover = λ s m2 key work out.
         carried-distinct (prover.closed s) (prover.points_due s) (all_true (points_lengths s.parameters s.runs m2 key work out))
-        s.parameters s.runs m2 (prover.same_key SHAKE256 s key) _ (prover-number SHAKE256 s m2 key work out);
+        s.parameters s.runs m2 _ (prover-number SHAKE256 s m2 key work out);
     at-verifier = λ s m2.
         carried-distinct (verifier.closed s) (verifier.due s Begun) (eqb (length m2) (messages2_length s.parameters s.runs))
-        s.parameters s.runs m2 true _ (verifier-number s m2);
+        s.parameters s.runs m2 _ (verifier-number s m2);
     at-extractor = both-carried SHAKE256;
     in-accepted-openings = accepted-distinct SHAKE256;
   };
   repeated-point-gets-14 = record {
-    at-prover = λ s m2 key work out. gets-14 _ _ _ s.parameters s.runs m2 (prover.same_key SHAKE256 s key) _ (prover-number SHAKE256 s m2 key work out);
-    at-verifier = λ s m2. gets-14 _ _ _ s.parameters s.runs m2 true _ (verifier-number s m2);
+    at-prover = λ s m2 key work out. gets-14 _ _ _ s.parameters s.runs m2 _ (prover-number SHAKE256 s m2 key work out);
+    at-verifier = λ s m2. gets-14 _ _ _ s.parameters s.runs m2 _ (verifier-number s m2);
     at-extractor = λ p runs t t' key work out. (only-either SHAKE256 p runs t t' key work out, either-14 SHAKE256 p runs t t' key work out);
   };
   multipliers-may-repeat = points-alone;

@@ -78,13 +78,13 @@ module _ (hash : List ℕ → ℕ → List ℕ) (hash-length : (s : List ℕ) (n
       pub member : In y ys
       pub prefix-is : y.prefix ≡ prefix
       pub length5 : length y.message5 ≡ message5_length p y.leaf
-      pub digest : hash (commitment_string hash p y key) 32 ≡ h
+      pub digest : hash (commitment_string hash p y) 32 ≡ h
 
     module _ {y y' : Exchange} (a : Listed y) (a' : Listed y') where
       same-prefix : y.prefix ≡ y'.prefix
       same-prefix = a.prefix-is ∙ sym a'.prefix-is
 
-      same-commitment_string : commitment_string hash p y key ≡ commitment_string hash p y' key
+      same-commitment_string : commitment_string hash p y ≡ commitment_string hash p y'
       unfolding string_at
       same-commitment_string = equal-strings a.member a'.member at5 at5 (a.digest ∙ sym a'.digest)
 
@@ -93,7 +93,7 @@ module _ (hash : List ℕ → ℕ → List ℕ) (hash-length : (s : List ℕ) (n
       same-leaf_string i l n n' =
           equal-strings a.member a'.member (at4 i l n) (at4 i l n')
           (sym (commitment-disclosed hash p y i n)
-          ∙ commitments-same hash hash-length p y y' same-prefix key a.length5 a'.length5 same-commitment_string i l
+          ∙ commitments-same hash hash-length p y y' same-prefix a.length5 a'.length5 same-commitment_string i l
           ∙ commitment-disclosed hash p y' i n')
 
       pub same-leaf : (i : ℕ) → i < leaves p → (i ≡ y.leaf → ⊥) → (i ≡ y'.leaf → ⊥)

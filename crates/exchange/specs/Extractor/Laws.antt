@@ -91,7 +91,7 @@ module _ (hash : List ℕ → ℕ → List ℕ) (p : Parameters) (key : Key) whe
   unfolding string_at
   string-6 e j = let q : j + 1 - 1 ≡ j = omega arith in ap (λ (j : ℕ). axis_string p e.prefix j (announced hash p e key j)) q
 
-  pub string-5 : (e : Exchange) → string_at hash p key e 5 0 ≡ commitment_string hash p e key
+  pub string-5 : (e : Exchange) → string_at hash p key e 5 0 ≡ commitment_string hash p e
   unfolding string_at
   string-5 e = refl
 

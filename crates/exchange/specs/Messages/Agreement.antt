@@ -37,7 +37,6 @@ use Rattle.exchange.specs.Announcing.Laws.{same_bytes, none-alpha, none-beta, no
 use Rattle.exchange.specs.Opening.{Exchange, exchange, announced, response_string, verdict}
 use Rattle.exchange.specs.Opening.Cube.{opened_w, opened_v, opened-announced, opened-verified}
 use Rattle.exchange.specs.Opening.Laws.{accepted-when, sums-agree}
-use Rattle.exchange.specs.KeyDigest.{key_digest}
 use Rattle.exchange.specs.Messages.{own_share, own_party, own_announced, message1, message3, message5}
 use Rattle.exchange.specs.Messages.Laws.{Secret}
 use Rattle.exchange.specs.Messages.Opened.{honest, exchange-is, alpha-is, beta-is, share-is, commitment_string-is}
@@ -166,5 +165,5 @@ module _ (hash : List ℕ → ℕ → List ℕ) (hash-length : (s : List ℕ) (n
       })
 
   pub messages-accepted : length run.prefix ≡ prefix_length
-      → verdict hash p (exchange (message1 hash p x run (key_digest hash p key)) m2 (message3 hash p x run key m2) u (message5 hash p x run key m2 u)) key ≡ Done
+      → verdict hash p (exchange (message1 hash p x run) m2 (message3 hash p x run key m2) u (message5 hash p x run key m2 u)) key ≡ Done
   messages-accepted h = ap (λ (e : Exchange). verdict hash p e key) (exchange-is hash p x run key m2 u h) ∙ honest-accepted

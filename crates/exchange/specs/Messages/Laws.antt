@@ -93,9 +93,9 @@ module _ (hash : List ℕ → ℕ → List ℕ) (hash-length : (s : List ℕ) (n
   unfolding own_commitment
   length-own_commitment i = length-commitment hash hash-length p run.prefix i (own_state hash p x run i) (own_aux hash p x run)
 
-  pub length-message1 : length run.prefix ≡ 32 → (digest : List ℕ) → length (message1 hash p x run digest) ≡ 64
+  pub length-message1 : length run.prefix ≡ 32 → length (message1 hash p x run) ≡ 64
   unfolding message1
-  length-message1 e digest = length-append run.prefix _ ∙ ap₂ ◌+◌ e (hash-length _ 32)
+  length-message1 e = length-append run.prefix _ ∙ ap₂ ◌+◌ e (hash-length _ 32)
 
   module _ (key : Key) (m2 : List ℕ) where
     pub length-message3 : length (message3 hash p x run key m2) ≡ 32

@@ -27,7 +27,6 @@ use Rattle.exchange.specs.Leaf.Laws.{SameAux, share-ext, string4-ext, length-com
 use Rattle.exchange.specs.Reading.{point_at, encode}
 use Rattle.exchange.specs.Reading.Laws.{length-encode, point_at-encode}
 use Rattle.exchange.specs.Values.{Key, alpha, beta}
-use Rattle.exchange.specs.KeyDigest.{key_digest}
 use Rattle.exchange.specs.Messages.{own_state, own_aux, own_share, own_commitment, message1, message3, message5}
 use Rattle.exchange.specs.Opening.{Exchange, exchange, path_of, commitment_of, alpha_of, beta_of, aux_of, opened_state, opened_share, leaf_string, leaf_commitment, commitment_string}
 
@@ -35,7 +34,7 @@ module _ (hash : List ℕ → ℕ → List ℕ) (p : Parameters) (x : List ℕ) 
   abbrev pub honest : Exchange
   honest = record {
     prefix = run.prefix;
-    h = hash (string5 run.prefix (key_digest hash p key) (own_commitment hash p x run) (leaves p)) 32;
+    h = hash (string5 run.prefix (own_commitment hash p x run) (leaves p)) 32;
     message2 = m2;
     message3 = message3 hash p x run key m2;
     leaf = u;
@@ -43,7 +42,7 @@ module _ (hash : List ℕ → ℕ → List ℕ) (p : Parameters) (x : List ℕ) 
   }
 
   pub exchange-is : length run.prefix ≡ prefix_length
-      → exchange (message1 hash p x run (key_digest hash p key)) m2 (message3 hash p x run key m2) u (message5 hash p x run key m2 u) ≡ honest
+      → exchange (message1 hash p x run) m2 (message3 hash p x run key m2) u (message5 hash p x run key m2 u) ≡ honest
   unfolding exchange message1
   exchange-is e =
       ap₂ (λ (prefix h : List ℕ). record {
@@ -166,7 +165,7 @@ module _ (hash : List ℕ → ℕ → List ℕ) (p : Parameters) (x : List ℕ) 
           go (yes e) = rw (eq-eqb i u e) (commitment-is ∙ ap (own_commitment hash p x run) (sym e))
           go (no n) = rw (ne_eqb i u n) (ap (λ (s : List ℕ). hash s 32) (leaf_string-is i l n))
 
-      pub commitment_string-is : commitment_string hash p honest key ≡ string5 run.prefix (key_digest hash p key) (own_commitment hash p x run) (leaves p)
+      pub commitment_string-is : commitment_string hash p honest ≡ string5 run.prefix (own_commitment hash p x run) (leaves p)
       unfolding commitment_string string5
       commitment_string-is =
-          ap (λ (s : List ℕ). string 5 run.prefix (key_digest hash p key ++ s)) (joined-ext (leaf_commitment hash p honest) (own_commitment hash p x run) (leaves p) commitments-are)
+          ap (string 5 run.prefix) (joined-ext (leaf_commitment hash p honest) (own_commitment hash p x run) (leaves p) commitments-are)

@@ -43,7 +43,7 @@ module _ (hash : List ℕ → ℕ → List ℕ) (p : Parameters) (e : Exchange) 
   pub accepted-then : verdict hash p e key ≡ Done → Accepted hash p e key
   unfolding verdict
   accepted-then q =
-      let rest = check-rest (eq_list (hash (commitment_string hash p e key) 32) e.h) _ _ q in
+      let rest = check-rest (eq_list (hash (commitment_string hash p e) 32) e.h) _ _ q in
       record {
         commitment = eq_list-true _ _ (check-true _ _ _ q);
         sums_same = λ j h. sums-agree j 0;

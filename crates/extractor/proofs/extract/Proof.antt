@@ -9,15 +9,12 @@ use borrow.Author.Tests.{not-true, not-false}
 use lib.ListN.{length, take, drop, replicate, length-append, length-drop, length-replicate}
 use lib.Seq.{length-take-le, take_at}
 use Rattle.shake256.specs.Fips.{SHAKE256}
-use Rattle.shake256.proofs.Laws.{length-SHAKE256}
 use Rattle.answers.specs.declared.Answer.{Answer}
 use Rattle.answers.specs.declared.Answer.TheVariants.{Done}
 use Rattle.lists.specs.Zeroed.{zeroed}
 use Rattle.layout.specs.Layout.{work_length}
 use Rattle.layout.specs.Maxima.{most_statement}
 use Rattle.exchange.specs.Values.{Key, key_of}
-use Rattle.exchange.specs.KeyDigest.{key_digest}
-use Rattle.exchange.specs.KeyDigest.Laws.{length-key_digest}
 use Rattle.runs.specs.Opening.{Transcript, transcript, exchange_at}
 use Rattle.calls.specs.Extractor.{early_checks}
 use Rattle.openings.specs.Statement.{statement_at}
@@ -38,14 +35,14 @@ use Rattle.extractor.proofs.extract.Statement.{statement}
 use Rattle.extractor.proofs.extract.Tie as tie
 
 abbrev invariant-loop : tie.invariant-loop
-invariant-loop p runs first1 first2 first3 first4 first5 second1 second2 second3 second4 second5 matrix y work₀ out same size digest statement₀ openings₀ best₀ run₀ work
+invariant-loop p runs first1 first2 first3 first4 first5 second1 second2 second3 second4 second5 matrix y work₀ out same size statement₀ openings₀ best₀ run₀ work
     statement openings best run =
     (known : Early SHAKE256 p runs (transcript first1 first2 first3 first4 first5) (transcript second1 second2 second3 second4 second5) (key_of matrix y) work₀ out)
     → Loop p runs (transcript first1 first2 first3 first4 first5) (transcript second1 second2 second3 second4 second5) (key_of matrix y) work₀ out known work
     statement openings best run
 
 abbrev decreases-loop : tie.decreases-loop
-decreases-loop p runs first1 first2 first3 first4 first5 second1 second2 second3 second4 second5 matrix y work₀ out same size digest statement₀ openings₀ best₀ run₀ work
+decreases-loop p runs first1 first2 first3 first4 first5 second1 second2 second3 second4 second5 matrix y work₀ out same size statement₀ openings₀ best₀ run₀ work
     statement openings best run = runs - run
 
 abbrev Start : Type 0
@@ -112,17 +109,8 @@ told_of c = search
 abbrev begin : Size → Start
 begin c = entry (told_of c)
 
-abbrev Digest : Type 0
-Digest = tie.After-key-digest invariant-loop decreases-loop
-
-abbrev digest-of : tie.At-loop invariant-loop decreases-loop → Digest
-digest-of c = search
-
 abbrev size_of : tie.At-loop invariant-loop decreases-loop → Size
-size_of c = (digest-of c).before
-
-digest-long : (c : Digest) → length c.key-digest.result ≡ 32
-digest-long c = ap length c.key-digest.ensures ∙ length-key_digest SHAKE256 length-SHAKE256 _ _
+size_of c = search
 
 loop-holds : tie.Need-loop-init invariant-loop decreases-loop
 loop-holds c k = let none : tie.After-nothing-yet invariant-loop decreases-loop = search in let size : Size = search in let s = begin size in
@@ -160,8 +148,8 @@ front c = length-take-le _ c.before.loop.statement (omega (arith, fits c, (c.bef
 
 put-statement-requires : tie.Need-put-statement-requires invariant-loop decreases-loop
 put-statement-requires c κs = let f : In = search in let s = in_start f in
-    statement-asked s.args.p s.args.runs (first_of s) (second-of s) (key-of s) s.args.work.now s.args.out.now (in-known f) f.before.loop.run _ _
-    (below f) (digest-long (digest-of f.before)) (front f ∙ (in_size f).statement-length.ensures)
+    statement-asked s.args.p s.args.runs (first_of s) (second-of s) (key-of s) s.args.work.now s.args.out.now (in-known f) f.before.loop.run _
+    (below f) (front f ∙ (in_size f).statement-length.ensures)
 
 abbrev Put : Type 0
 Put = tie.After-put-statement invariant-loop decreases-loop
@@ -170,10 +158,10 @@ abbrev put_in : Put → In
 put_in c = search
 
 abbrev made : Put → List ℕ
-made c = c.put-statement.new.1.1.1.1.1.1.0
+made c = c.put-statement.new.1.1.1.1.1.0
 
 made-size : (c : Put) → length (made c) ≡ (in_size (put_in c)).statement-length.result
-made-size c = c.put-statement.auto.1.1.1.1.1.1.0 ∙ front (put_in c)
+made-size c = c.put-statement.auto.1.1.1.1.1.0 ∙ front (put_in c)
 
 abbrev filled_in : Put → List ℕ
 filled_in c = made c ++ drop (in_size (put_in c)).statement-length.result (put_in c).before.loop.statement
@@ -194,11 +182,7 @@ stated c = take (in_size (put_in c)).statement-length.result (filled_in c)
 
 stated-is : (c : Put) → let s = in_start (put_in c) in
     stated c ≡ statement_at s.args.p (put_in c).before.loop.run s.args.first1.now s.args.first2.now s.args.first3.now
-    (key_digest SHAKE256 s.args.p (key-of s))
-stated-is c = let s = in_start (put_in c) in
-    take_at (made c) _ _ (made-size c) ∙ c.put-statement.ensures
-    ∙ ap (statement_at s.args.p (put_in c).before.loop.run s.args.first1.now s.args.first2.now s.args.first3.now)
-    (digest-of (put_in c).before).key-digest.ensures
+stated-is c = take_at (made c) _ _ (made-size c) ∙ c.put-statement.ensures
 
 abbrev Paired : Type 0
 Paired = tie.After-pair-at invariant-loop decreases-loop
@@ -334,9 +318,8 @@ returns-4 c = let answer : tie.After-extracted invariant-loop decreases-loop = s
 pub extract-spec : {M : Type 1} → statement M
 extract-spec = tie.close (tie.spec invariant-loop decreases-loop (λ c κs. search rules) (λ c κs. search rules) (λ c κs. search rules) (λ c κs. search rules)
     (λ c κs. search rules) (λ c. search rules) (λ c. search rules) (λ c. search rules) (λ c. search rules) returns
-    (λ c κs. let told : tie.After-enum-told invariant-loop decreases-loop = search in (known told).within)
     (λ c κs. let told : tie.After-enum-told invariant-loop decreases-loop = search in (known told).within) (λ c κs. search rules) loop-holds
-    (λ c. omega (arith, few c)) (λ c. let f : In = search in sym (digest-long (digest-of f.before))) (λ c. let f : In = search in omega (arith, fits f, (f.before.loop.inv (in-known f)).sized-statement)) (λ c. let f : In = search in sym (front f)) put-statement-requires
+    (λ c. omega (arith, few c)) (λ c. omega (arith, fits c, (c.before.loop.invariant (in-known c)).sized-statement)) (λ c. let f : In = search in sym (front f)) put-statement-requires
     (λ c κs. let put : Put = search in let f = put_in put in let s = in_start f in
     places s.args.p s.args.runs (first_of s) (second-of s) (key-of s) s.args.work.now s.args.out.now (in-known f) f.before.loop.run (below f))
     (λ c. let pair : Paired = search in let put = paired-put pair in omega (arith, fits (put_in put), whole put))

@@ -1,14 +1,14 @@
 -- The comparison of what was recomputed is the extractor's answer.
 --
 -- eq_list-same          comparisons that say the same
--- joined-apart         strings of joined families, behind the same front, differ where the families do
+-- joined-apart         strings of joined families differ where the families do
 -- Shows                what a view shows of an exchange
 -- comparison-is        two views of exchanges with one salt and different hidden leaves give what the extractor answers
 use Rattle.std.specs.Prelude.{◌≡◌, Bool, true, ◌&&◌, ℕ, ◌+◌, ◌<◌, eqb, ltb, length, drop}
 use Rattle.std.proofs.Math.Path.{refl, sym, ap, ap₂}
 use Rattle.std.proofs.Common.{◌∙◌, arith}
 use Rattle.std.proofs.Math.Bool.{false, not, cond}
-use mathlib.Core.List.{List, [], ◌∷◌, ◌++◌}
+use mathlib.Core.List.{List, ◌∷◌, ◌++◌}
 use Rattle.std.proofs.Math.Decide.{dec_lt, ℕ_discrete}
 use borrow.Author.Tests.{lt-ltb, le-ltb, eq-eqb, ne_eqb, eqb-false, not-true, not-false}
 use Rattle.lists.specs.Checks.Laws.{and_left, and_right}
@@ -21,10 +21,9 @@ use Rattle.parameters.specs.Limits.{Within}
 use Rattle.layout.specs.Layout.{leaves, message5_length}
 use Rattle.exchange.specs.FirstAxis.{first-trailing}
 use Rattle.exchange.specs.Sequences.{joined, least}
-use Rattle.exchange.specs.Sequences.Laws.{append_inj, joined-ext, joined-inj, Least, least-is}
+use Rattle.exchange.specs.Sequences.Laws.{joined-ext, joined-inj, Least, least-is}
 use Rattle.exchange.specs.Strings.{string, string4, string5, string7}
 use Rattle.exchange.specs.Values.{Key}
-use Rattle.exchange.specs.KeyDigest.{key_digest}
 use Rattle.exchange.specs.Parties.{axis_string}
 use Rattle.exchange.specs.Parties.Laws.{string-inj}
 use Rattle.exchange.specs.Opening.{Exchange, commitment_of, aux_of, opened_state, leaf_string, leaf_commitment, commitment_string, announced, response_string}
@@ -53,9 +52,9 @@ eq_list-same a b c d to from = go (eq_list a b) refl
     go true e = e ∙ sym (eq_list-of c d (to (eq_list-true a b e)))
     go false e = e ∙ sym (eq_list-apart c d (λ q. eq_list-false a b e (from q)))
 
-module _ (f g : ℕ → List ℕ) (n size layer : ℕ) (prefix front : List ℕ) (hf : (i : ℕ) → i < n → length (f i) ≡ size)
+module _ (f g : ℕ → List ℕ) (n size layer : ℕ) (prefix : List ℕ) (hf : (i : ℕ) → i < n → length (f i) ≡ size)
     (hg : (i : ℕ) → i < n → length (g i) ≡ size) where
-  pub joined-apart : ltb (least (apart f g) n) n ≡ not (eq_list (string layer prefix (front ++ joined f n)) (string layer prefix (front ++ joined g n)))
+  pub joined-apart : ltb (least (apart f g) n) n ≡ not (eq_list (string layer prefix (joined f n)) (string layer prefix (joined g n)))
   unfolding apart
   joined-apart = go (dec_lt (least (apart f g) n) n)
     where
@@ -65,19 +64,17 @@ module _ (f g : ℕ → List ℕ) (n size layer : ℕ) (prefix front : List ℕ)
       same : (least (apart f g) n < n → ⊥) → (i : ℕ) → i < n → f i ≡ g i
       same h i l = eq_list-true (f i) (g i) (not-false (eq_list (f i) (g i)) (first.before i (let m = first.most in omega arith)))
 
-      other : least (apart f g) n < n → string layer prefix (front ++ joined f n) ≡ string layer prefix (front ++ joined g n) → ⊥
+      other : least (apart f g) n < n → string layer prefix (joined f n) ≡ string layer prefix (joined g n) → ⊥
       other l e =
           eq_list-false (f (least (apart f g) n)) (g (least (apart f g) n)) (not-true _ (first.passes l))
-          (joined-inj f g n size hf hg
-          (append_inj front (joined f n) front (joined g n) refl (string-inj layer prefix (front ++ joined f n) (front ++ joined g n) e)).1
-          (least (apart f g) n) l)
+          (joined-inj f g n size hf hg (string-inj layer prefix (joined f n) (joined g n) e) (least (apart f g) n) l)
 
       go : Dec (least (apart f g) n < n)
-          → ltb (least (apart f g) n) n ≡ not (eq_list (string layer prefix (front ++ joined f n)) (string layer prefix (front ++ joined g n)))
+          → ltb (least (apart f g) n) n ≡ not (eq_list (string layer prefix (joined f n)) (string layer prefix (joined g n)))
       go (yes l) = lt-ltb _ _ l ∙ sym (ap not (eq_list-apart _ _ (other l)))
       go (no h) =
           le-ltb (least (apart f g) n) n (omega arith)
-          ∙ sym (ap not (eq_list-of _ _ (ap (λ (s : List ℕ). string layer prefix (front ++ s)) (joined-ext f g n (same h)))))
+          ∙ sym (ap not (eq_list-of _ _ (ap (string layer prefix) (joined-ext f g n (same h)))))
 
 -- ---- a view of an exchange
 
@@ -106,10 +103,10 @@ module _ (p : Parameters) (key : Key) (prefix : List ℕ) (e : Exchange) (v : Vi
       sym (opened-commitments p e v.states v.given v.aux (λ i l q. sym (s.state i l q)) (sym s.given) (sym s.aux) i l)
       ∙ ap₂ (λ (q : List ℕ) (u : ℕ). commitments_of p q v.states u v.given v.aux i) s.salt s.leaf
 
-  commitment-string : commitment_string SHAKE256 p e key ≡ string 5 prefix (key_digest SHAKE256 p key ++ joined (commitments p prefix v) (leaves p))
+  commitment-string : commitment_string SHAKE256 p e ≡ string 5 prefix (joined (commitments p prefix v) (leaves p))
   unfolding commitment_string string5
   commitment-string =
-      ap₂ (λ (q c : List ℕ). string 5 q (key_digest SHAKE256 p key ++ c)) s.salt
+      ap₂ (string 5) s.salt
       (joined-ext (leaf_commitment SHAKE256 p e) (commitments p prefix v) (leaves p) commitment-at)
 
   length-commitment : (i : ℕ) → i < leaves p → length (commitments p prefix v i) ≡ 32
@@ -128,7 +125,7 @@ module _ (p : Parameters) (within : Within p) (key : Key) (prefix : List ℕ) (e
   at_7 =
       ap₂ (λ (a b : List ℕ). not (eq_list a b)) (string-7 SHAKE256 p key e ∙ response-string p key prefix e v s)
       (string-7 SHAKE256 p key e' ∙ response-string p key prefix e' v' s')
-      ∙ sym (joined-apart (digest_at p prefix v.rows) (digest_at p prefix v'.rows) p.axes 32 7 prefix []
+      ∙ sym (joined-apart (digest_at p prefix v.rows) (digest_at p prefix v'.rows) p.axes 32 7 prefix
       (λ j l. unfold digest_at in length-SHAKE256 _ 32) (λ j l. unfold digest_at in length-SHAKE256 _ 32))
 
   at-6 : least (λ j. differs_at SHAKE256 p key e e' 6 (j + 1)) p.axes ≡ first_apart (row_at p v.rows) (row_at p v'.rows) p.axes
@@ -146,7 +143,7 @@ module _ (p : Parameters) (within : Within p) (key : Key) (prefix : List ℕ) (e
   at_5 =
       ap₂ (λ (a b : List ℕ). not (eq_list a b)) (string-5 SHAKE256 p key e ∙ commitment-string p key prefix e v s)
       (string-5 SHAKE256 p key e' ∙ commitment-string p key prefix e' v' s')
-      ∙ sym (joined-apart _ _ (leaves p) 32 5 prefix (key_digest SHAKE256 p key) (length-commitment p key prefix e v s) (length-commitment p key prefix e' v' s'))
+      ∙ sym (joined-apart _ _ (leaves p) 32 5 prefix (length-commitment p key prefix e v s) (length-commitment p key prefix e' v' s'))
 
   at-4 : least (λ i. opened_in_both e.leaf e'.leaf i && differs_at SHAKE256 p key e e' 4 i) (leaves p) ≡ first_opened v.leaf v'.leaf (leaf_at p v.states v.aux) (leaf_at p v'.states v'.aux) (leaves p)
   unfolding first_opened

@@ -3,20 +3,19 @@
 -- commitments_of-hidden, commitments_of-other   the hidden leaf's commitment, and any other's
 -- commitments-begun     hashed on from the start of layer 4, they are these
 -- committed-none, committed-more, committed-digest   a sponge that absorbs them one after another, and its digest
--- string5-ext           layer 5's string depends, beside prefix and key digest, on the commitments alone that it holds
--- commitments-message1  the key digest, the prover's states and aux, and no leaf hidden: message 1
+-- string5-ext           layer 5's string depends on the commitments alone that it holds
+-- commitments-message1  the prover's states and aux, and no leaf hidden: message 1
 -- opened-commitments    the commitments of an opening, from the states of its disclosed leaves, its aux and the hidden leaf's commitment
--- commitments-string    the key digest, the states of an opening's disclosed leaves, its aux and the hidden leaf's commitment: layer 5's string
-use Rattle.std.specs.Prelude.{◌≡◌, ℕ, ◌+◌, ◌≤◌, ◌<◌, eqb}
-use Rattle.std.proofs.Math.Path.{refl, ap, ap₂}
+-- commitments-string    the states of an opening's disclosed leaves, its aux and the hidden leaf's commitment: layer 5's string
+use Rattle.std.specs.Prelude.{◌≡◌, refl, ℕ, ◌+◌, ◌≤◌, ◌<◌, eqb}
 use Rattle.std.proofs.Common.{sym, ◌∙◌, add-one, arith, eq-eqb, ne_eqb}
+use Rattle.std.proofs.Math.Path.{ap, ap₂}
 use Rattle.std.proofs.Math.Bool.{cond}
 use mathlib.Core.List.{List, [], ◌++◌}
 use Rattle.std.proofs.Math.Decide.{ℕ_discrete}
 use Rattle.shake256.specs.declared.Sponge.{Sponge}
 use Rattle.shake256.specs.Stream.{absorbed}
 use Rattle.shake256.specs.Fips.{SHAKE256}
-use Rattle.shake256.proofs.Sponges.{absorbed-append}
 use Rattle.parameters.specs.declared.Parameters.{Parameters}
 use Rattle.layout.specs.Layout.{leaves}
 use Rattle.exchange.specs.Run.{Run}
@@ -24,8 +23,6 @@ use Rattle.exchange.specs.Sequences.{joined}
 use Rattle.exchange.specs.Sequences.Laws.{joined-ext}
 use Rattle.exchange.specs.Strings.{string, string5}
 use Rattle.exchange.specs.Leaf.{commitment}
-use Rattle.exchange.specs.Values.{Key}
-use Rattle.exchange.specs.KeyDigest.{key_digest}
 use Rattle.exchange.specs.Messages.{own_state, own_aux, own_commitment, message1}
 use Rattle.exchange.specs.Opening.{Exchange, commitment_of, aux_of, opened_state, leaf_string, leaf_commitment, commitment_string}
 use Rattle.strings.specs.Digest.{begun, hashed}
@@ -34,25 +31,21 @@ use Rattle.leaves.specs.After.Laws.{commitment-begun}
 use Rattle.leaves.specs.States.{state_at}
 use Rattle.leaves.specs.Commitments.{commitments_of, commitments_after, committed}
 
-module _ (prefix d : List ℕ) (f : ℕ → List ℕ) where
-  pub committed-none : absorbed (begun 5 prefix) d ≡ committed prefix d f 0
-  unfolding committed joined absorbed
-  committed-none = refl
+pub committed-none : (prefix : List ℕ) (f : ℕ → List ℕ) → begun 5 prefix ≡ committed prefix f 0
+unfolding committed joined absorbed
+committed-none prefix f = refl
 
-  pub committed-more : (n : ℕ) → absorbed (committed prefix d f n) (f n) ≡ committed prefix d f (n + 1)
-  unfolding committed
-  committed-more n =
-      let s = absorbed (begun 5 prefix) d in absorbed-joined s f n ∙ ap (λ (k : ℕ). absorbed s (joined f k)) (sym (add-one n))
+pub committed-more : (prefix : List ℕ) (f : ℕ → List ℕ) (n : ℕ) → absorbed (committed prefix f n) (f n) ≡ committed prefix f (n + 1)
+unfolding committed
+committed-more prefix f n = absorbed-joined (begun 5 prefix) f n ∙ ap (λ (k : ℕ). absorbed (begun 5 prefix) (joined f k)) (sym (add-one n))
 
-  pub committed-digest : (n size : ℕ) → hashed (committed prefix d f n) [] size ≡ SHAKE256 (string5 prefix d f n) size
-  unfolding committed string5
-  committed-digest n size =
-      ap (λ (s : Sponge). hashed s [] size) (sym (absorbed-append (begun 5 prefix) d (joined f n)))
-      ∙ hashed-streamed (begun 5 prefix) (d ++ joined f n) size ∙ hashed-begun 5 prefix (d ++ joined f n) size
+pub committed-digest : (prefix : List ℕ) (f : ℕ → List ℕ) (n size : ℕ) → hashed (committed prefix f n) [] size ≡ SHAKE256 (string5 prefix f n) size
+unfolding committed string5
+committed-digest prefix f n size = hashed-streamed (begun 5 prefix) (joined f n) size ∙ hashed-begun 5 prefix (joined f n) size
 
-  pub string5-ext : (g : ℕ → List ℕ) (n : ℕ) → ((i : ℕ) → i < n → f i ≡ g i) → string5 prefix d f n ≡ string5 prefix d g n
-  unfolding string5
-  string5-ext g n h = ap (λ (s : List ℕ). string 5 prefix (d ++ s)) (joined-ext f g n h)
+pub string5-ext : (prefix : List ℕ) (f g : ℕ → List ℕ) (n : ℕ) → ((i : ℕ) → i < n → f i ≡ g i) → string5 prefix f n ≡ string5 prefix g n
+unfolding string5
+string5-ext prefix f g n h = ap (string 5 prefix) (joined-ext f g n h)
 
 module _ (p : Parameters) (prefix states : List ℕ) (hidden : ℕ) (given aux : List ℕ) (i : ℕ) where
   pub commitments_of-hidden : i ≡ hidden → commitments_of p prefix states hidden given aux i ≡ given
@@ -80,12 +73,11 @@ module _ (p : Parameters) (x : List ℕ) (run : Run) (states : List ℕ) (hidden
     own-commitments i h =
         commitments_of-other p run.prefix states hidden given aux i (λ e. omega arith) ∙ ap₂ (commitment SHAKE256 p run.prefix i) (own i h) aux-is
 
-    pub commitments-message1 : (d : List ℕ)
-        → run.prefix ++ SHAKE256 (string5 run.prefix d (commitments_of p run.prefix states hidden given aux) (leaves p)) 32 ≡ message1 SHAKE256 p x run d
+    pub commitments-message1 : run.prefix ++ SHAKE256 (string5 run.prefix (commitments_of p run.prefix states hidden given aux) (leaves p)) 32 ≡ message1 SHAKE256 p x run
     unfolding message1
-    commitments-message1 d =
+    commitments-message1 =
         ap (λ (s : List ℕ). run.prefix ++ SHAKE256 s 32)
-        (string5-ext run.prefix d (commitments_of p run.prefix states hidden given aux) (own_commitment SHAKE256 p x run) (leaves p) own-commitments)
+        (string5-ext run.prefix (commitments_of p run.prefix states hidden given aux) (own_commitment SHAKE256 p x run) (leaves p) own-commitments)
 
 -- ---- an opening's
 
@@ -105,9 +97,6 @@ module _ (p : Parameters) (e : Exchange) (states given aux : List ℕ)
             commitments_of-other p e.prefix states e.leaf given aux i q
             ∙ ap₂ (commitment SHAKE256 p e.prefix i) (opened i h q) aux-is ∙ rw (ne_eqb i e.leaf q)
 
-    pub commitments-string : (key : Key) (d : List ℕ) → d ≡ key_digest SHAKE256 p key
-        → string5 e.prefix d (commitments_of p e.prefix states e.leaf given aux) (leaves p) ≡ commitment_string SHAKE256 p e key
+    pub commitments-string : string5 e.prefix (commitments_of p e.prefix states e.leaf given aux) (leaves p) ≡ commitment_string SHAKE256 p e
     unfolding commitment_string
-    commitments-string key d keyed =
-        string5-ext e.prefix d (commitments_of p e.prefix states e.leaf given aux) (leaf_commitment SHAKE256 p e) (leaves p) opened-commitments
-        ∙ ap (λ (k : List ℕ). string5 e.prefix k (leaf_commitment SHAKE256 p e) (leaves p)) keyed
+    commitments-string = string5-ext e.prefix (commitments_of p e.prefix states e.leaf given aux) (leaf_commitment SHAKE256 p e) (leaves p) opened-commitments

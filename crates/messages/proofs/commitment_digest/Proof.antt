@@ -38,7 +38,7 @@ returns c = let told : tie.After-digest-commitments = search in let own : tie.Af
     let a = s.args in let made = own.own-leaves.ensures in let count : tie.After-leaf-count = search in (
       told.digest-commitments.ensures
           ∙ commitment-made a.p (take a.p.m a.x.now) (run_in a.run.now) (root-length a.run.now s.pre.0.run_fits) _ _ _ _ _
-          (tail-part a.run.now 16) ((states-back own).again ∙ made.0) count.leaf-count.ensures ((aux-back own).again ∙ made.1) s.pre.1 _,
+          (tail-part a.run.now 16) ((states-back own).again ∙ made.0) count.leaf-count.ensures ((aux-back own).again ∙ made.1) s.pre.1,
       made.2,
     )
 

@@ -109,13 +109,13 @@ turn-kept d ys at end l k m =
 
 -- ---- the parts
 
-pub prefix-digest : (p : Parameters) (n : ℕ) (x salt root digest : List ℕ) (e : ℕ) (r : Run) (h : List ℕ) → length salt ≡ 32
-    → r ≡ run_at SHAKE256 salt root e → h ≡ drop (length r.prefix) (run.message1 SHAKE256 p x r digest) → h ≡ digest_of SHAKE256 p n x salt root digest e
+pub prefix-digest : (p : Parameters) (n : ℕ) (x salt root : List ℕ) (e : ℕ) (r : Run) (h : List ℕ) → length salt ≡ 32 → r ≡ run_at SHAKE256 salt root e
+    → h ≡ drop (length r.prefix) (run.message1 SHAKE256 p x r) → h ≡ digest_of SHAKE256 p n x salt root e
 unfolding digest_of run_prefix
-prefix-digest p n x salt root digest e r h l er eh =
+prefix-digest p n x salt root e r h l er eh =
     let long : length (salt ++ (e ∷ [])) ≡ prefix_length = length-append salt (e ∷ []) ∙ omega arith in
-    eh ∙ ap (λ (q : Run). drop (length q.prefix) (run.message1 SHAKE256 p x q digest)) er
-    ∙ ap (λ (k : ℕ). drop k (run.message1 SHAKE256 p x (run_at SHAKE256 salt root e) digest)) long
+    eh ∙ ap (λ (q : Run). drop (length q.prefix) (run.message1 SHAKE256 p x q)) er
+    ∙ ap (λ (k : ℕ). drop k (run.message1 SHAKE256 p x (run_at SHAKE256 salt root e))) long
 
 -- message 2 of a run: where it starts and ends, and what stands there
 pub points-inside : (L n e at size len : ℕ) → len ≡ n * L → at ≡ e * L → size ≡ L → e < n → at + size ≤ len
@@ -150,11 +150,11 @@ module _ (p : Parameters) (x salt root : List ℕ) (key : Key) (m2 : List ℕ) w
 
 -- ---- the messages
 
-pub message1-made : (p : Parameters) (n : ℕ) (x salt root digest : List ℕ) (e : ℕ) (d₀ d : List ℕ) (at : ℕ)
-    → Placed (salt ++ joined (digest_of SHAKE256 p n x salt root digest) e) d₀ d at → e ≡ n → length d₀ ≤ at → d ≡ message1 SHAKE256 p n x salt root digest
+pub message1-made : (p : Parameters) (n : ℕ) (x salt root : List ℕ) (e : ℕ) (d₀ d : List ℕ) (at : ℕ)
+    → Placed (salt ++ joined (digest_of SHAKE256 p n x salt root) e) d₀ d at → e ≡ n → length d₀ ≤ at → d ≡ message1 SHAKE256 p n x salt root
 unfolding message1
-message1-made p n x salt root digest e d₀ d at h q l =
-    placed-all _ d₀ d at h l ∙ ap (λ (k : ℕ). salt ++ joined (digest_of SHAKE256 p n x salt root digest) k) q
+message1-made p n x salt root e d₀ d at h q l =
+    placed-all _ d₀ d at h l ∙ ap (λ (k : ℕ). salt ++ joined (digest_of SHAKE256 p n x salt root) k) q
 
 pub message3-made : (p : Parameters) (n : ℕ) (x salt root : List ℕ) (key : Key) (m2 : List ℕ) (e : ℕ) (d₀ d : List ℕ) (at : ℕ)
     → Placed (joined (response p x salt root key m2) e) d₀ d at → e ≡ n → length d₀ ≤ at → d ≡ message3 SHAKE256 p n x salt root key m2

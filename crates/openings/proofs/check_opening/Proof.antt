@@ -109,7 +109,7 @@ returns c = let verdict : tie.After-verdict-of = search in let axes : tie.After-
     let place : tie.After-prefix-place = search in let points = back-to-points leaves in
     let read = back-to-read points in let start = back-to-start read in let args = start.args in let pre = start.pre in
     let said = read.read-opening.ensures in
-    checked-made (m5 start) pre.within pre.below pre.sized-message5 pre.keyed
+    checked-made (m5 start) pre.within pre.below pre.sized-message5
     (prefix-lent args.p args.statement.now place.prefix-place.ensures)
     (siblings-taken args.p args.leaf (m5 start) pre.sized-message5 _ refl _ said.1.0)
     (put-commitment args.p args.opened.now pre.sized-opened read.read-opening.last.1.1.1.0 (back-to-rows read).rows-end.ensures ∙

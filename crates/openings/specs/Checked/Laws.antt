@@ -18,13 +18,12 @@ use Rattle.parameters.specs.Limits.{Within}
 use Rattle.layout.specs.Layout.{leaves, axis_length, siblings_length, message5_length}
 use Rattle.exchange.specs.Strings.{string, string6}
 use Rattle.exchange.specs.Values.{Key}
-use Rattle.exchange.specs.KeyDigest.{key_digest}
 use Rattle.exchange.specs.Parties.{axis_string}
 use Rattle.exchange.specs.Opening.{Exchange, path_of, commitment_of, opened_state, announced, verdict}
 use Rattle.leaves.specs.States.{states_from}
 use Rattle.parties.specs.Sums.Front.{filled}
 use Rattle.reader.specs.Message5.{siblings_in, commitment_in, values_in, aux_in}
-use Rattle.openings.specs.Statement.{message2_in, prefix_in, digest_in, response_in, key_digest_in, exchange_in}
+use Rattle.openings.specs.Statement.{message2_in, prefix_in, digest_in, response_in, exchange_in}
 use Rattle.openings.specs.Parts.{states_in, rows_in, hidden_commitment}
 use Rattle.openings.specs.From.{digest_from, announced_from, response_from, judged}
 use Rattle.openings.specs.Opened.{opened_states, opened_row, opened_rows}
@@ -34,7 +33,7 @@ use Rattle.openings.specs.Checked.{LeavesOpened, AxesOpened, Checked}
 
 module _ (m5 : List ℕ) {p : Parameters} {s : List ℕ} {leaf : ℕ} {prefix values aux : List ℕ} {key : Key} {r : Answer} {work₀ o₀ work o work' o' : List ℕ}
     (within : Within p) (below : leaf < leaves p) (long : length m5 ≡ message5_length p leaf)
-    (keyed : key_digest_in s ≡ key_digest SHAKE256 p key) (of-prefix : prefix ≡ prefix_in p s) (of-siblings : take (siblings_length p) work₀ ≡ siblings_in p m5) (of-commitment : hidden_commitment p o₀ ≡ commitment_in p m5)
+    (of-prefix : prefix ≡ prefix_in p s) (of-siblings : take (siblings_length p) work₀ ≡ siblings_in p m5) (of-commitment : hidden_commitment p o₀ ≡ commitment_in p m5)
     (of_values : values ≡ values_in p m5) (of-aux : aux ≡ aux_in p m5)
     (first : LeavesOpened p prefix leaf aux work₀ o₀ work o) (second : AxesOpened p s leaf values key work o work' o') (answered : r ≡ judged p s leaf aux o') where
   abbrev e : Exchange
@@ -64,9 +63,8 @@ module _ (m5 : List ℕ) {p : Parameters} {s : List ℕ} {leaf : ℕ} {prefix va
   answer-is =
       answered
       ∙ ap₂ (λ (h h' : List ℕ). checks ((eq_list h (digest_in s), Commitment) ∷ (eq_list h' (response_in s), Response) ∷ []))
-      (ap₂ (λ (c a : List ℕ). digest_from p (prefix_in p s) (key_digest_in s) leaf c a (states_in p o') 32) commitment-is of-aux
-      ∙ ap (λ (st : List ℕ). digest_from p (prefix_in p s) (key_digest_in s) leaf (commitment_of p e) (aux_in p m5) st 32) states-are
-      ∙ made-commitment p e within below long key (key_digest_in s) keyed)
+      (ap₂ (λ (c a : List ℕ). digest_from p (prefix_in p s) leaf c a (states_in p o') 32) commitment-is of-aux
+      ∙ ap (λ (st : List ℕ). digest_from p (prefix_in p s) leaf (commitment_of p e) (aux_in p m5) st 32) states-are ∙ made-commitment p e within below long)
       (ap (λ (rows : List ℕ). response_from p (prefix_in p s) rows 32) rows_are ∙ made-response p e key)
 
   pub checked-made : Checked p (exchange_in p s leaf m5) key r work' o'

@@ -18,7 +18,6 @@ use Rattle.layout.specs.Layout.{side, leaves, values_length, siblings_length, me
 use Rattle.exchange.specs.Sequences.Laws.{joined-ext}
 use Rattle.exchange.specs.Leaf.{share}
 use Rattle.exchange.specs.Values.{Key}
-use Rattle.exchange.specs.KeyDigest.{key_digest}
 use Rattle.exchange.specs.Parties.{total, party_of}
 use Rattle.exchange.specs.Parties.Laws.{total_ext}
 use Rattle.exchange.specs.Opening.{Exchange, commitment_of, aux_of, opened_share, disclosed, commitment_string, response_string}
@@ -40,12 +39,10 @@ module _ (p : Parameters) (e : Exchange) where
   made-response key = ap (λ (s : List ℕ). SHAKE256 s 32) (rows-string p e key)
 
   module _ (within : Within p) (below : e.leaf < leaves p) (long : length e.message5 ≡ message5_length p e.leaf) where
-    pub made-commitment : (key : Key) (d : List ℕ) → d ≡ key_digest SHAKE256 p key
-        → digest_from p e.prefix d e.leaf (commitment_of p e) (aux_in p e.message5) (opened_states p e) 32 ≡ SHAKE256 (commitment_string SHAKE256 p e key) 32
+    pub made-commitment : digest_from p e.prefix e.leaf (commitment_of p e) (aux_in p e.message5) (opened_states p e) 32 ≡ SHAKE256 (commitment_string SHAKE256 p e) 32
     unfolding digest_from aux_in aux_of
-    made-commitment key d keyed =
-        ap (λ (s : List ℕ). SHAKE256 s 32)
-        (commitments-string p e (opened_states p e) (commitment_of p e) (aux_in p e.message5) (opened-state p e below long) refl refl key d keyed)
+    made-commitment =
+        ap (λ (s : List ℕ). SHAKE256 s 32) (commitments-string p e (opened_states p e) (commitment_of p e) (aux_in p e.message5) (opened-state p e below long) refl refl)
 
     known : Known p e.leaf (aux_in p e.message5)
     known = record { short = aux-short p e.leaf e.message5 long; last-hidden = no-aux p e.leaf e.message5 long }

@@ -28,7 +28,6 @@ use Rattle.exchange.specs.Sequences.{joined}
 use Rattle.exchange.specs.Sequences.Laws.{length-joined, part-joined}
 use Rattle.exchange.specs.Strings.{string5}
 use Rattle.exchange.specs.Values.{Key}
-use Rattle.exchange.specs.KeyDigest.{key_digest}
 use Rattle.exchange.specs.Opening as run-opening
 use Rattle.exchange.specs.Opening.{Exchange, exchange}
 use Rattle.exchange.specs.Opening.Laws.{accepted-then}
@@ -86,35 +85,35 @@ module _ (p : Parameters) (is : List ℕ) (f : ℕ → List ℕ) where
 
 -- ---- the messages
 
-module _ (hash : List ℕ → ℕ → List ℕ) (p : Parameters) (n : ℕ) (x salt root digest : List ℕ) (size : length salt ≡ 32) where
+module _ (hash : List ℕ → ℕ → List ℕ) (p : Parameters) (n : ℕ) (x salt root : List ℕ) (size : length salt ≡ 32) where
   abbrev prefix : ℕ → List ℕ
   prefix e = run_prefix salt e
 
-  pub digest-is : (e : ℕ) → digest_of hash p n x salt root digest e ≡ hash (string5 (prefix e) digest (own_commitment hash p x (run_at hash salt root e)) (leaves p)) 32
+  pub digest-is : (e : ℕ) → digest_of hash p n x salt root e ≡ hash (string5 (prefix e) (own_commitment hash p x (run_at hash salt root e)) (leaves p)) 32
   unfolding digest_of run.message1
   digest-is e = drop_at (prefix e) _ prefix_length (length-prefix salt e size)
 
   -- a run's message 1 is its prefix and h
-  pub digest-of : (e : ℕ) → prefix e ++ digest_of hash p n x salt root digest e ≡ run.message1 hash p x (run_at hash salt root e) digest
+  pub digest-of : (e : ℕ) → prefix e ++ digest_of hash p n x salt root e ≡ run.message1 hash p x (run_at hash salt root e)
   unfolding run.message1
   digest-of e = ap (◌++◌ (prefix e)) (digest-is e)
 
-  length-digest : ((s : List ℕ) (n : ℕ) → length (hash s n) ≡ n) → (e : ℕ) → length (digest_of hash p n x salt root digest e) ≡ 32
+  length-digest : ((s : List ℕ) (n : ℕ) → length (hash s n) ≡ n) → (e : ℕ) → length (digest_of hash p n x salt root e) ≡ 32
   length-digest hash-length e = ap length (digest-is e) ∙ hash-length _ 32
 
-  pub length-message1 : ((s : List ℕ) (n : ℕ) → length (hash s n) ≡ n) → length (message1 hash p n x salt root digest) ≡ message1_length n
+  pub length-message1 : ((s : List ℕ) (n : ℕ) → length (hash s n) ≡ n) → length (message1 hash p n x salt root) ≡ message1_length n
   unfolding message1
   length-message1 hash-length =
-      length-append salt _ ∙ ap₂ ◌+◌ size (length-joined (digest_of hash p n x salt root digest) n 32 (λ e l. length-digest hash-length e))
+      length-append salt _ ∙ ap₂ ◌+◌ size (length-joined (digest_of hash p n x salt root) n 32 (λ e l. length-digest hash-length e))
 
   pub message1-at : ((s : List ℕ) (n : ℕ) → length (hash s n) ≡ n) → (e : ℕ) → e < n
-      → message1_at (message1 hash p n x salt root digest) e ≡ run.message1 hash p x (run_at hash salt root e) digest
+      → message1_at (message1 hash p n x salt root) e ≡ run.message1 hash p x (run_at hash salt root e)
   unfolding message1_at message1
   message1-at hash-length e l =
       ap₂ (λ (s d : List ℕ). run_prefix s e ++ d) (take_at salt _ 32 size)
-      (ap (λ (k : ℕ). part (salt ++ joined (digest_of hash p n x salt root digest) n) (k + e * 32) 32) (sym size)
-      ∙ part-append-right salt (joined (digest_of hash p n x salt root digest) n) (e * 32) 32
-      ∙ part-joined (digest_of hash p n x salt root digest) 32 n (λ e l. length-digest hash-length e) e l)
+      (ap (λ (k : ℕ). part (salt ++ joined (digest_of hash p n x salt root) n) (k + e * 32) 32) (sym size)
+      ∙ part-append-right salt (joined (digest_of hash p n x salt root) n) (e * 32) 32
+      ∙ part-joined (digest_of hash p n x salt root) 32 n (λ e l. length-digest hash-length e) e l)
       ∙ digest-of e
 
 module _ (hash : List ℕ → ℕ → List ℕ) (hash-length : (s : List ℕ) (n : ℕ) → length (hash s n) ≡ n) (p : Parameters) (n : ℕ) (x : List ℕ)
@@ -151,10 +150,10 @@ module _ (hash : List ℕ → ℕ → List ℕ) (hash-length : (s : List ℕ) (n
 
     -- run e of the messages made is the exchange of its own messages
     pub exchange-at : length salt ≡ 32 → (e : ℕ) → e < n
-        → exchange_at p (transcript (message1 hash p n x salt root (key_digest hash p key)) m2 (message3 hash p n x salt root key m2) is (message5 hash p n x salt root key m2 is)) e
-        ≡ exchange (run.message1 hash p x (run_at hash salt root e) (key_digest hash p key)) (message2_at p m2 e) (own3 e) (leaf_at is e) (own5 is e)
+        → exchange_at p (transcript (message1 hash p n x salt root) m2 (message3 hash p n x salt root key m2) is (message5 hash p n x salt root key m2 is)) e
+        ≡ exchange (run.message1 hash p x (run_at hash salt root e)) (message2_at p m2 e) (own3 e) (leaf_at is e) (own5 is e)
     unfolding exchange_at
-    exchange-at size e l = rw (message1-at hash p n x salt root (key_digest hash p key) size hash-length e l, message3-at e l, message5-at e l)
+    exchange-at size e l = rw (message1-at hash p n x salt root size hash-length e l, message3-at e l, message5-at e l)
 
 -- ---- acceptance
 
@@ -167,7 +166,7 @@ module _ (hash : List ℕ → ℕ → List ℕ) (hash-length : (s : List ℕ) (n
 
   abbrev made : Transcript
   made =
-      transcript (message1 hash p n x salt root (key_digest hash p key)) m2 (message3 hash p n x salt root key m2) is (message5 hash p n x salt root key m2 is)
+      transcript (message1 hash p n x salt root) m2 (message3 hash p n x salt root key m2) is (message5 hash p n x salt root key m2 is)
 
   pub messages-accepted : Accepted hash p n made key
   messages-accepted e l =

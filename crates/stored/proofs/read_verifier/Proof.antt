@@ -1,4 +1,4 @@
--- Each field is what its function promises; messages and key digest are parts of the one array that holds them.
+-- Each field is what its function promises; the messages are parts of the one array that holds them.
 use mathlib.Core.Path.{ap, ◌∙◌}
 use mathlib.Core.List.{List}
 use Prim.Native.Nat.{ℕ}
@@ -7,13 +7,13 @@ use borrow.Author.Rules.{rules}
 use Rattle.lists.specs.Part.{part}
 use Rattle.lists.specs.Part.Laws.{part-part}
 use Rattle.layout.specs.Maxima.{most_message1, most_messages2, most_messages3}
-use Rattle.verifier.specs.Held.{held_length, message2_place, message3_place, digest_place, message1_in, message2_in, message3_in, digest_in}
+use Rattle.verifier.specs.Held.{held_length, message2_place, message3_place, message1_in, message2_in, message3_in}
 use Rattle.stored.specs.Verifier.{verifier_from}
 use Rattle.stored.proofs.read_verifier.Statement.{statement}
 use Rattle.stored.proofs.read_verifier.Tie as tie
 
 returns : tie.Need-returns
-unfolding verifier_from part message1_in message2_in message3_in digest_in
+unfolding verifier_from part message1_in message2_in message3_in
 returns c = let after-messages : tie.After-messages = search in let after-wide : tie.After-wide = search in
     let after-read-parameters : tie.After-read-parameters = search in let after-phase-from : tie.After-phase-from = search in
     let start : tie.Start = search in let b = start.args.b.now in let all = after-messages.messages.ensures in
@@ -24,7 +24,6 @@ returns c = let after-messages : tie.After-messages = search in let after-wide :
       message1 = (ap (λ (m : List ℕ). part m 0 most_message1) all ∙ part-part b 7 held_length 0 most_message1 (omega arith)) i;
       message2 = (ap (λ (m : List ℕ). part m message2_place most_messages2) all ∙ part-part b 7 held_length message2_place most_messages2 (omega arith)) i;
       message3 = (ap (λ (m : List ℕ). part m message3_place most_messages3) all ∙ part-part b 7 held_length message3_place most_messages3 (omega arith)) i;
-      digest = (ap (λ (m : List ℕ). part m digest_place 32) all ∙ part-part b 7 held_length digest_place 32 (omega arith)) i;
       leaves = c.array32.ensures i;
     }
 

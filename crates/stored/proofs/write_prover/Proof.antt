@@ -1,4 +1,4 @@
--- The six parts are those of `prover_bytes`.
+-- The five parts are those of `prover_bytes`.
 use mathlib.Core.Path.{sym, ap, ◌∙◌}
 use native.Mathlib.Omega.{arith}
 use borrow.Author.Rules.{rules}
@@ -15,8 +15,7 @@ lengths c = record {
   x = sym (length-map c.args.s.x _) ∙ c.well-formed.0.1.1.1.1.1.0.1.0.1;
   salt = sym (length-map c.args.s.salt _) ∙ c.well-formed.0.1.1.1.1.1.1.0.1.0.1;
   root = sym (length-map c.args.s.root _) ∙ c.well-formed.0.1.1.1.1.1.1.1.0.1.0.1;
-  digest = sym (length-map c.args.s.digest _) ∙ c.well-formed.0.1.1.1.1.1.1.1.1.0.1.0.1;
-  message2 = sym (length-map c.args.s.message2 _) ∙ c.well-formed.0.1.1.1.1.1.1.1.1.1.0.1.0.1;
+  message2 = sym (length-map c.args.s.message2 _) ∙ c.well-formed.0.1.1.1.1.1.1.1.1.0.1.0.1;
 }
 
 write-parts-requires : tie.Need-write-parts-requires
@@ -30,4 +29,4 @@ returns c = let after-head : tie.After-head = search in let after-phase-byte : t
 
 pub write-prover-spec : {M : Type 1} → statement M
 write-prover-spec = tie.close (tie.spec (λ c κs. search rules) (λ c κs. search rules) (λ c. search rules) (λ c. search rules) (λ c. search rules)
-    (λ c. search rules) (λ c. search rules) (λ c. search rules) write-parts-requires (λ c. search rules) returns)
+    (λ c. search rules) (λ c. search rules) write-parts-requires (λ c. search rules) returns)

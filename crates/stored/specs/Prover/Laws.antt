@@ -22,7 +22,6 @@ pub record ProverLengths (s : Prover) : Type 0 where
   pub x : length s.x ≡ 255
   pub salt : length s.salt ≡ 32
   pub root : length s.root ≡ 16
-  pub digest : length s.digest ≡ 32
   pub message2 : length s.message2 ≡ most_messages2
 
 pub length-prover_bytes : (s : Prover) → ProverLengths s → length (prover_bytes s) ≡ prover_size
@@ -38,13 +37,9 @@ prover-back s h = λ i. record {
   x = (behind 0 255 ∙ read-front s.x _ 255 h.x) i;
   salt = (behind 255 32 ∙ read_behind s.x _ 255 0 32 h.x ∙ read-front s.salt _ 32 h.salt) i;
   root = (behind 287 16 ∙ read_behind s.x _ 255 32 16 h.x ∙ read_behind s.salt _ 32 0 16 h.salt ∙ read-front s.root _ 16 h.root) i;
-  digest =
-      (behind 303 32 ∙ read_behind s.x _ 255 48 32 h.x ∙ read_behind s.salt _ 32 16 32 h.salt ∙ read_behind s.root _ 16 0 32 h.root
-      ∙ read-front s.digest _ 32 h.digest) i;
   message2 =
-      (behind 335 most_messages2 ∙ read_behind s.x _ 255 80 most_messages2 h.x ∙ read_behind s.salt _ 32 48 most_messages2 h.salt
-      ∙ read_behind s.root _ 16 32 most_messages2 h.root ∙ read_behind s.digest _ 32 0 most_messages2 h.digest
-      ∙ part-whole s.message2 most_messages2 (omega arith)) i;
+      (behind 303 most_messages2 ∙ read_behind s.x _ 255 48 most_messages2 h.x ∙ read_behind s.salt _ 32 16 most_messages2 h.salt
+      ∙ read_behind s.root _ 16 0 most_messages2 h.root ∙ part-whole s.message2 most_messages2 (omega arith)) i;
 }
   where
     set : part (prover_bytes s) 1 set_length ≡ numbers_of s.parameters
@@ -55,7 +50,7 @@ prover-back s h = λ i. record {
     count : get_or (prover_bytes s) 6 0 ≡ s.runs
     count = refl
 
-    behind : (at n : ℕ) → part (prover_bytes s) (7 + at) n ≡ part (s.x ++ (s.salt ++ (s.root ++ (s.digest ++ s.message2)))) at n
+    behind : (at n : ℕ) → part (prover_bytes s) (7 + at) n ≡ part (s.x ++ (s.salt ++ (s.root ++ s.message2))) at n
     behind at n = read_behind (prover_phase_byte s.phase ∷ (parameter_bytes s.parameters ++ (s.runs ∷ []))) _ 7 at n refl
 
 pub fresh-small : (s : Prover) → s ≡ fresh → Small s.parameters s.runs

@@ -3,7 +3,7 @@
 -- VerifierLengths s        the arrays of s have their lengths
 -- length-verifier_bytes     a session has `verifier_size` bytes
 -- verifier-back            what was written reads as the session again
--- messages-whole           messages 1 to 3 in their places and the key digest are the whole of the array that holds them
+-- messages-whole           messages 1 to 3 in their places are the whole of the array that holds them
 -- fresh-small              each parameter and the run count of a session before its first begin is a byte
 use Rattle.std.specs.Prelude.{◌≡◌, refl, ℕ, ◌+◌, List, [], ◌∷◌, ◌++◌, length, get_or, take, drop}
 use Rattle.std.proofs.Common.{sym, ap, ◌∙◌, arith, length-append, length-drop, take-append-drop, take_all, drop-drop}
@@ -15,7 +15,7 @@ use Rattle.verifier_phase.specs.Phases.Laws.{phase-back}
 use Rattle.calls.specs.Verifier.{Verifier, fresh}
 use Rattle.parameters.specs.Set.{set_length, numbers_of, parameters_of}
 use Rattle.parameters.specs.Set.Laws.{length-numbers}
-use Rattle.verifier.specs.Held.{held_length, message2_place, message3_place, digest_place, message1_in, message2_in, message3_in, digest_in}
+use Rattle.verifier.specs.Held.{held_length, message1_in, message2_in, message3_in}
 use Rattle.stored.specs.Parameters.{Small, parameter_bytes}
 use Rattle.stored.specs.Parts.{read-front, read_behind}
 use Rattle.stored.specs.Verifier.{verifier_size, verifier_bytes, verifier_from}
@@ -24,7 +24,6 @@ pub record VerifierLengths (s : Verifier) : Type 0 where
   pub message1 : length s.message1 ≡ most_message1
   pub message2 : length s.message2 ≡ most_messages2
   pub message3 : length s.message3 ≡ most_messages3
-  pub digest : length s.digest ≡ 32
   pub leaves : length s.leaves ≡ most_runs
 
 pub length-verifier_bytes : (s : Verifier) → VerifierLengths s → length (verifier_bytes s) ≡ verifier_size
@@ -44,13 +43,10 @@ verifier-back s h = λ i. record {
   message3 =
       (behind 3_104 most_messages3 ∙ read_behind s.message1 _ most_message1 2_048 most_messages3 h.message1
       ∙ read_behind s.message2 _ most_messages2 0 most_messages3 h.message2 ∙ read-front s.message3 _ most_messages3 h.message3) i;
-  digest =
-      (behind 4_128 32 ∙ read_behind s.message1 _ most_message1 3_072 32 h.message1 ∙ read_behind s.message2 _ most_messages2 1_024 32 h.message2
-      ∙ read_behind s.message3 _ most_messages3 0 32 h.message3 ∙ read-front s.digest _ 32 h.digest) i;
   leaves =
-      (behind 4_160 most_runs ∙ read_behind s.message1 _ most_message1 3_104 most_runs h.message1
-      ∙ read_behind s.message2 _ most_messages2 1_056 most_runs h.message2 ∙ read_behind s.message3 _ most_messages3 32 most_runs h.message3
-      ∙ read_behind s.digest _ 32 0 most_runs h.digest ∙ part-whole s.leaves most_runs (omega arith)) i;
+      (behind 4_128 most_runs ∙ read_behind s.message1 _ most_message1 3_072 most_runs h.message1
+      ∙ read_behind s.message2 _ most_messages2 1_024 most_runs h.message2
+      ∙ read_behind s.message3 _ most_messages3 0 most_runs h.message3 ∙ part-whole s.leaves most_runs (omega arith)) i;
 }
   where
     set : part (verifier_bytes s) 1 set_length ≡ numbers_of s.parameters
@@ -61,24 +57,18 @@ verifier-back s h = λ i. record {
     count : get_or (verifier_bytes s) 6 0 ≡ s.runs
     count = refl
 
-    behind : (at n : ℕ) → part (verifier_bytes s) (7 + at) n ≡ part (s.message1 ++ (s.message2 ++ (s.message3 ++ (s.digest ++ s.leaves)))) at n
+    behind : (at n : ℕ) → part (verifier_bytes s) (7 + at) n ≡ part (s.message1 ++ (s.message2 ++ (s.message3 ++ s.leaves))) at n
     behind at n = read_behind (verifier_phase_byte s.phase ∷ (parameter_bytes s.parameters ++ (s.runs ∷ []))) _ 7 at n refl
 
--- a part, and what is left behind it
-part-rest : (m : List ℕ) (at n end : ℕ) → end ≡ at + n → part m at n ++ drop end m ≡ drop at m
-unfolding part
-part-rest m at n end e =
-    ap (λ (k : ℕ). take n (drop at m) ++ drop k m) e ∙ ap (λ (l : List ℕ). take n (drop at m) ++ l) (sym (drop-drop n at m))
-    ∙ take-append-drop n (drop at m)
-
-pub messages-whole : (m : List ℕ) → length m ≡ held_length → message1_in m ++ (message2_in m ++ (message3_in m ++ digest_in m)) ≡ m
-unfolding message1_in message2_in message3_in digest_in part
+pub messages-whole : (m : List ℕ) → length m ≡ held_length → message1_in m ++ (message2_in m ++ message3_in m) ≡ m
+unfolding message1_in message2_in message3_in part
 messages-whole m h =
-    let last : part m digest_place 32 ≡ drop digest_place m = take_all 32 (drop digest_place m) (omega (arith, length-drop digest_place m)) in
-    ap (λ (l : List ℕ). part m 0 most_message1 ++ (part m message2_place most_messages2 ++ (part m message3_place most_messages3 ++ l))) last
-    ∙ ap (λ (l : List ℕ). part m 0 most_message1 ++ (part m message2_place most_messages2 ++ l)) (part-rest m message3_place most_messages3 digest_place refl)
-    ∙ ap (λ (l : List ℕ). part m 0 most_message1 ++ l) (part-rest m message2_place most_messages2 message3_place refl)
-    ∙ part-rest m 0 most_message1 message2_place refl
+    let rest : List ℕ = drop most_message1 m in
+    ap (λ (b : List ℕ). take most_message1 m ++ (take most_messages2 rest ++ b))
+    (ap (take most_messages3) (sym (drop-drop most_messages2 most_message1 m))
+    ∙ take_all most_messages3 (drop most_messages2 rest) (omega (arith, length-drop most_messages2 rest, length-drop most_message1 m)))
+    ∙ ap (λ (a : List ℕ). take most_message1 m ++ a) (take-append-drop most_messages2 rest)
+    ∙ take-append-drop most_message1 m
 
 pub fresh-small : (s : Verifier) → s ≡ fresh → Small s.parameters s.runs
 unfolding fresh

@@ -21,7 +21,6 @@ use Rattle.layout.specs.Layout.{leaves}
 use Rattle.layout.specs.Layout.Laws.{leaves-pos}
 use Rattle.exchange.specs.Run.{Run}
 use Rattle.exchange.specs.Strings.{string4, string5, string7}
-use Rattle.exchange.specs.KeyDigest.{key_digest}
 use Rattle.exchange.specs.Parties.{axis_string}
 use Rattle.exchange.specs.Messages.{own_state, own_aux, own_commitment, own_announced}
 use Rattle.exchange.specs.Messages.Opened.{honest, leaf_string-is, commitment_string-is}
@@ -49,7 +48,7 @@ module _ (d : ℕ) where
       cond (eqb n.0 7)
       (string7 run1.prefix (λ j. stand_in (axis_string (p d) run1.prefix j (own_announced stand_in (p d) x run1 key (message2 c.0 c.1) j)) 32) d)
       (cond (eqb n.0 6) (axis_string (p d) run1.prefix (n.1 - 1) (own_announced stand_in (p d) x run1 key (message2 c.0 c.1) (n.1 - 1)))
-      (cond (eqb n.0 5) (string5 run1.prefix (key_digest stand_in (p d) key) (own_commitment stand_in (p d) x run1) (leaves (p d)))
+      (cond (eqb n.0 5) (string5 run1.prefix (own_commitment stand_in (p d) x run1) (leaves (p d)))
       (string4 (p d) run1.prefix n.1 (own_state stand_in (p d) x run1 n.1) (own_aux stand_in (p d) x run1))))
 
   unfoldable pub axis_columns : ℕ → List (ℕ × ℕ)

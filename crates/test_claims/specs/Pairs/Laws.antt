@@ -28,7 +28,6 @@ use Rattle.exchange.specs.Sequences.Laws.{bytes-joined}
 use Rattle.exchange.specs.Reading.{bytes_at, point_at}
 use Rattle.exchange.specs.Values.{point_of, multiplier_of}
 use Rattle.exchange.specs.Messages.Laws.{Secret, bytes-message5}
-use Rattle.exchange.specs.KeyDigest.{key_digest}
 use Rattle.runs.specs.Run.{run_at}
 use Rattle.runs.specs.Messages.{message2_at, leaf_at, message1, message5}
 use Rattle.runs.specs.Messages.Laws.{length-message1, length-message3, length-message5}
@@ -73,7 +72,7 @@ module _ (d : ℕ) (axes : Axes d) where
     pub sent : (i u : ℕ) → i < leaves (p d) → u < leaves (p d) → Sent (p d) 2 (opened d r ε i u)
     unfolding opened
     sent i u hi hu = record {
-      message1 = length-message1 stand_in (p d) 2 x salt root (key_digest stand_in (p d) key) refl length-stand_in;
+      message1 = length-message1 stand_in (p d) 2 x salt root refl length-stand_in;
       message2 = refl;
       message3 = length-message3 stand_in length-stand_in (p d) 2 x secret salt root key (messages2 r ε);
       message4 = refl;
@@ -89,7 +88,7 @@ module _ (d : ℕ) (axes : Axes d) where
     abbrev both : ℕ → ℕ → ℕ → ℕ → Pair
     both i i' u u' = record { one = opened d r ε i u; other = opened d r ε i' u' }
 
-    salt-held : take 32 (message1 stand_in (p d) 2 x salt root (key_digest stand_in (p d) key)) ≡ salt
+    salt-held : take 32 (message1 stand_in (p d) 2 x salt root) ≡ salt
     unfolding message1
     salt-held = refl
 

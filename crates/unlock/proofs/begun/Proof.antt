@@ -10,9 +10,6 @@ back b = search
 show-set-requires : tie.Need-show-set-requires
 show-set-requires c κs = let b : tie.After-begin = search in let s = back b in (s.pre.0, s.pre.1)
 
-show-digest-requires : tie.Need-show-digest-requires
-show-digest-requires c κs = let b : tie.After-begin = search in let s = back b in s.pre.0
-
 received-requires : tie.Need-received-requires
 received-requires c κs = let b : tie.After-begin = search in let s = back b in (s.pre.0, s.pre.1, omega (arith, b.begin, s.pre.2))
 
@@ -22,4 +19,4 @@ show-verdict-requires c κs = let b : tie.After-begin = search in let s = back b
 pub begun-spec : {M : Type 1} → statement M
 begun-spec = tie.close (tie.spec (λ c κs. search rules) (λ c κs. search rules) (λ c κs. search rules) (λ c κs. search rules) (λ c. search rules)
     (λ c. search rules) (λ c. search rules) (λ c κs. search rules) (λ c. search rules) (λ c κs. search rules) (λ c. search rules) (λ c. search rules)
-    (λ c. search rules) show-set-requires show-digest-requires (λ c. search rules) received-requires show-verdict-requires (λ c. search rules) (λ c. search rules))
+    (λ c. search rules) show-set-requires (λ c. search rules) received-requires show-verdict-requires (λ c. search rules) (λ c. search rules))

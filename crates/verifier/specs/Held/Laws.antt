@@ -1,4 +1,4 @@
--- The laws of the messages and the key digest held one behind the other.
+-- The laws of the messages held one behind the other.
 --
 -- zeros-part, put-part          a part of zeros; a part whose front is written
 -- fresh-held, begun-held, pointed-held, responded-held   the session that holds such a list is the definition's
@@ -11,15 +11,13 @@ use Rattle.std.proofs.Math.ListN.{length, take, drop, replicate, length-replicat
 use Rattle.std.proofs.lemmas.List.{replicate-append-replicate}
 use Rattle.std.proofs.Math.Seq.{take-append-add}
 use Rattle.lists.specs.Part.{part, put_at}
-use Rattle.lists.specs.Part.Laws.{length-put_at, part-put_at-same, part-put_at-before, part-put_at-behind}
+use Rattle.lists.specs.Part.Laws.{part-put_at-before, part-put_at-behind}
 use Rattle.parameters.specs.declared.Parameters.{Parameters}
 use Rattle.layout.specs.Maxima.{most_runs, most_message1, most_messages2, most_messages3}
-use Rattle.exchange.specs.Values.{Key}
-use Rattle.exchange.specs.KeyDigest.{key_digest}
 use Rattle.verifier_phase.specs.declared.Phase.{Phase}
 use Rattle.verifier_phase.specs.declared.Phase.TheVariants.{Fresh, Begun, Pointed, Responded}
 use Rattle.calls.specs.Verifier as spec
-use Rattle.verifier.specs.Held.{message2_place, message3_place, digest_place, held_length, message1_in, message2_in, message3_in, digest_in, session}
+use Rattle.verifier.specs.Held.{message2_place, message3_place, held_length, message1_in, message2_in, message3_in, session}
 
 pub zeros-part : (m k n : ℕ) → k + n ≤ m → part (replicate m 0) k n ≡ replicate n 0
 unfolding part
@@ -60,56 +58,46 @@ module _ (d s : List ℕ) (at n : ℕ) (fits : at + n ≤ length d) (h : length 
 -- ---- the sessions
 
 pub fresh-held : session Fresh (record { m = 0; k = 0; w = 0; axes = 0; t = 0 }) 0 (replicate held_length 0) (replicate most_runs 0) ≡ spec.fresh
-unfolding spec.fresh message1_in message2_in message3_in digest_in
+unfolding spec.fresh message1_in message2_in message3_in
 fresh-held =
     rw (
       zeros-part held_length 0 most_message1 (omega arith),
       zeros-part held_length message2_place most_messages2 (omega arith),
       zeros-part held_length message3_place most_messages3 (omega arith),
-      zeros-part held_length digest_place 32 (omega arith),
     )
 
 module _ (p : Parameters) (runs : ℕ) where
-  pub begun-held : (hash : List ℕ → ℕ → List ℕ) (key : Key) (m1 d : List ℕ) → length m1 ≤ most_message1 → length d ≡ 32 → d ≡ key_digest hash p key
-      → session Begun p runs (put_at (put_at (replicate held_length 0) 0 m1) digest_place d) (replicate most_runs 0) ≡ spec.begun hash p runs m1 key
-  unfolding spec.begun message1_in message2_in message3_in digest_in
-  begun-held hash key m1 d h sized keyed =
+  pub begun-held : (m1 : List ℕ) → length m1 ≤ most_message1
+      → session Begun p runs (put_at (replicate held_length 0) 0 m1) (replicate most_runs 0) ≡ spec.begun p runs m1
+  unfolding spec.begun message1_in message2_in message3_in
+  begun-held m1 h =
       let zeros : List ℕ = replicate held_length 0 in
       let l : length zeros ≡ held_length = length-replicate {A = ℕ} held_length 0 in
-      let first : List ℕ = put_at zeros 0 m1 in
-      let room : digest_place + length d ≤ length first = omega (arith, length-put_at zeros 0 m1 (omega (arith, l)), l, sized) in
-      let before = part-put_at-before first digest_place d room in
       rw (
-        before 0 most_message1 (omega arith) ∙ put-part zeros m1 0 most_message1 (omega (arith, l)) h
-            ∙ ap (λ (z : List ℕ). put_at z 0 m1) (zeros-part held_length 0 most_message1 (omega arith)),
-        before message2_place most_messages2 (omega arith)
-            ∙ part-put_at-behind zeros 0 m1 (omega (arith, l)) message2_place most_messages2 (omega arith)
+        put-part zeros m1 0 most_message1 (omega (arith, l)) h ∙ ap (λ (z : List ℕ). put_at z 0 m1) (zeros-part held_length 0 most_message1 (omega arith)),
+        part-put_at-behind zeros 0 m1 (omega (arith, l)) message2_place most_messages2 (omega arith)
             ∙ zeros-part held_length message2_place most_messages2 (omega arith),
-        before message3_place most_messages3 (omega arith)
-            ∙ part-put_at-behind zeros 0 m1 (omega (arith, l)) message3_place most_messages3 (omega arith)
+        part-put_at-behind zeros 0 m1 (omega (arith, l)) message3_place most_messages3 (omega arith)
             ∙ zeros-part held_length message3_place most_messages3 (omega arith),
-        ap (part (put_at first digest_place d) digest_place) (sym sized) ∙ part-put_at-same first digest_place d room ∙ keyed,
       )
 
   module _ (f : Phase) (m leaves : List ℕ) (sized : length m ≡ held_length) where
     pub pointed-held : (m2 : List ℕ) → length m2 ≤ most_messages2
         → session Pointed p runs (put_at m message2_place m2) leaves ≡ spec.pointed (session f p runs m leaves) m2
-    unfolding spec.pointed message1_in message2_in message3_in digest_in
+    unfolding spec.pointed message1_in message2_in message3_in
     pointed-held m2 h =
         rw (
           part-put_at-before m message2_place m2 (omega arith) 0 most_message1 (omega arith),
           put-part m m2 message2_place most_messages2 (omega arith) h,
           part-put_at-behind m message2_place m2 (omega arith) message3_place most_messages3 (omega arith),
-          part-put_at-behind m message2_place m2 (omega arith) digest_place 32 (omega arith),
         )
 
     pub responded-held : (m3 : List ℕ) → length m3 ≤ most_messages3
         → session Responded p runs (put_at m message3_place m3) leaves ≡ spec.responded (session f p runs m leaves) m3
-    unfolding spec.responded message1_in message2_in message3_in digest_in
+    unfolding spec.responded message1_in message2_in message3_in
     responded-held m3 h =
         rw (
           part-put_at-before m message3_place m3 (omega arith) 0 most_message1 (omega arith),
           part-put_at-before m message3_place m3 (omega arith) message2_place most_messages2 (omega arith),
           put-part m m3 message3_place most_messages3 (omega arith) h,
-          part-put_at-behind m message3_place m3 (omega arith) digest_place 32 (omega arith),
         )

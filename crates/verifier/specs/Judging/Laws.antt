@@ -2,12 +2,11 @@
 --
 -- zeroed-twice            zeros stay zeros
 -- part-inside             the part of run e lies within message 5
--- statement-asked, statement-keyed, statement-run   the messages held reach run e; its statement has the key digest held, and is that of the run
 -- run_at                  run e, from what is lent to its judging
 -- turn-first, turn-next   `Turned` before the first run, and before the one behind an accepted run
 -- turn-refused, turn-done what the judging gives at a refused run, and behind the last one
 -- held-verdict            the messages that a session holds, in front of zeros, have the runs that all of their places have
-use Rattle.std.specs.Prelude.{◌≡◌, refl, List, [], ◌++◌, ℕ, ◌+◌, ◌*◌, ◌-◌, ◌≤◌, ◌<◌, length, get_or, drop, replicate}
+use Rattle.std.specs.Prelude.{◌≡◌, refl, List, ◌++◌, ℕ, ◌+◌, ◌*◌, ◌-◌, ◌≤◌, ◌<◌, length, get_or, drop, replicate}
 use Rattle.std.proofs.Math.Path.{sym, ap, ap₂}
 use Rattle.std.proofs.Common.{◌∙◌, zero-add, add-one, arith, drop_at}
 use Rattle.std.proofs.Math.ListN.{take}
@@ -22,75 +21,25 @@ use Rattle.answers.specs.declared.Answer.{Answer}
 use Rattle.answers.specs.declared.Answer.TheVariants.{Done, Refused}
 use Rattle.answers.specs.declared.Refusal.{Refusal}
 use Rattle.parameters.specs.declared.Parameters.{Parameters}
-use Rattle.parameters.specs.Limits.{Within}
-use Rattle.layout.specs.Layout.{message2_length, message5_length, work_length, statement_length}
+use Rattle.layout.specs.Layout.{message2_length, message5_length, work_length}
 use Rattle.layout.specs.Maxima.{most_runs, most_message1, most_messages2, most_messages3}
 use Rattle.layout.specs.Runs.{message1_length, messages2_length, messages3_length, message5_place, digest_place}
 use Rattle.layout.specs.Runs.Laws.{messages5-none, messages5-turn, message5-inside, messages2-most}
 use Rattle.exchange.specs.Opening as run
 use Rattle.exchange.specs.Values.{Key, key_of}
-use Rattle.runs.specs.Messages.{message2_at, leaf_at}
+use Rattle.runs.specs.Messages.{message2_at}
 use Rattle.runs.specs.Opening.{Transcript, message1_at, message3_at, message5_at, exchange_at, lowest, verdict}
 use Rattle.runs.specs.Opening.Laws.{lowest-next, lowest-first, verdict-same}
-use Rattle.openings.specs.Statement.{statement_at, key_digest_in, exchange_in, StatementAsked}
-use Rattle.openings.specs.Statement.Laws.{exchange-in, digest-at}
+use Rattle.openings.specs.Statement.{statement_at, exchange_in}
+use Rattle.openings.specs.Statement.Laws.{exchange-in}
 use Rattle.calls.specs.Verifier as spec
 use Rattle.verifier_phase.specs.declared.Phase.{Phase}
-use Rattle.verifier.specs.Held as held
-use Rattle.verifier.specs.Held.{session, held_length, message2_place, message3_place, message1_in, message2_in, message3_in, digest_in}
+use Rattle.verifier.specs.Held.{session, message2_place, message3_place, message1_in, message2_in, message3_in}
 use Rattle.verifier.specs.Judging.{transcript_in, run_in, verdict_at, Turned, RunsAsked}
 
 zeroed-twice : (n : ℕ) (d : List ℕ) → zeroed n (zeroed n d) ≡ zeroed n d
 unfolding zeroed
 zeroed-twice n d = ap (λ (l : List ℕ). replicate n 0 ++ l) (drop_at (replicate n 0) (drop n d) n (length-replicate n 0))
-
--- the messages held reach every run, and its statement has the key digest held
-module _ (m : List ℕ) (sized : length m ≡ held_length) where
-  length-first : length (message1_in m) ≡ most_message1
-  unfolding message1_in
-  length-first = length_part m 0 most_message1 (omega arith)
-
-  length-second : length (message2_in m) ≡ most_messages2
-  unfolding message2_in
-  length-second = length_part m message2_place most_messages2 (omega arith)
-
-  length-third : length (message3_in m) ≡ most_messages3
-  unfolding message3_in
-  length-third = length_part m message3_place most_messages3 (omega arith)
-
-  length-digest : length (digest_in m) ≡ 32
-  unfolding digest_in
-  length-digest = length_part m held.digest_place 32 (omega arith)
-
-  module _ (p : Parameters) (within : Within p) (e : ℕ) (few : e < most_runs) where
-    abbrev made : List ℕ
-    made = statement_at p e (message1_in m) (message2_in m) (message3_in m) (digest_in m)
-
-    reaches-first : digest_place e + 32 ≤ length (message1_in m)
-    reaches-first = omega (arith, length-first)
-
-    reaches-second : e * message2_length p + message2_length p ≤ length (message2_in m)
-    reaches-second = omega (arith, length-second, part-fits e most_runs (message2_length p) few, messages2-most p within most_runs (omega arith))
-
-    reaches-third : e * 32 + 32 ≤ length (message3_in m)
-    reaches-third = omega (arith, length-third)
-
-    pub statement-asked : (s : List ℕ) → length s ≡ statement_length p → StatementAsked p e (message1_in m) (message2_in m) (message3_in m) (digest_in m) s
-    statement-asked s room = record {
-      within = within;
-      few = few;
-      reaches-message1 = reaches-first;
-      reaches-message2 = reaches-second;
-      reaches-message3 = reaches-third;
-      sized-digest = length-digest;
-      room = room;
-    }
-
-    pub statement-keyed : key_digest_in made ≡ digest_in m
-    statement-keyed = digest-at p (transcript_in m [] []) e reaches-first reaches-second reaches-third (digest_in m) length-digest
-
-    pub statement-run : (is m5 : List ℕ) → exchange_in p made (leaf_at is e) (message5_at p is m5 e) ≡ exchange_at p (transcript_in m is m5) e
-    statement-run is m5 = exchange-in p (transcript_in m is m5) e reaches-first reaches-second reaches-third (digest_in m) length-digest
 
 module _ (p : Parameters) (m is m5 matrix y before : List ℕ) (a : RunsAsked p m is m5 matrix y before) where
   abbrev t : Transcript
@@ -109,6 +58,19 @@ module _ (p : Parameters) (m is m5 matrix y before : List ℕ) (a : RunsAsked p 
       let same : size ≡ message5_length p (get_or is e 0) = s ∙ ap (message5_length p) l in
       omega (arith, inside, same, at, a.sized-message5)
 
+  -- the messages reach every run
+  length-first : length (message1_in m) ≡ most_message1
+  unfolding message1_in
+  length-first = length_part m 0 most_message1 (omega (arith, a.sized-messages))
+
+  length-second : length (message2_in m) ≡ most_messages2
+  unfolding message2_in
+  length-second = length_part m message2_place most_messages2 (omega (arith, a.sized-messages))
+
+  length-third : length (message3_in m) ≡ most_messages3
+  unfolding message3_in
+  length-third = length_part m message3_place most_messages3 (omega (arith, a.sized-messages))
+
   pub run_at : (e place leaf size : ℕ) → e < length is → place ≡ message5_place p is e → leaf ≡ get_or is e 0 → size ≡ message5_length p leaf
       → run_in p e m leaf (take (place + size - place) (drop place m5)) ≡ exchange_at p t e
   unfolding run_in run.exchange message5_at
@@ -117,8 +79,10 @@ module _ (p : Parameters) (m is m5 matrix y before : List ℕ) (a : RunsAsked p 
       let same : size ≡ message5_length p (get_or is e 0) = s ∙ ap (message5_length p) l in
       let whole : take (place + size - place) (drop place m5) ≡ part m5 (message5_place p is e) (message5_length p (get_or is e 0)) =
       lent-part m5 place size ∙ ap₂ (part m5) at same in
-      ap₂ (exchange_in p (statement_at p e (message1_in m) (message2_in m) (message3_in m) (digest_in m))) l whole
-      ∙ statement-run m a.sized-messages p a.within e (omega arith) is m5
+      ap₂ (exchange_in p (statement_at p e (message1_in m) (message2_in m) (message3_in m))) l whole
+      ∙ exchange-in p t e (omega (arith, length-first))
+      (omega (arith, length-second, part-fits e most_runs (message2_length p) (omega arith), messages2-most p a.within most_runs (omega arith)))
+      (omega (arith, length-third))
 
   -- ---- run after run
 

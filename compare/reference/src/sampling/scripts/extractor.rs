@@ -1,6 +1,6 @@
 //! Calls of the extractor.
 
-use super::{damage_leaves, random_exchange, random_lent, resize_lent, Size, REPEAT};
+use super::{damage_leaves, fitting_lent, random_exchange, resize_lent, Size, REPEAT};
 use crate::parameters::Parameters;
 use crate::runs::GREATEST_RUNS;
 use crate::sampling::calls::ExtractorCall;
@@ -112,14 +112,14 @@ fn flip_some(random: &mut Random, bytes: &mut [u8]) {
 }
 
 /// A call of the extractor: two exchanges under one key, often undamaged, sometimes with two faults, and now and then with
-/// another key or with repeated points, which stand beside the faults.
+/// repeated points, which stand beside the faults.
 pub fn extractor_call(random: &mut Random, size: Size) -> ExtractorCall {
     let set = random_set(random, size.greatest_m, size.greatest_axes);
     let runs = random_runs(random);
     let key = valid_key(random, &set);
     let (first, second) = two_exchanges(random, &key, runs);
     let output = random.bytes(set.extractor_bytes(runs));
-    let mut call = ExtractorCall { parameters: set, runs, first, second, lent: random_lent(random, &key), output };
+    let mut call = ExtractorCall { parameters: set, runs, first, second, lent: fitting_lent(random, &key), output };
     if random.once_in(REPEAT) {
         repeat(random, &mut call);
         add_later_fault(random, &mut call);

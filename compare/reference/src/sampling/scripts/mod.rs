@@ -2,7 +2,7 @@
 
 use crate::parameters::Parameters;
 use crate::sampling::calls::LentBytes;
-use crate::sampling::damage::{change_key, resize};
+use crate::sampling::damage::resize;
 use crate::sampling::exchanges::{honest_exchange, random_message_2, Exchange, Start};
 use crate::sampling::keys::{overweight_key, valid_key, Key};
 use crate::sampling::made_up::any_leaves;
@@ -36,9 +36,6 @@ pub(super) const STRAY: usize = 8;
 /// How often points are made to repeat, beside all other damage: once in so many.
 pub(super) const REPEAT: usize = 4;
 
-/// How often a call that takes matrix and y is lent other ones, beside all other damage: once in so many.
-pub(super) const OTHER_KEY: usize = 6;
-
 /// A leaf below n, the last one often.
 fn random_leaf(random: &mut Random, parameters: &Parameters) -> u8 {
     match random.below(8) {
@@ -68,20 +65,11 @@ pub(super) fn damage_leaves(random: &mut Random, leaves: &mut Vec<u8>) {
     }
 }
 
-/// Matrix and y of a key, now and then another one's.
-pub(super) fn lent_key(random: &mut Random, key: &Key) -> (Vec<u8>, Vec<u8>) {
-    let (mut matrix, mut y) = (key.matrix.clone(), key.y.clone());
-    if random.once_in(OTHER_KEY) {
-        change_key(random, &mut matrix, &mut y);
-    }
-    (matrix, y)
-}
-
-/// What mostly fits a key: its matrix and y, and a work area that is sometimes longer than its named length.
-pub(super) fn random_lent(random: &mut Random, key: &Key) -> LentBytes {
-    let (matrix, y) = lent_key(random, key);
+/// What fits a key: its matrix and y, and a work area that is sometimes longer than its named length.
+pub(super) fn fitting_lent(random: &mut Random, key: &Key) -> LentBytes {
     let longer = if random.once_in(2) { random.below(40) } else { 0 };
-    LentBytes { matrix, y, work: random.bytes(key.parameters.work_bytes() + longer) }
+    let work = random.bytes(key.parameters.work_bytes() + longer);
+    LentBytes { matrix: key.matrix.clone(), y: key.y.clone(), work }
 }
 
 pub(super) fn resize_lent(random: &mut Random, lent: &mut LentBytes) {

@@ -1,6 +1,6 @@
 //! Scripts of a prover's session.
 
-use super::{damage_leaves, pool_of_keys, random_leaves, random_lent, resize_lent, Size, DAMAGE, REPEAT, STRAY};
+use super::{damage_leaves, fitting_lent, pool_of_keys, random_leaves, resize_lent, Size, DAMAGE, REPEAT, STRAY};
 use crate::numbers::CARRIED_OUT;
 use crate::parameters::Parameters;
 use crate::prover::Prover;
@@ -62,7 +62,7 @@ impl ProverScript<'_> {
         let stray = kind == 0 || self.random.once_in(STRAY);
         let key = if stray { self.random.choose(&self.keys) } else { self.key.clone() };
         let (input, output_length) = self.input(kind, &key);
-        let lent = random_lent(self.random, &key);
+        let lent = fitting_lent(self.random, &key);
         let mut call = ProverCall { input, lent, output: self.random.bytes(output_length) };
         let faults = if self.random.once_in(DAMAGE) { self.random.between(1, 2) } else { 0 };
         for _ in 0..faults {

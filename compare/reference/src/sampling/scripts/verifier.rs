@@ -1,10 +1,9 @@
 //! Scripts of a verifier's session.
 
 use super::{
-    damage_leaves, lent_key, pool_of_keys, random_exchange, random_leaves, random_lent, resize_lent, Size, DAMAGE,
-    REPEAT, STRAY,
+    damage_leaves, fitting_lent, pool_of_keys, random_exchange, random_leaves, resize_lent, Size, DAMAGE, REPEAT, STRAY,
 };
-use crate::numbers::{CARRIED_OUT, OTHER_KEY};
+use crate::numbers::CARRIED_OUT;
 use crate::sampling::calls::VerifierCall;
 use crate::sampling::damage::{damage_points, flip_bit, resize};
 use crate::sampling::exchanges::Exchange;
@@ -32,13 +31,12 @@ impl VerifierScript<'_> {
         match kind {
             0 => {
                 let (runs, message_1) = (exchange.runs(), exchange.message_1);
-                let (matrix, y) = lent_key(self.random, &key);
-                VerifierCall::Begin { parameters: key.parameters, runs, message_1, matrix, y }
+                VerifierCall::Begin { parameters: key.parameters, runs, message_1 }
             }
             1 => self.points(&key, exchange.message_2),
             2 => VerifierCall::Response { message_3: exchange.message_3 },
             3 => VerifierCall::Leaf { leaves: exchange.leaves },
-            _ => VerifierCall::Opening { message_5: exchange.message_5, lent: random_lent(self.random, &key) },
+            _ => VerifierCall::Opening { message_5: exchange.message_5, lent: fitting_lent(self.random, &key) },
         }
     }
 
@@ -67,12 +65,10 @@ impl VerifierScript<'_> {
     /// Gives some argument another length, or parameters or a run count outside their limits.
     fn resize(&mut self, call: &mut VerifierCall) {
         match call {
-            VerifierCall::Begin { parameters, runs, message_1, matrix, y } => match self.random.below(6) {
+            VerifierCall::Begin { parameters, runs, message_1 } => match self.random.below(4) {
                 0 => *parameters = outside_set(self.random),
                 1 => *runs = outside_runs(self.random),
                 2 => *runs = random_runs(self.random),
-                3 => resize(self.random, matrix),
-                4 => resize(self.random, y),
                 _ => resize(self.random, message_1),
             },
             VerifierCall::Points { message_2 } => resize(self.random, message_2),
@@ -95,22 +91,11 @@ impl VerifierScript<'_> {
             }
             _ => (),
         }
-        self.follow(kind, &call);
-        call
-    }
-
-    /// Makes the call of the script's own session. An opening that got 15 is mostly made again; where another key was taken at
-    /// begin, it is lent from then on.
-    fn follow(&mut self, kind: usize, call: &VerifierCall) {
-        let number = call.make(&mut self.session).number;
-        let over = matches!(call, VerifierCall::Opening { .. }) && number != OTHER_KEY;
-        if number == CARRIED_OUT || over {
+        let carried_out = call.make(&mut self.session).number == CARRIED_OUT;
+        if carried_out || matches!(call, VerifierCall::Opening { .. }) {
             self.due = (kind + 1) % 5;
         }
-        if let (VerifierCall::Begin { parameters, matrix, y, .. }, CARRIED_OUT) = (call, number) {
-            let (key, _) = &mut self.current;
-            (key.parameters, key.matrix, key.y) = (*parameters, matrix.clone(), y.clone());
-        }
+        call
     }
 }
 

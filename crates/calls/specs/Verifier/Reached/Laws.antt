@@ -18,7 +18,7 @@ module _ (hash : List ℕ → ℕ → List ℕ) where
     pub stage : Stage
     pub passed : Passed (at stage)
     pub tells : telling (made hash cs) ≡ at stage
-    pub session-at : after hash cs ≡ session hash (at stage)
+    pub session-at : after hash cs ≡ session (at stage)
 
   pub reached : (cs : List Call) → Reached cs
   unfolding after made fresh last_begin points_since response_since leaf_since opened_since since
@@ -36,7 +36,7 @@ module _ (hash : List ℕ → ℕ → List ℕ) where
         passed = m.passed;
         tells =
             ap (λ (s : Verifier). next (record { call = c; number = (outcome hash s c).answer }) (telling (made hash cs))) r.session-at
-            ∙ ap (next (record { call = c; number = (outcome hash (session hash (at r.stage)) c).answer })) r.tells ∙ m.tells;
+            ∙ ap (next (record { call = c; number = (outcome hash (session (at r.stage)) c).answer })) r.tells ∙ m.tells;
         session-at = ap (λ (s : Verifier). (outcome hash s c).verifier) r.session-at ∙ m.session-to;
       }
         where
@@ -46,7 +46,7 @@ module _ (hash : List ℕ → ℕ → List ℕ) where
   pub guard-idle : (cs : List Call) → standing (after hash cs) ≡ (after hash cs).phase
   guard-idle cs =
       let r = reached cs in
-      ap standing r.session-at ∙ standing-at hash r.stage r.passed ∙ ap (λ (s : Verifier). s.phase) (sym r.session-at)
+      ap standing r.session-at ∙ standing-at r.stage r.passed ∙ ap (λ (s : Verifier). s.phase) (sym r.session-at)
 
   pub since-stage : (cs : List Call) (st : Stage) → since (made hash cs) ≡ (at st).calls → telling (made hash cs) ≡ at st
   unfolding history_at

@@ -8,8 +8,7 @@
 -- expected-same      what a history tells decides what is expected of a call
 -- Moves st c         the call c at the stage st: the stage after it, whose session the call leaves, and the call gives what is expected
 -- moves              every call at every stage
--- opening-told, opening-refused, opening-other-key   the opening's number after a leaf was chosen: where the lengths pass and the key has the digest of
---                    the begin's, where the lengths do not pass, and where they do and the key has another digest
+-- opening-told, opening-refused   the opening's number after a leaf was chosen, where the lengths pass, and where they do not
 use Rattle.std.specs.Prelude.{◌≡◌, Bool, ◌&&◌, List, [], ◌∷◌, ℕ, zero, suc, length, replicate, take}
 use Rattle.std.proofs.Math.Path.{refl, ap}
 use Rattle.std.proofs.Common.{sym, ◌∙◌, true≢false, take_at, eqb-true, lt-ltb}
@@ -31,16 +30,16 @@ use Rattle.exchange.specs.Values.{Key}
 use Rattle.runs.specs.Points.{distinct_points}
 use Rattle.runs.specs.Opening.{Transcript, transcript, verdict}
 use Rattle.calls.specs.Held.{is_some}
-use Rattle.calls.specs.Lengths.{public_lengths, start_lengths, opening_lengths, leaves_below}
+use Rattle.calls.specs.Lengths.{opening_lengths, leaves_below}
 use Rattle.calls.specs.Judging.{opening_conditions, judged}
 use Rattle.calls.specs.Judging.Laws.{verdict-told, verdict-judged}
 use Rattle.calls.specs.Verifier as verifier
 use Rattle.calls.specs.Verifier.{fresh, intact, standing, closed, due, held_leaves, held_transcript, judge}
-use Rattle.calls.specs.Verifier.History.{Begin, Call, begin_call, points_call, response_call, leaf_call, opening_call, lent_work, opening_in, Called, Made, outcome, begun, pointed, responded, chosen, opened, last_begin, points_since, response_since, leaf_since, opened_since, of_exchange, same_key, conditions, seen, expected, area}
+use Rattle.calls.specs.Verifier.History.{Begin, Call, begin_call, points_call, response_call, leaf_call, opening_call, lent_work, opening_in, Called, Made, outcome, begun, pointed, responded, chosen, opened, last_begin, points_since, response_since, leaf_since, opened_since, conditions, of_exchange, seen, expected, area}
 use Rattle.calls.specs.Verifier.Since.{counted, since}
 use Rattle.calls.specs.Verifier.Reached.{Telling, telling, next, session, Passed, Stage, unbegun, at_begin, at_points, at_response, at_leaf, at_opening, at}
 
--- ---- what a session holds
+-- ---- the guard
 
 within : (b : Begin) → (within_limits b.parameters && runs_within b.runs) ≡ true → within_limits b.parameters ≡ true
 within b e = and_left (within_limits b.parameters) (runs_within b.runs) e
@@ -59,6 +58,16 @@ unfolding leaves_below
 below-zeros p zero n = refl
 below-zeros p (suc k) zero = refl
 below-zeros p (suc k) (suc n) = rw (lt-ltb 0 (leaves p) (leaves-pos p)) (below-zeros p k n)
+
+pub standing-at : (st : Stage) → Passed (at st) → standing (session (at st)) ≡ (session (at st)).phase
+unfolding standing intact fresh
+standing-at unbegun k = refl
+standing-at (at_begin b) k = rw (within b k.limits, counted-runs b k.limits, below-zeros b.parameters b.runs most_runs)
+standing-at (at_points b m2) k = rw (within b k.limits, counted-runs b k.limits, below-zeros b.parameters b.runs most_runs)
+standing-at (at_response b m2 m3) k = rw (within b k.limits, counted-runs b k.limits, below-zeros b.parameters b.runs most_runs)
+standing-at (at_leaf b m2 m3 is) k = rw (within b k.limits, counted-runs b k.limits, front-held most_runs b.runs is k.sized4, k.below)
+standing-at (at_opening b m2 m3 is m5 key work) k =
+    rw (within b k.limits, counted-runs b k.limits, front-held most_runs b.runs is k.sized4, k.below)
 
 -- ---- a call at a stage
 
@@ -92,17 +101,6 @@ next-same c n t e = go (eqb n 0) refl
     go false q = rw (e, q, and-false (is_some t.begin))
 
 module _ (hash : List ℕ → ℕ → List ℕ) where
-  -- the guard
-  pub standing-at : (st : Stage) → Passed (at st) → standing (session hash (at st)) ≡ (session hash (at st)).phase
-  unfolding standing intact fresh
-  standing-at unbegun k = refl
-  standing-at (at_begin b) k = rw (within b k.limits, counted-runs b k.limits, below-zeros b.parameters b.runs most_runs)
-  standing-at (at_points b m2) k = rw (within b k.limits, counted-runs b k.limits, below-zeros b.parameters b.runs most_runs)
-  standing-at (at_response b m2 m3) k = rw (within b k.limits, counted-runs b k.limits, below-zeros b.parameters b.runs most_runs)
-  standing-at (at_leaf b m2 m3 is) k = rw (within b k.limits, counted-runs b k.limits, front-held most_runs b.runs is k.sized4, k.below)
-  standing-at (at_opening b m2 m3 is m5 key work) k =
-      rw (within b k.limits, counted-runs b k.limits, front-held most_runs b.runs is k.sized4, k.below)
-
   -- what a history tells decides what is expected
   pub expected-same : (h h' : List Made) → telling h ≡ telling h' → (c : Call) → expected hash h c ≡ expected hash h' c
   unfolding expected conditions of_exchange area
@@ -125,12 +123,12 @@ module _ (hash : List ℕ → ℕ → List ℕ) where
   pub record Moves (st : Stage) (c : Call) : Type 0 where
     pub to : Stage
     pub passed : Passed (at to)
-    pub session-to : (outcome hash (session hash (at st)) c).verifier ≡ session hash (at to)
-    pub tells : next (record { call = c; number = (outcome hash (session hash (at st)) c).answer }) (at st) ≡ at to
-    pub gives : seen (outcome hash (session hash (at st)) c) ≡ expected hash (history_at st) c
+    pub session-to : (outcome hash (session (at st)) c).verifier ≡ session (at to)
+    pub tells : next (record { call = c; number = (outcome hash (session (at st)) c).answer }) (at st) ≡ at to
+    pub gives : seen (outcome hash (session (at st)) c) ≡ expected hash (history_at st) c
 
   refuses : {st : Stage} {c : Call} (n : ℕ) → Passed (at st) → judged n ≡ false
-      → outcome hash (session hash (at st)) c ≡ record { answer = n; verifier = session hash (at st); work = lent_work c }
+      → outcome hash (session (at st)) c ≡ record { answer = n; verifier = session (at st); work = lent_work c }
       → answer_of (conditions hash (history_at st) c) ≡ n → Moves st c
   unfolding expected
   refuses {st} {c} n k j o e = record {
@@ -143,7 +141,7 @@ module _ (hash : List ℕ → ℕ → List ℕ) where
 
   -- begin, points, response, leaf
   takes : {st : Stage} {c : Call} (to : Stage) → Passed (at to) → opening_in c ≡ false
-      → outcome hash (session hash (at st)) c ≡ record { answer = 0; verifier = session hash (at to); work = lent_work c }
+      → outcome hash (session (at st)) c ≡ record { answer = 0; verifier = session (at to); work = lent_work c }
       → next (record { call = c; number = 0 }) (at st) ≡ at to → answer_of (conditions hash (history_at st) c) ≡ 0 → Moves st c
   unfolding expected
   takes {st} {c} to k j o t e = record {
@@ -158,11 +156,9 @@ module _ (hash : List ℕ → ℕ → List ℕ) where
 
   begin-moves : (st : Stage) → Passed (at st) → (b : Begin) → Moves st (begin_call b)
   unfolding outcome verifier.begin verifier.begin_checks verifier.begun conditions answer_of first_of holds begun
-  begin-moves st k b =
-      go (within_limits b.parameters && runs_within b.runs) (all_true (start_lengths b.parameters b.runs b.message1 b.key)) refl refl
+  begin-moves st k b = go (within_limits b.parameters && runs_within b.runs) (eqb (length b.message1) (message1_length b.runs)) refl refl
     where
-      go : (x y : Bool) → (within_limits b.parameters && runs_within b.runs) ≡ x
-          → all_true (start_lengths b.parameters b.runs b.message1 b.key) ≡ y
+      go : (x y : Bool) → (within_limits b.parameters && runs_within b.runs) ≡ x → eqb (length b.message1) (message1_length b.runs) ≡ y
           → Moves st (begin_call b)
       go true true p q =
           takes (at_begin b) (record { limits = p; sized1 = q; sized2 = refl; distinct = refl; sized3 = refl; sized4 = refl; below = refl }) refl
@@ -245,18 +241,13 @@ module _ (hash : List ℕ → ℕ → List ℕ) where
     abbrev sizes : Bool
     sizes = all_true (opening_lengths b.parameters is m5 key work)
 
-    pub opening-told : sizes ≡ true → same_key hash b key ≡ true
-        → answer_of (conditions hash (history_at here) call) ≡ answer_number (verdict hash b.parameters b.runs heard key)
+    pub opening-told : sizes ≡ true → answer_of (conditions hash (history_at here) call) ≡ answer_number (verdict hash b.parameters b.runs heard key)
     unfolding history_at conditions of_exchange opening_conditions answer_of first_of holds
-    opening-told p q = rw (p, q) (sym (verdict-told hash b.parameters b.runs heard key))
+    opening-told p = rw p (sym (verdict-told hash b.parameters b.runs heard key))
 
     pub opening-refused : sizes ≡ false → answer_of (conditions hash (history_at here) call) ≡ 2
     unfolding history_at conditions of_exchange opening_conditions answer_of first_of holds
     opening-refused p = rw p
-
-    pub opening-other-key : sizes ≡ true → same_key hash b key ≡ false → answer_of (conditions hash (history_at here) call) ≡ 15
-    unfolding history_at conditions of_exchange opening_conditions answer_of first_of holds
-    opening-other-key p q = rw (p, q)
 
     judged-next : (n : ℕ) → judged n ≡ true → next (record { call = call; number = n }) (at here) ≡ at there
     unfolding begun pointed responded chosen opened counted
@@ -267,25 +258,21 @@ module _ (hash : List ℕ → ℕ → List ℕ) where
         go false q = rw (j, q)
 
     module _ (k : Passed (at here)) where
-      leaves_at : held_leaves (session hash (at here)) ≡ is
+      leaves_at : held_leaves (session (at here)) ≡ is
       leaves_at = front-held most_runs b.runs is k.sized4
 
-      sized-message1 : eqb (length b.message1) (message1_length b.runs) ≡ true
-      sized-message1 =
-          and_left (eqb (length b.message1) (message1_length b.runs)) (all_true (public_lengths b.parameters b.key)) k.sized1
-
-      held_at : held_transcript (session hash (at here)) m5 ≡ heard
+      held_at : held_transcript (session (at here)) m5 ≡ heard
       unfolding held_transcript
       held_at =
           rw (
-            front-held most_message1 (message1_length b.runs) b.message1 sized-message1,
+            front-held most_message1 (message1_length b.runs) b.message1 k.sized1,
             front-held most_messages2 (messages2_length b.parameters b.runs) m2 k.sized2,
             front-held most_messages3 (messages3_length b.runs) m3 k.sized3,
             leaves_at,
           )
 
       judges : (n : ℕ) → judged n ≡ true
-          → outcome hash (session hash (at here)) call ≡ record { answer = n; verifier = session hash (at there); work = zeroed (work_length b.parameters) work }
+          → outcome hash (session (at here)) call ≡ record { answer = n; verifier = session (at there); work = zeroed (work_length b.parameters) work }
           → answer_of (conditions hash (history_at here) call) ≡ n → Moves here call
       unfolding expected area history_at
       judges n j o e = record {
@@ -297,15 +284,14 @@ module _ (hash : List ℕ → ℕ → List ℕ) where
       }
 
       opening-due : Moves here call
-      unfolding outcome verifier.opening verifier.opening_checks verifier.same_key same_key judge verifier.ended closed due
-      opening-due = go sizes (same_key hash b key) refl refl
+      unfolding outcome verifier.opening verifier.opening_checks judge verifier.ended closed due
+      opening-due = go sizes refl
         where
-          go : (x y : Bool) → sizes ≡ x → same_key hash b key ≡ y → Moves here call
-          go true true p q =
+          go : (x : Bool) → sizes ≡ x → Moves here call
+          go true p =
               judges (answer_number (verdict hash b.parameters b.runs heard key)) (verdict-judged hash b.parameters b.runs heard key)
-              (rw (standing-at here k, leaves_at, p, q, held_at)) (opening-told p q)
-          go true false p q = refuses 15 k refl (rw (standing-at here k, leaves_at, p, q)) (opening-other-key p q)
-          go false y p q = refuses 2 k refl (rw (standing-at here k, leaves_at, p)) (opening-refused p)
+              (rw (standing-at here k, leaves_at, p, held_at)) (opening-told p)
+          go false p = refuses 2 k refl (rw (standing-at here k, leaves_at, p)) (opening-refused p)
 
   opening-moves : (st : Stage) → Passed (at st) → (m5 : List ℕ) (key : Key) (work : List ℕ) → Moves st (opening_call m5 key work)
   unfolding outcome verifier.opening verifier.opening_checks judge closed due fresh history_at conditions answer_of first_of holds of_exchange opening_conditions

@@ -22,7 +22,6 @@ check-opening-requires c κs =
     let s : tie.Start = search in let asked = s.pre in
     record {
       within = asked.within;
-      keyed = asked.keyed;
       below = asked.below;
       sized-message5 = asked.sized-message5;
       sized-statement = omega (arith, asked.sized-statement);

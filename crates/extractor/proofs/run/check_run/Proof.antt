@@ -26,7 +26,6 @@ judge-requires c κs = let s : tie.Start = search in let q = s.pre.compared in
     record {
       within = q.within;
       sized-statement = omega (arith, q.sized-statement);
-      keyed = s.pre.keyed;
       below = q.first.below;
       sized-message5 = length-message s.args.pair.p s.args.pair.first s.args.first5.now q.first;
       lent = s.pre.lent;
@@ -67,7 +66,6 @@ judge-requires-2 c κs = let judged : tie.After-judge = search in let s = back j
     record {
       within = q.within;
       sized-statement = omega (arith, q.sized-statement);
-      keyed = s.pre.keyed;
       below = q.second.below;
       sized-message5 = length-message s.args.pair.p s.args.pair.second s.args.second5.now q.second;
       lent = record {

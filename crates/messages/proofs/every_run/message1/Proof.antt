@@ -1,4 +1,4 @@
--- The loop's invariant: behind the salt stands h of the first e runs, for every key of the key digest.
+-- The loop's invariant: behind the salt stands h of the first e runs.
 use mathlib.Core.Path.{◌≡◌, refl, sym, ◌∙◌}
 use mathlib.Core.List.{List, ◌++◌}
 use Prim.Native.Nat.{ℕ, ◌+◌, ◌-◌, ◌*◌, ◌≤◌}
@@ -17,16 +17,16 @@ use Rattle.messages.specs.Run.{salt_in, root_in}
 use Rattle.messages.proofs.every_run.message1.Statement.{statement}
 use Rattle.messages.proofs.every_run.message1.Tie as tie
 
-abbrev digests : Parameters → ℕ → List ℕ → List ℕ → List ℕ → ℕ → List ℕ
-digests p n x seeds digest e = joined (digest_of SHAKE256 p n (take p.m x) (salt_in seeds) (root_in seeds) digest) e
+abbrev digests : Parameters → ℕ → List ℕ → List ℕ → ℕ → List ℕ
+digests p n x seeds e = joined (digest_of SHAKE256 p n (take p.m x) (salt_in seeds) (root_in seeds)) e
 
 abbrev invariant-loop : tie.invariant-loop
-invariant-loop p runs x seeds digest work₀ out₀ at₀ e₀ work out at e =
+invariant-loop p runs x seeds work₀ out₀ at₀ e₀ work out at e =
     (e ≤ runs) × (at ≡ 32 + e * 32) × (length work ≡ length work₀) × (length out ≡ length out₀) × Cleared (work_length p) e work₀ work
-    × Placed (salt_in seeds ++ digests p runs x seeds digest e) out₀ out at
+    × Placed (salt_in seeds ++ digests p runs x seeds e) out₀ out at
 
 abbrev decreases-loop : tie.decreases-loop
-decreases-loop p runs x seeds digest work₀ out₀ at₀ e₀ work out at e = runs - e
+decreases-loop p runs x seeds work₀ out₀ at₀ e₀ work out at e = runs - e
 
 abbrev start : tie.In-loop invariant-loop decreases-loop → tie.Start invariant-loop decreases-loop
 start l = search
@@ -61,16 +61,16 @@ commitment-digest-requires c κs = let r : tie.After-run-at invariant-loop decre
 loop-again : tie.Need-loop-preserved invariant-loop decreases-loop
 loop-again c = let made : tie.After-commitment-digest invariant-loop decreases-loop = search in let r : tie.After-run-at invariant-loop decreases-loop = search in
     let l : tie.In-loop invariant-loop decreases-loop = search in let s = start l in let q = l.before.loop in let a = s.args in
-    let d = made.commitment-digest in let ys = d.last.1.1.1.1.1.0 in let k = d.kept.1.1.1.1.1.0 in (
+    let d = made.commitment-digest in let ys = d.last.1.1.1.1.0 in let k = d.kept.1.1.1.1.0 in (
       omega (arith, l.loop-test.taken),
       omega (arith, q.inv.1),
-      d.kept.1.1.1.1.0 ∙ q.inv.2,
+      d.kept.1.1.1.0 ∙ q.inv.2,
       turn-kept q.out ys q.at (q.at + 32) (omega arith) (inside l) k ∙ q.inv.3,
       cleared_more _ _ _ _ _ q.inv.4 d.ensures.1,
-      placed-turn (digest_of SHAKE256 a.p a.runs (take a.p.m a.x.now) (salt_in a.seeds.now) (root_in a.seeds.now) a.digest.now) q.e
+      placed-turn (digest_of SHAKE256 a.p a.runs (take a.p.m a.x.now) (salt_in a.seeds.now) (root_in a.seeds.now)) q.e
           (salt_in a.seeds.now) _ q.out
           q.at (q.at + 32) q.inv.5 ys
-          (prefix-digest a.p a.runs (take a.p.m a.x.now) (salt_in a.seeds.now) (root_in a.seeds.now) a.digest.now q.e _ ys (salt s)
+          (prefix-digest a.p a.runs (take a.p.m a.x.now) (salt_in a.seeds.now) (root_in a.seeds.now) q.e _ ys (salt s)
           r.run_at.ensures.0 d.ensures.0)
           (omega arith) (inside l) k,
     )
@@ -78,7 +78,7 @@ loop-again c = let made : tie.After-commitment-digest invariant-loop decreases-l
 returns : tie.Need-returns invariant-loop decreases-loop
 returns c = let put : tie.After-put-at invariant-loop decreases-loop = search in let s : tie.Start invariant-loop decreases-loop = search in let q = c.before.loop in
     let a = s.args in (
-      message1-made a.p a.runs _ _ _ _ q.e _ _ _ q.invariant.5 (omega (arith, q.invariant.0, c.loop-test.false))
+      message1-made a.p a.runs _ _ _ q.e _ _ _ q.invariant.5 (omega (arith, q.invariant.0, c.loop-test.false))
           (omega (arith, q.invariant.0, q.invariant.1, put.put-at.kept.0, s.pre.1, c.loop-test.false)),
       q.invariant.4.after (omega (arith, s.pre.0.runs, c.loop-test.false)),
     )

@@ -13,13 +13,10 @@ use Rattle.openings.specs.Statement.Laws.{written_at}
 use Rattle.openings.proofs.statement.put_statement.Statement.{statement}
 use Rattle.openings.proofs.statement.put_statement.Tie as tie
 
-abbrev back-to-start : tie.After-prefix-place → tie.Start
-back-to-start c = search
-
 abbrev back-to-place : tie.After-put-at → tie.After-prefix-place
 back-to-place c = search
 
-abbrev back-to-first : tie.After-put-at4 → tie.After-put-at
+abbrev back-to-first : tie.After-put-at3 → tie.After-put-at
 back-to-first c = search
 
 -- where message 2 of the run starts
@@ -42,38 +39,29 @@ part-put-at-end-3 c = let f : tie.After-prefix-place = search in let s : tie.Sta
 slice-aggregate-put-at : tie.Need-slice-aggregate-put-at
 slice-aggregate-put-at c = let s : tie.Start = search in sym (length-take-le 32 s.args.message1.now (omega (arith, s.pre.reaches-message1)))
 
-put-at-requires-5 : tie.Need-put-at-requires-5
-put-at-requires-5 c κs = let fourth : tie.After-put-at4 = search in let third : tie.After-put-at3 = search in let second : tie.After-put-at2 = search in
-    let first = back-to-first fourth in let place = back-to-place first in let s = back-to-start place in
+put-at-requires-4 : tie.Need-put-at-requires-4
+put-at-requires-4 c κs = let third : tie.After-put-at3 = search in let second : tie.After-put-at2 = search in let first : tie.After-put-at = search in
+    let place : tie.After-prefix-place = search in let s : tie.Start = search in
     let l = length-take-le 32 s.args.message1.now (omega (arith, s.pre.reaches-message1)) in
-    omega (arith, fourth.put-at4, third.put-at3, second.put-at2, first.put-at, place.prefix-place.ensures, s.pre.room, l)
-
-add-put-at-4 : tie.Need-overflow-add-put-at-4
-add-put-at-4 c = let fourth : tie.After-put-at4 = search in let place = back-to-place (back-to-first fourth) in
-    omega (arith, place.prefix-place.ensures, (back-to-start place).pre.within.t-most)
-
-put-at-requires-6 : tie.Need-put-at-requires-6
-put-at-requires-6 c κs = let fifth : tie.After-put-at5 = search in let fourth : tie.After-put-at4 = search in let third : tie.After-put-at3 = search in
-    let second : tie.After-put-at2 = search in let first = back-to-first fourth in let place = back-to-place first in
-    omega (arith, fifth.put-at5, fourth.put-at4, third.put-at3, second.put-at2, first.put-at, place.prefix-place.ensures, (back-to-start place).pre.room)
+    omega (arith, third.put-at3, second.put-at2, first.put-at, place.prefix-place.ensures, s.pre.room, l)
 
 returns : tie.Need-returns
-returns c = let sixth : tie.After-put-at6 = search in let fifth : tie.After-put-at5 = search in let fourth : tie.After-put-at4 = search in let third : tie.After-put-at3 = search in
-    let second : tie.After-put-at2 = search in let first = back-to-first fourth in let place = back-to-place first in let s = back-to-start place in
-    let size = place.before in let w = size.before in
+returns c = let fifth : tie.After-put-at5 = search in let fourth : tie.After-put-at4 = search in let third : tie.After-put-at3 = search in
+    let second : tie.After-put-at2 = search in let first : tie.After-put-at = search (back-to-first) in
+    let place : tie.After-prefix-place = search (back-to-first, back-to-place) in let size : tie.After-message2-length = search (back-to-first, back-to-place) in
+    let w : tie.After-wide = search (back-to-first, back-to-place) in let s : tie.Start = search (back-to-first, back-to-place) in
     let at = place.prefix-place.result in let e = w.wide.result in let n = size.message2-length.result in
     let m2 : List ℕ = take (e * n + n - e * n) (drop (e * n) s.args.message2.now) in
     let m3 : List ℕ = take (e * 32 + 32 - e * 32) (drop (e * 32) s.args.message3.now) in
-    sixth.put-at6.ensures ∙ ap (λ (d : List ℕ). put_at d (at + 32) (s.args.run ∷ [])) (fifth.put-at5.ensures
-    ∙ ap (λ (d : List ℕ). put_at d at (take 32 s.args.message1.now)) (fourth.put-at4.ensures
-    ∙ ap (λ (d : List ℕ). put_at d 96 m2) (third.put-at3.ensures
-    ∙ ap (λ (d : List ℕ). put_at d 64 s.args.digest.now) (second.put-at2.ensures ∙ ap (λ (d : List ℕ). put_at d 32 m3) first.put-at.ensures))))
-    ∙ written_at s.args.p s.args.run s.args.message1.now s.args.message2.now s.args.message3.now s.args.digest.now
-    s.args.out.now s.pre
+    fifth.put-at5.ensures ∙ ap (λ (d : List ℕ). put_at d (at + 32) (s.args.run ∷ [])) (fourth.put-at4.ensures
+    ∙ ap (λ (d : List ℕ). put_at d at (take 32 s.args.message1.now)) (third.put-at3.ensures
+    ∙ ap (λ (d : List ℕ). put_at d 64 m2) (second.put-at2.ensures ∙ ap (λ (d : List ℕ). put_at d 32 m3) first.put-at.ensures)))
+    ∙ written_at s.args.p s.args.run s.args.message1.now s.args.message2.now s.args.message3.now s.args.out.now s.pre
     w.wide.result size.message2-length.result at w.wide.ensures size.message2-length.ensures place.prefix-place.ensures
 
 pub put-statement-spec : {M : Type 1} → statement M
 put-statement-spec = tie.close (tie.spec (λ c κs. search rules) (λ c κs. search rules) (λ c κs. search rules) (λ c. search rules) (λ c. search rules)
     mul-points (λ c. search rules) (λ c. search rules) (λ c. search rules) (λ c. search rules) (λ c. search rules) (λ c κs. search rules)
-    (λ c. search rules) (λ c. search rules) (λ c. search rules) (λ c. search rules) (λ c κs. search rules) (λ c κs. search rules) add-put-at-3 (λ c. search rules)
-    (λ c. search rules) part-put-at-end-3 (λ c κs. search rules) slice-aggregate-put-at put-at-requires-5 add-put-at-4 (λ c. search rules) put-at-requires-6 (λ c. search rules) returns)
+    (λ c. search rules) (λ c. search rules) (λ c. search rules) (λ c. search rules) (λ c κs. search rules) add-put-at-3 (λ c. search rules)
+    (λ c. search rules) part-put-at-end-3 (λ c κs. search rules) slice-aggregate-put-at put-at-requires-4 (λ c. search rules) (λ c. search rules)
+    (λ c κs. search rules) (λ c. search rules) returns)

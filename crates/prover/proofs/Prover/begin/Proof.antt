@@ -1,5 +1,5 @@
 -- The checks refuse and nothing changes, or they pass and the call is carried out with the x that they left.
-use mathlib.Core.Path.{◌≡◌, sym, ap₂, ◌∙◌}
+use mathlib.Core.Path.{◌≡◌, sym, ap, ◌∙◌}
 use mathlib.Core.Bool.{true}
 use mathlib.Core.List.{List}
 use Prim.Native.Nat.{ℕ}
@@ -13,7 +13,7 @@ use Rattle.prover.specs.Carried.{starting, begun-with}
 use Rattle.prover.specs.Arguments.Laws.{passed, failed}
 use Rattle.prover.specs.Checks.{begin-told, done-is, refused-call, done-call, begin-facts}
 use Rattle.prover.specs.Held.{held}
-use Rattle.prover.proofs.Arrays.{salt-length, root-length}
+use Rattle.prover.proofs.Arrays.{root-length}
 use Rattle.prover.proofs.Prover.begin.Statement.{statement}
 use Rattle.prover.proofs.Prover.begin.Tie as tie
 
@@ -29,7 +29,7 @@ answers : (c : tie.After-begin-checks) → (let a = (start c).args in c.begin-ch
     a.out.now)
 answers c = let again : tie.After-repeated = search in let a = (start c).args in let s = a.self in
     begin-told SHAKE256 (held s) a.work.now a.out.now a.p a.runs a.x-a.now a.salt.now a.root.now (key_of a.matrix.now a.y.now) _ _
-    c.begin-checks.ensures.0 (again.repeated.ensures s.parameters s.runs s.x s.digest s.message2)
+    c.begin-checks.ensures.0 (again.repeated.ensures s.parameters s.runs s.x s.message2)
 
 done : (c : tie.Else1) → is_done (checked c).begin-checks.result ≡ true
 done c = passed c.before.is-done.ensures c.if1.false
@@ -52,15 +52,14 @@ begun-requires c κs = let e : tie.Else1 = search in let a = (start (checked e))
 
 returns-2 : tie.Need-returns-2
 unfolding begin
-returns-2 c = let begun : tie.After-begun = search in let made : tie.After-key-digest = search in let e : tie.Else1 = search in let a = (start (checked e)).args in
+returns-2 c = let begun : tie.After-begun = search in let e : tie.Else1 = search in let a = (start (checked e)).args in
     let key = key_of a.matrix.now a.y.now in
     begun.begun.ensures
-    ∙ ap₂ (λ (x d : List ℕ). begun_with a.p a.runs x a.salt.now a.root.now d a.work.now)
-    ((checked e).begin-checks.ensures.1 (done-is _ (done e))) made.key-digest.ensures
+    ∙ ap (λ (x : List ℕ). begun_with a.p a.runs x a.salt.now a.root.now a.work.now) ((checked e).begin-checks.ensures.1 (done-is _ (done e)))
     ∙ begun-with (held a.self) a.p a.runs a.x-a.now a.salt.now a.root.now key a.work.now a.out.now (facts e)
     ∙ done-call _ _ (held a.self) a.out.now a.work.now _ (answers (checked e)) (done e)
 
 pub begin-spec : {M : Type 1} → statement M
-begin-spec = tie.close (tie.spec (λ c κs. search rules) (λ c. let s : tie.Start = search in sym (salt-length s.args.self s.good.0))
+begin-spec = tie.close (tie.spec (λ c κs. search rules) (λ c. search rules)
     (λ c. let s : tie.Start = search in sym (root-length s.args.self s.good.0)) (λ c κs. search rules) (λ c. search rules)
-    (λ c κs. search rules) (λ c κs. search rules) returns (λ c κs. (facts c).limits.within) begun-requires (λ c. search rules) (λ c. search rules) returns-2)
+    (λ c κs. search rules) (λ c κs. search rules) returns begun-requires (λ c. search rules) (λ c. search rules) returns-2)

@@ -1,5 +1,5 @@
 -- The checks refuse and nothing changes, or they pass and message 3 is made from what the session holds.
-use mathlib.Core.Path.{◌≡◌, refl, sym, ap, ap₂, ◌∙◌}
+use mathlib.Core.Path.{◌≡◌, sym, ap, ap₂, ◌∙◌}
 use mathlib.Core.Bool.{true}
 use mathlib.Core.List.{List}
 use Prim.Native.Nat.{ℕ, ◌/◌}
@@ -13,13 +13,13 @@ use Rattle.exchange.specs.Values.{key_of}
 use Rattle.runs.specs.Messages.{message3}
 use Rattle.messages.specs.Run.{salt_in, root_in}
 use Rattle.prover_phase.specs.declared.Phase.{Phase}
-use Rattle.calls.specs.Prover.{Prover as Session, held_x, points_checks, points}
+use Rattle.calls.specs.Prover.{held_x, points_checks, points}
 use Rattle.prover.specs.Arguments.Laws.{passed, failed}
 use Rattle.prover.specs.Carried.{run-count, answered-made}
 use Rattle.prover.specs.Checks.{refused-call, done-call, points-limited, points-facts}
-use Rattle.prover.specs.Facts.{is_done, outcome_of, Answering}
+use Rattle.prover.specs.Facts.{is_done, Answering}
 use Rattle.prover.specs.Held.{held, session}
-use Rattle.prover.proofs.Arrays.{x-length, salt-length, root-length, digest-length, message2-length, held-exchanging}
+use Rattle.prover.proofs.Arrays.{x-length, salt-length, root-length, message2-length, held-exchanging}
 use Rattle.prover.proofs.Prover.points.Statement.{statement}
 use Rattle.prover.proofs.Prover.points.Tie as tie
 
@@ -41,9 +41,8 @@ begun c = start (counted (checked c))
 -- what the checks answer, of the session
 answers : (c : tie.After-points-checks) → (let a = (start (counted c)).args in c.points-checks.result
     ≡ points_checks SHAKE256 (held a.self) a.message2.now (key_of a.matrix.now a.y.now) a.work.now a.out.now)
-answers c = let a = (start (counted c)).args in let s = a.self in
-    c.points-checks.ensures s.phase s.x s.salt s.root s.message2 a.work.now a.out.now
-    ((counted c).standing.ensures s.salt s.root s.digest s.message2) refl
+answers c = let s = (start (counted c)).args.self in
+    c.points-checks.ensures s.phase s.x s.salt s.root s.message2 ((counted c).standing.ensures s.salt s.root s.message2)
 
 done : (c : tie.Else1) → is_done (checked c).points-checks.result ≡ true
 done c = passed c.before.is-done.ensures c.if1.false
@@ -59,14 +58,12 @@ count c = run-count _ _ (facts c).out-is
 
 points-checks-requires : tie.Need-points-checks-requires
 points-checks-requires c κs = let f : tie.After-standing = search in let s = (start f).args.self in
-    points-limited (held s) f.standing.result (f.standing.ensures s.salt s.root s.digest s.message2)
+    points-limited (held s) f.standing.result (f.standing.ensures s.salt s.root s.message2)
 
 returns : tie.Need-returns
 unfolding points
 returns c = let called : tie.After-points-checks = search in let a = (start (counted called)).args in
-    let done : tie.After-is-done = search in let refused : tie.Then1 = search in
-    ap (λ (z : Session). outcome_of called.points-checks.result z a.out.now a.work.now) c.holding.ensures
-    ∙ refused-call _ _ (held a.self) a.out.now a.work.now _ (answers called) (failed done.is-done.ensures refused.if1.taken)
+    refused-call _ _ (held a.self) a.out.now a.work.now _ (answers called) (failed c.before.is-done.ensures c.if1.true)
 
 message3-requires : tie.Need-message3-requires
 message3-requires c κs = let seeds : tie.After-seeds-of = search in let e = passing seeds in let s = start (counted (checked e)) in let h = facts e in
@@ -96,8 +93,8 @@ returns-2 c = let put : tie.After-put-at = search in let made : tie.After-messag
     let e = passing seeds in let a = (start (counted (checked e))).args in let s = a.self in let key = key_of a.matrix.now a.y.now in
     let next : tie.After-points = search in
     answered-made (held s) key a.work.now a.out.now a.message2.now _ _ _
-    (c.holding2.ensures
-    ∙ ap₂ (λ (f : Phase) (m : List ℕ). session f s.parameters s.runs s.x s.salt s.root s.digest m) next.points.ensures put.put-at.ensures)
+    (c.holding.ensures
+    ∙ ap₂ (λ (f : Phase) (m : List ℕ). session f s.parameters s.runs s.x s.salt s.root m) next.points.ensures put.put-at.ensures)
     (made.message3.ensures.0
     ∙ ap (λ (n : ℕ). message3 SHAKE256 s.parameters n (held_x (held s)) (salt_in seeds.seeds-of.result) (root_in seeds.seeds-of.result) key a.message2.now) (count e)
     ∙ ap₂ (λ (b d : List ℕ). message3 SHAKE256 s.parameters s.runs (held_x (held s)) b d key a.message2.now) seeds.seeds-of.ensures.0
@@ -107,9 +104,8 @@ returns-2 c = let put : tie.After-put-at = search in let made : tie.After-messag
 
 pub points-spec : {M : Type 1} → statement M
 points-spec = tie.close (tie.spec (λ c. let s : tie.Start = search in sym (x-length s.args.self s.good.0))
-    (λ c κs. let s : tie.Start = search in x-length s.args.self s.good.0)
-    (λ c. let f : tie.After-standing = search in let s = start f in sym (digest-length s.args.self s.good.0)) points-checks-requires (λ c κs. search rules)
-    (λ c κs. search rules) returns (λ c. let e : tie.Else1 = search in let s = begun e in sym (salt-length s.args.self s.good.0))
+    (λ c κs. let s : tie.Start = search in x-length s.args.self s.good.0) points-checks-requires (λ c κs. search rules) (λ c. search rules)
+    (λ c. search rules) returns (λ c. let e : tie.Else1 = search in let s = begun e in sym (salt-length s.args.self s.good.0))
     (λ c. let e : tie.Else1 = search in let s = begun e in sym (root-length s.args.self s.good.0))
     (λ c κs. let e : tie.Else1 = search in let s = begun e in (salt-length s.args.self s.good.0, root-length s.args.self s.good.0))
     (λ c. let e : tie.Else1 = search in let s = begun e in sym (x-length s.args.self s.good.0))

@@ -24,16 +24,16 @@ x_fits c = omega (arith, (start c).requires, test-within (start c).args.p (limit
 
 returns : tie.Need-returns
 unfolding intact
-returns c = λ f salt root digest m2. rw (failed c.before.within-limits.ensures c.if1.true)
+returns c = λ f salt root m2. rw (failed c.before.within-limits.ensures c.if1.true)
 
 returns-2 : tie.Need-returns-2
 unfolding intact
-returns-2 c = let e : tie.Else1 = search in λ f salt root digest m2. rw (limits e, failed c.before.runs-within.ensures c.if2.true)
+returns-2 c = let e : tie.Else1 = search in λ f salt root m2. rw (limits e, failed c.before.runs-within.ensures c.if2.true)
 
 returns-3 : tie.Need-returns-3
 unfolding intact held_x
 returns-3 c = let count : tie.Else2 = search in let e : tie.Else1 = search in
-    λ f salt root digest m2. rw (limits e, passed count.before.runs-within.ensures count.if2.left) c.within-weight.ensures
+    λ f salt root m2. rw (limits e, passed count.before.runs-within.ensures count.if2.left) c.within-weight.ensures
 
 pub intact-spec : {M : Type 1} → statement M
 intact-spec = tie.close (tie.spec (λ c κs. search rules) returns (λ c κs. search rules) returns-2

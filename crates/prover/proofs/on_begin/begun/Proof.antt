@@ -1,7 +1,5 @@
 -- Message 1 is made, and the session holds the new exchange.
 use mathlib.Core.Path.{◌≡◌, ap, ap₂, ◌∙◌}
-use mathlib.Core.List.{List}
-use Prim.Native.Nat.{ℕ}
 use native.Mathlib.Omega.{arith}
 use lib.ListN.{length, take}
 use borrow.Author.Rules.{rules}
@@ -29,14 +27,13 @@ message1-requires c κs = let seeds : tie.After-seeds-of = search in let start :
 
 returns : tie.Need-returns
 returns c = let made : tie.After-message1 = search in let seeds : tie.After-seeds-of = search in let start : tie.Start = search in let a = start.args in
-    begun-made a.p a.runs a.t3 a.salt.now a.root.now a.t6 a.work.now _ _ _ (c.holding.ensures
-    ∙ ap₂ (λ (b d : List ℕ). next_begun c.before.begin.result a.p a.runs a.t3 b d a.t6) c.before.before.before.array32.ensures
-    c.before.before.array16.ensures
-    ∙ ap (λ (f : Phase). next_begun f a.p a.runs a.t3 a.salt.now a.root.now a.t6) c.before.begin.ensures)
+    begun-made a.p a.runs a.t3 a.salt.now a.root.now a.work.now _ _ _ (c.holding.ensures
+    ∙ ap₂ (next_begun c.before.begin.result a.p a.runs a.t3) c.before.before.before.array32.ensures c.before.before.array16.ensures
+    ∙ ap (λ (f : Phase). next_begun f a.p a.runs a.t3 a.salt.now a.root.now) c.before.begin.ensures)
     (made.message1.ensures.0
-    ∙ ap₂ (λ (b d : List ℕ). message1 SHAKE256 a.p a.runs (take a.p.m a.t3) b d a.t6) seeds.seeds-of.ensures.0 seeds.seeds-of.ensures.1)
+    ∙ ap₂ (message1 SHAKE256 a.p a.runs (take a.p.m a.t3)) seeds.seeds-of.ensures.0 seeds.seeds-of.ensures.1)
     made.message1.ensures.1
 
 pub begun-spec : {M : Type 1} → statement M
-begun-spec = tie.close (tie.spec (λ c κs. search rules) (λ c. search rules) (λ c. search rules) (λ c. search rules) message1-requires (λ c κs. search rules)
+begun-spec = tie.close (tie.spec (λ c κs. search rules) (λ c. search rules) (λ c. search rules) message1-requires (λ c κs. search rules)
     (λ c κs. search rules) (λ c κs. search rules) (λ c κs. search rules) (λ c. search rules) (λ c. search rules) returns)

@@ -20,44 +20,43 @@ abbrev start : tie.After-opening-checks → tie.Start
 start c = search
 
 -- what the checks answer, of the session
-answers : (c : tie.After-opening-checks) → (let a = (start c).args in c.opening-checks.result ≡ opening_checks SHAKE256 (held a.t1) a.message5.now
+answers : (c : tie.After-opening-checks) → (let a = (start c).args in c.opening-checks.result ≡ opening_checks SHAKE256 (held a.self) a.message5.now
     (key_of a.matrix.now a.y.now) a.work.now)
-answers c = c.opening-checks.ensures (start c).args.message5.now (start c).args.work.now refl
+answers c = c.opening-checks.ensures (start c).args.self.messages
 
 -- a field that is an array has its length
-messages-length : (c : tie.Start) → length c.args.t1.messages ≡ 4_160
-messages-length c = sym (length-map c.args.t1.messages _) ∙ c.well-formed.0.1.1.1.1.1.0.1.0.1
+messages-length : (c : tie.Start) → length c.args.self.messages ≡ 4_128
+messages-length c = sym (length-map c.args.self.messages _) ∙ c.well-formed.0.1.1.1.1.1.0.1.0.1
 
-leaves-length : (c : tie.Start) → length c.args.t1.leaves ≡ 32
-leaves-length c = sym (length-map c.args.t1.leaves _) ∙ c.well-formed.0.1.1.1.1.1.1.0.1.0.1
+leaves-length : (c : tie.Start) → length c.args.self.leaves ≡ 32
+leaves-length c = sym (length-map c.args.self.leaves _) ∙ c.well-formed.0.1.1.1.1.1.1.0.1.0.1
 
 returns : tie.Need-returns
 returns c = let called : tie.After-opening-checks = search in
     refused-opening _ _ _ _ _ _ (answers called) c.enum-told2.given.0.0 c.enum-told2.given.1
 
 -- past the checks
-abbrev back-to-checks : tie.After-enum-told → tie.After-opening-checks
-back-to-checks c = c.before.before
+abbrev back-to-checks : tie.After-messages → tie.After-opening-checks
+back-to-checks c = search
 
-passed : (c : tie.After-enum-told) → (let a = (start (back-to-checks c)).args in Opened SHAKE256 (held a.t1) (length a.message5.now)
-    (key_of a.matrix.now a.y.now) (length a.work.now))
-passed c = opening-passed _ _ _ _ _ (sym (answers (back-to-checks c)) ∙ c.enum_told.given.1)
+passed : (c : tie.After-messages) → (let a = (start (back-to-checks c)).args in Opened (held a.self) (length a.message5.now) (length a.matrix.now)
+    (length a.y.now) (length a.work.now))
+passed c = opening-passed _ _ _ _ _ (sym (answers (back-to-checks c)) ∙ c.before.enum_told.given.1)
 
-chosen : (c : tie.After-enum-told) → (let s = (start (back-to-checks c)).args.t1 in length (take s.runs s.leaves) ≡ s.runs)
+chosen : (c : tie.After-messages) → (let s = (start (back-to-checks c)).args.self in length (take s.runs s.leaves) ≡ s.runs)
 chosen c = let s = start (back-to-checks c) in
-    length-take-le s.args.t1.runs s.args.t1.leaves (omega (arith, leaves-length s, (passed c).counted.most))
+    length-take-le s.args.self.runs s.args.self.leaves (omega (arith, leaves-length s, (passed c).counted.most))
 
 array-share-prefix-leaves : tie.Need-array-share-prefix-leaves
-array-share-prefix-leaves c = let m : tie.After-enum-told = search in omega (arith, (passed m).counted.most, leaves-length (start (back-to-checks m)))
+array-share-prefix-leaves c = let m : tie.After-messages = search in omega (arith, (passed m).counted.most, leaves-length (start (back-to-checks m)))
 
 judge-requires : tie.Need-judge-requires
-judge-requires c κs = let m : tie.After-enum-told = search in let known = passed m in
+judge-requires c κs = let m : tie.After-messages = search in let known = passed m in
     record {
       within = known.within;
       some = omega (arith, chosen m, known.counted.least);
       few = omega (arith, chosen m, known.counted.most);
       sized-messages = messages-length (start (back-to-checks m));
-      keyed = known.keyed;
       below = known.below;
       sized-message5 = known.size;
       lent = known.lent;
@@ -65,15 +64,15 @@ judge-requires c κs = let m : tie.After-enum-told = search in let known = passe
 
 returns-2 : tie.Need-returns-2
 unfolding ended
-returns-2 c = let j : tie.After-judge = search in let m : tie.After-enum-told = search in let called = back-to-checks m in let a = (start called).args in
-    let s = a.t1 in let key = key_of a.matrix.now a.y.now in
+returns-2 c = let j : tie.After-judge = search in let m : tie.After-messages = search in let called = back-to-checks m in let a = (start called).args in
+    let s = a.self in let key = key_of a.matrix.now a.y.now in
     judged-opening _ _ _ _ _ _ (answers called) _ _ _
     (j.judge.ensures.0
     ∙ ap (λ (n : ℕ). verdict SHAKE256 s.parameters n (transcript_in s.messages (take s.runs s.leaves) a.message5.now) key) (chosen m)
     ∙ sym (held-verdict s.parameters s.phase s.runs s.messages s.leaves a.message5.now key))
-    refl j.judge.ensures.1 m.enum_told.given.1
+    refl j.judge.ensures.1 m.before.enum_told.given.1
 
 pub opening-spec : {M : Type 1} → statement M
-opening-spec = tie.close (tie.spec (λ c. let s : tie.Start = search in sym (leaves-length s)) (λ c κs. let s : tie.Start = search in (messages-length s, leaves-length s))
-    (λ c. search rules) (λ c. search rules) returns
-    array-share-prefix-leaves (λ c. let m : tie.After-enum-told = search in sym (chosen m)) judge-requires (λ c. search rules) returns-2)
+opening-spec = tie.close (tie.spec (λ c. search rules) (λ c κs. search rules) (λ c. search rules) (λ c. search rules) (λ c. search rules) returns
+    (λ c. search rules) array-share-prefix-leaves (λ c. let m : tie.After-messages = search in sym (chosen m)) judge-requires (λ c. search rules)
+    returns-2)

@@ -18,7 +18,7 @@ answers : (c : tie.After-response-checks) → (let a = (start c).args in c.respo
 answers c = c.response-checks.ensures (start c).args.self.messages
 
 -- a field that is an array has its length
-messages-length : (c : tie.Start) → length c.args.self.messages ≡ 4_160
+messages-length : (c : tie.Start) → length c.args.self.messages ≡ 4_128
 messages-length c = sym (length-map c.args.self.messages _) ∙ c.well-formed.0.1.1.1.1.1.0.1.0.1
 
 returns : tie.Need-returns

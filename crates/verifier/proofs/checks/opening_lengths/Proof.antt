@@ -7,8 +7,8 @@ use Rattle.verifier.proofs.checks.opening_lengths.Tie as tie
 
 returns-2 : tie.Need-returns-2
 unfolding lent
-returns-2 c = let n : tie.After-messages5-length = search in rw (← n.messages5-length.ensures, eq-eqb _ _ c.before.if1.false) c.lent.ensures
+returns-2 c = rw (← c.before.before.messages5-length.ensures, eq-eqb _ _ c.before.if1.false) c.lent.ensures
 
 pub opening-lengths-spec : {M : Type 1} → statement M
-opening-lengths-spec = tie.close (tie.spec (λ c κs. search rules) (λ c. let n : tie.After-messages5-length = search in rw (← n.messages5-length.ensures, ne_eqb _ _ c.if1.true))
+opening-lengths-spec = tie.close (tie.spec (λ c κs. search rules) (λ c. rw (← c.before.messages5-length.ensures, ne_eqb _ _ c.if1.true))
     (λ c κs. search rules) returns-2)

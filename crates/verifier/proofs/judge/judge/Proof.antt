@@ -55,7 +55,6 @@ judge-run-requires c κs = let q : tie.After-message5-length invariant-loop decr
       within = s.pre.within;
       few = omega (arith, below q, s.pre.few);
       sized-messages = s.pre.sized-messages;
-      keyed = s.pre.keyed;
       below = omega (arith, s.pre.below l.loop.e (below q), q.before.wide.ensures);
       sized-message5 = length-lent _ _ _ (inside q) ∙ q.message5-length.ensures;
       sized-matrix = s.pre.lent.matrix-is;
