@@ -46,7 +46,7 @@ module _ {K : Type 0} (R : Ring2 K) where
   unfolding expand
   cross f g a b [] h = ap (λ (v : K). v ∷ []) (cross-end f g a b h)
   cross f g a b (l ∷ []) h = ap (λ (v : K). v ∷ l ∷ []) h
-  cross f g a b (l ∷ m ∷ p) h = ap₂ ◌∷◌ (cross_head f g a b l m h) (cross f g _ _ (m ∷ p) (cross-next f g l m))
+  cross f g a b (l ∷ m ∷ p) h = ap₂ ◌∷◌ (cross_head f g a b l m h) (cross f g (l + g * m) (l + f * m) (m ∷ p) (cross-next f g l m))
 
   cross-zero : (f g : K) → 𝟘 + f * 𝟘 ≡ 𝟘 + g * 𝟘
   cross-zero f g = simp (ring, R)
