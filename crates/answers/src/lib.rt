@@ -3,7 +3,7 @@ ghost use Rattle.std.specs.Prelude.{◌≡◌};
 ghost use Rattle.answers.specs.Number.{refusal_number, answer_number};
 
 // Why a call is refused.
-#[derive(Drop)]
+#[derive(Clone, Copy)]
 pub enum Refusal {
     // 1: a parameter outside its limits
     Parameter,
@@ -35,7 +35,7 @@ pub enum Refusal {
 }
 
 // What a session call answers. `Done`: it was carried out, and where it judges an opening, the opening is accepted.
-#[derive(Drop)]
+#[derive(Clone, Copy)]
 pub enum Answer {
     Done,
     Refused(Refusal),

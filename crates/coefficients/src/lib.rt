@@ -14,7 +14,7 @@ use layout::share_length;
 use parameters::Parameters;
 
 // How many shares there are, and whether they get the constants.
-#[derive(Drop)]
+#[derive(Clone, Copy)]
 pub struct Group {
     pub n: usize,
     pub first: bool,

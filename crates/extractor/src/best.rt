@@ -7,7 +7,7 @@ use crate::run::Judgement;
 use answers::Answer;
 
 // Layer 0: there is no unequal pair.
-#[derive(Drop)]
+#[derive(Clone, Copy)]
 pub struct Best {
     pub first: Answer,
     pub second: Answer,

@@ -20,7 +20,7 @@ use lists::equal;
 use parameters::{Parameters, within_limits};
 
 // The lengths of messages 1, 3 and 5 of an exchange.
-#[derive(Drop)]
+#[derive(Clone, Copy)]
 pub struct Lengths {
     pub message1: usize,
     pub message3: usize,
@@ -28,7 +28,7 @@ pub struct Lengths {
 }
 
 // The lengths of all that is lent but messages 2 and 4 of both exchanges.
-#[derive(Drop)]
+#[derive(Clone, Copy)]
 pub struct Lent {
     pub first: Lengths,
     pub second: Lengths,

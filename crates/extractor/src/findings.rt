@@ -15,7 +15,7 @@ use layout::{leaf_count, rows_end, states_length};
 use parameters::Parameters;
 
 // What the extractor answers.
-#[derive(Drop)]
+#[derive(Clone, Copy)]
 pub enum Extraction {
     Refused(Refusal),
     // the first unequal pair of strings: its run, its layer, and the axis for 6, the leaf for 4, 0 for 7 and 5
@@ -25,7 +25,7 @@ pub enum Extraction {
 }
 
 // The first unequal pair of strings of a run: its layer, and the axis for 6, the leaf for 4, 0 for 7 and 5. Layer 0: there is none.
-#[derive(Drop)]
+#[derive(Clone, Copy)]
 pub struct Difference {
     pub layer: u8,
     pub number: u8,

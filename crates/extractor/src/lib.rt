@@ -40,7 +40,7 @@ use run::check_run;
 pub const MOST_OPENINGS: usize = 19520;
 
 // The hidden leaves of two openings.
-#[derive(Drop)]
+#[derive(Clone, Copy)]
 pub struct Hidden {
     pub first: usize,
     pub second: usize,

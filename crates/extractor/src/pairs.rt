@@ -7,7 +7,7 @@ use layout::runs::messages5_length;
 use parameters::Parameters;
 
 // The hidden leaf of a run, and its part of message 5.
-#[derive(Drop)]
+#[derive(Clone, Copy)]
 pub struct Place {
     pub leaf: usize,
     pub start: usize,
@@ -15,7 +15,7 @@ pub struct Place {
 }
 
 // The same run of two exchanges.
-#[derive(Drop)]
+#[derive(Clone, Copy)]
 pub struct Pair {
     pub p: Parameters,
     pub first: Place,

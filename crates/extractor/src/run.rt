@@ -13,7 +13,7 @@ use layout::{MOST_OPENED, prefix_place};
 
 // What a run gives: the verdict on either opening, and the first unequal pair of strings. Where the first opening is refused the
 // rest is not looked at.
-#[derive(Drop)]
+#[derive(Clone, Copy)]
 pub struct Judgement {
     pub first: Answer,
     pub second: Answer,

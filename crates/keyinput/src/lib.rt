@@ -7,7 +7,7 @@ use keytext::KeyScan;
 use libc::STDIN_FILENO;
 
 // The scanner after a piece, and whether the piece had any bytes.
-#[derive(Drop)]
+#[derive(Clone, Copy)]
 pub struct Fed {
     pub scan: KeyScan,
     pub more: bool,

@@ -19,7 +19,7 @@ use text::word::WordScan;
 
 // A key's text as its bytes come. `sound` while it can still be the four lines; `line` of them have ended, and `field` fields of the next one; the
 // field begun is read by the scanner of its kind. `numbers` are the set line's, and `lengths` the bytes of the matrix, y and x_A, as far as they are read.
-#[derive(Drop)]
+#[derive(Clone, Copy)]
 pub struct KeyScan {
     pub sound: bool,
     pub line: usize,

@@ -5,7 +5,7 @@ ghost use Rattle.std.specs.Prelude.{◌≡◌};
 ghost use Rattle.parameters.specs.Limits.{within_limits};
 
 // The parameters: length m, dimension k, weight w, axes D, positions t. Each can hold a value past its limit, which is refused.
-#[derive(Drop)]
+#[derive(Clone, Copy)]
 pub struct Parameters {
     pub m: usize,
     pub k: usize,

@@ -12,7 +12,7 @@ ghost use Rattle.exchange.specs.Reading.{◌⊞◌, ◌⊠◌};
 ghost use Rattle.points.specs.Multiples.{word_of, by_x, by_z, multiples_of, Lower, Read, Multiplies};
 
 // A product of points, and how many products were made up to it.
-#[derive(Drop)]
+#[derive(Clone, Copy)]
 pub struct Counted {
     pub point: [u8; 4],
     pub made: usize,

@@ -22,7 +22,7 @@ pub fn within(p: Parameters, runs: usize) -> bool
 }
 
 // The lengths of what begin is lent besides x_A, matrix and y.
-#[derive(Drop)]
+#[derive(Clone, Copy)]
 pub struct Lengths {
     pub salt: usize,
     pub root: usize,

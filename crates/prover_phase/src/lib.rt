@@ -7,7 +7,7 @@ ghost use Rattle.std.specs.Prelude.{◌≡◌};
 ghost use Rattle.prover_phase.specs.Phases.{is_fresh};
 
 // Which call is due. Begin is due always.
-#[derive(Drop)]
+#[derive(Clone, Copy)]
 pub enum Phase {
     // before the first begin
     Fresh,

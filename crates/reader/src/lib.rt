@@ -8,7 +8,7 @@ ghost use Rattle.reader.specs.Taken.{taken, behind};
 use place::copy_part;
 
 // 'a reader that holds the lent message and a place'
-#[derive(Drop)]
+#[derive(Clone, Copy)]
 pub struct Reader<'a> {
     pub message: &'a [u8],
     pub at: usize,

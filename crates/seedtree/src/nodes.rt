@@ -12,7 +12,7 @@ pub fn node_bytes(v: usize) -> [u8; 2]
 }
 
 // A place on the way to a leaf: a node, how many leaves are below it, and which of these the way leads to.
-#[derive(Drop)]
+#[derive(Clone, Copy)]
 pub struct Way {
     pub node: usize,
     pub leaf: usize,

@@ -20,7 +20,7 @@ const FINAL: u8 = 0x80;
 
 // A sponge: the state's 25 lanes, and the place of the next byte in the block. A place at or past the rate is a full
 // block, which is permuted when the next byte is asked of it.
-#[derive(Drop)]
+#[derive(Clone, Copy)]
 pub struct Sponge {
     pub lanes: [u64; 25],
     pub at: usize,

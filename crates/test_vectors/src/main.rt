@@ -6,7 +6,7 @@ use libc::STDOUT_FILENO;
 use shake256::shake256;
 
 // What the lines so far say, lengths in bytes: the line at hand, the case at hand, and how many cases held.
-#[derive(Drop)]
+#[derive(Clone, Copy)]
 struct Tally {
     // the length of the line so far
     line: usize,

@@ -6,7 +6,7 @@ ghost use Rattle.text.specs.Scanner.Decimal.{decimal_start, decimal_broken, deci
 use crate::both;
 
 // A decimal as its digits come: how many, their value, whether they are a single 0; `sound` while the field can still be a decimal.
-#[derive(Drop)]
+#[derive(Clone, Copy)]
 pub struct DecimalScan {
     pub digits: usize,
     pub value: usize,

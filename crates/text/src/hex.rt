@@ -7,7 +7,7 @@ use crate::both;
 
 // A hex field as its digits come: the bytes so far, counted up to one more than the lent slice holds; the first digit of a byte whose second
 // is still to come (`half`); `sound` while every byte was a hex digit.
-#[derive(Drop)]
+#[derive(Clone, Copy)]
 pub struct HexScan {
     pub count: usize,
     pub high: u8,

@@ -3,7 +3,7 @@ ghost use Rattle.std.specs.Prelude.{◌≡◌};
 ghost use Rattle.text.specs.Scanner.Word.{word_start, word_step, word_accepts};
 
 // A field compared with a word as its bytes come: `at` of them agree with the word's; `sound` while no byte differed.
-#[derive(Drop)]
+#[derive(Clone, Copy)]
 pub struct WordScan {
     pub at: usize,
     pub sound: bool,

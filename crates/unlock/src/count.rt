@@ -8,7 +8,7 @@ use answers::{Answer, Refusal};
 use text::decimal::DecimalScan;
 
 // What the arguments say: a run count, within its limits or not, or nothing that can be read.
-#[derive(Drop)]
+#[derive(Clone, Copy)]
 pub enum RunCount {
     Runs(usize),
     Unreadable,

@@ -18,7 +18,7 @@ use points::encoding::point_at;
 use points::{multiples_of, product_by};
 
 // A position l: ε and F(r) there, the word of the leading term of Q, and how many products were made up to it.
-#[derive(Drop)]
+#[derive(Clone, Copy)]
 struct Position {
     l: usize,
     multiplier: [u8; 4],

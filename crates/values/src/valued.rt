@@ -16,7 +16,7 @@ use points::encoding::point_at;
 use points::{point_of, sum, word_of};
 
 // What an evaluation gives beside the values: F(r), the word of the leading term of Q, and how many products were made.
-#[derive(Drop)]
+#[derive(Clone, Copy)]
 pub struct Evaluation {
     pub vanishing: [u8; 4],
     pub leading: u64,

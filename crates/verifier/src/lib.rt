@@ -34,7 +34,7 @@ pub struct Verifier {
 }
 
 // A session after a call, with what the call answers.
-#[derive(Drop)]
+#[derive(Clone, Copy)]
 pub struct Called {
     pub verifier: Verifier,
     pub answer: Answer,

@@ -5,7 +5,7 @@ ghost use Rattle.std.specs.Prelude.{◌≡◌};
 ghost use Rattle.verifier_phase.specs.Phases as spec;
 
 // Which call is due. Begin is due always.
-#[derive(Drop)]
+#[derive(Clone, Copy)]
 pub enum Phase {
     // before the first begin
     Fresh,

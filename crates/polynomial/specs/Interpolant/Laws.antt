@@ -91,16 +91,16 @@ unfolding interpolant_of
 bytes-interpolant x h = bytes-interpolate (interpolation_points (length x)) x h
 
 module _ (x : List ℕ) (short : length x < 256) where
-  in_field : in_field (interpolant_of x) ≡ interpolate (ops byte_ring) byte_inverse (in_field (interpolation_points (length x))) (in_field x)
+  interpolant_in_field : in_field (interpolant_of x) ≡ interpolate (ops byte_ring) byte_inverse (in_field (interpolation_points (length x))) (in_field x)
   unfolding interpolant_of
-  in_field = map-interpolate byte_ops (ops byte_ring) byte byte-homomorphism inverse byte_inverse byte-inverse (interpolation_points (length x)) x
+  interpolant_in_field = map-interpolate byte_ops (ops byte_ring) byte byte-homomorphism inverse byte_inverse byte-inverse (interpolation_points (length x)) x
 
   as_many : length (in_field (interpolation_points (length x))) ≡ length (in_field x)
   as_many = length-points (length x) ∙ sym (length-map x byte)
 
   pub interpolant-values : values (ops byte_ring) (in_field (interpolant_of x)) (in_field (interpolation_points (length x))) ≡ in_field x
   interpolant-values =
-      ap (λ (p : List Byte). values (ops byte_ring) p (in_field (interpolation_points (length x)))) in_field
+      ap (λ (p : List Byte). values (ops byte_ring) p (in_field (interpolation_points (length x)))) interpolant_in_field
       ∙ interpolate-values byte_field (in_field (interpolation_points (length x))) (in_field x) as_many (points-distinct (length x) short)
 
   pub interpolant-only : (p : List Byte) → length p ≡ length x
@@ -108,7 +108,7 @@ module _ (x : List ℕ) (short : length x < 256) where
   interpolant-only p l e =
       interpolate-unique byte_field (in_field (interpolation_points (length x))) (in_field x) p as_many (points-distinct (length x) short)
       (l ∙ sym (length-points (length x))) e
-      ∙ sym in_field
+      ∙ sym interpolant_in_field
 
   -- ---- the same on numbers
   values-in-field : (p fs : List ℕ) → in_field (values byte_ops p fs) ≡ values (ops byte_ring) (in_field p) (in_field fs)

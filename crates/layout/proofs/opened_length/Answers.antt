@@ -1,0 +1,7 @@
+-- All that an opening gives takes at most 9760 bytes.
+use Rattle.std.proofs.Common.{arith}
+use Rattle.layout.specs.Layout.Bounds.{opened-most}
+use Rattle.layout.proofs.opened_length.Goals as goal
+
+pub overflow_add-result : goal.overflow_add-result
+overflow_add-result c = omega (arith, c.rows_end.ensures, opened-most c.args.p c.requires)
