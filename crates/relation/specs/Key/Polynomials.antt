@@ -142,8 +142,8 @@ module _ (w : ℕ) (x : List ℕ) where
           let s = length-interpolant x in
           omega arith
 
-      in_field : times (ops byte_ring) P (in_field (vanishing_of (length x))) ≡ times (ops byte_ring) S (in_field (locator_of w x))
-      in_field =
+      products_in_field : times (ops byte_ring) P (in_field (vanishing_of (length x))) ≡ times (ops byte_ring) S (in_field (locator_of w x))
+      products_in_field =
           ap (times (ops byte_ring) P) (vanishing-in-field (length x))
           ∙ relation byte_field (positions w x) points S (distinct-leave (positions w x) points (points-distinct (length x) short)) long
           (zero-outside w x S points (interpolant-values x short))
@@ -160,7 +160,7 @@ module _ (w : ℕ) (x : List ℕ) where
           let b = length-map (vanishing_of (length x)) byte in
           let c = length-vanishing (length x) in
           let d = length-append F.0 (byte_ring.one ∷ []) in omega arith) in
-          ap (λ (p : List Byte). over (ops byte_ring) p (in_field (vanishing_of (length x)))) (sym in_field)
+          ap (λ (p : List Byte). over (ops byte_ring) p (in_field (vanishing_of (length x)))) (sym products_in_field)
           ∙ ap (λ (f : List Byte). over (ops byte_ring) (times (ops byte_ring) P f) f) F.1
           ∙ over-times byte_ring P F.0 (omega arith) (omega arith)
           ∙ ap (λ (m : ℕ). P ++ replicate m byte_ring.zero) n
@@ -210,6 +210,6 @@ module _ (w : ℕ) (x : List ℕ) where
           bytes-equal (times byte_ops (interpolant_of x) (locator_of w x)) (times byte_ops (quotient_of w x) (vanishing_of (length x)))
           (bytes-times (interpolant_of x) (locator_of w x)) (bytes-times (quotient_of w x) (vanishing_of (length x)))
           (map-times byte_ops (ops byte_ring) byte byte-homomorphism (interpolant_of x) (locator_of w x)
-          ∙ sym in_field
+          ∙ sym products_in_field
           ∙ ap (λ (p : List Byte). times (ops byte_ring) p (in_field (vanishing_of (length x)))) (sym quotient-in-field)
           ∙ sym (map-times byte_ops (ops byte_ring) byte byte-homomorphism (quotient_of w x) (vanishing_of (length x))))

@@ -1,0 +1,19 @@
+use Rattle.std.proofs.Common.{arith, refl, ◌∙◌}
+use Rattle.interpolants.specs.Division.Laws.{divided-start, divided-turn, divided-end}
+use Rattle.interpolants.proofs.divide.Goals as goal
+
+pub loop-i-init : goal.loop-i-init
+loop-i-init c =
+    (omega arith, omega arith, divided-start c.args.g.now c.args.t.now _ refl, refl)
+
+pub loop-i-preserved : goal.loop-i-preserved
+loop-i-preserved c = (
+  omega arith,
+  omega arith,
+  divided-turn c.args.g.now c.loop-i.t c.args.t.now c.add_multiples.new.acc _ c.loop-i.i
+      (omega arith) (omega arith) (omega arith) (c.add_multiples.ensures _ c.multiples-table.ensures) c.loop-i.invariant.2,
+  c.t-1.given.1 ∙ c.loop-i.invariant.3,
+)
+
+pub returns : goal.returns
+returns c = divided-end c.args.g.now c.loop-i.t c.args.t.now c.loop-i.i (omega arith) c.loop-i.invariant.2

@@ -1,0 +1,17 @@
+-- The bytes that are lent are those that are taken (`part-lesser`).
+use Rattle.std.proofs.Common.{ap, length, ℕ, ◌+◌, ◌∙◌}
+use Rattle.lists.specs.Part.{put_at}
+use Rattle.reader.specs.Taken.{taken}
+use Rattle.reader.specs.Taken.Laws.{part-lesser, behind-lesser}
+use Rattle.reader.proofs.place.copy_part.Goals as goal
+
+pub returns : goal.returns
+unfolding taken
+returns c =
+    let args = c.args in
+    let m = args.message.now in
+    let out = args.out.now in
+    let e = ap (λ (n : ℕ). args.at + n) c.lesser.ensures in (
+      behind-lesser m args.at out (args.at + c.lesser.result) e,
+      c.put_at.ensures ∙ ap (put_at out 0) (part-lesser m args.at (length out) (args.at + c.lesser.result) e),
+    )

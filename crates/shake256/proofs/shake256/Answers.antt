@@ -1,0 +1,8 @@
+-- The calls compose to the sponge's output, which is SHAKE256 (`squeezed-SHAKE256`).
+use Rattle.std.proofs.Common.{length}
+use Rattle.shake256.proofs.Laws.{squeezed-SHAKE256}
+use Rattle.shake256.proofs.shake256.Goals as goal
+
+pub returns : goal.returns
+returns c =
+    cc (squeezed-SHAKE256 c.args.message.now (length c.args.output.now))
