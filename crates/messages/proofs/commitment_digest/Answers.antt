@@ -38,11 +38,11 @@ slice_bounds-own_leaves-end-2 c = front_length _ _ (room (goal.at.slice_bounds-o
 pub own_leaves-requires : goal.own_leaves-requires
 own_leaves-requires c = (c.requires.0, (room (goal.at.own_leaves-requires c).After-aux_length-length).states-are, (room (goal.at.own_leaves-requires c).After-aux_length-length).aux-is)
 
-pub slice_bounds-digest_commitments-end : goal.slice_bounds-digest_commitments-end
-slice_bounds-digest_commitments-end c = (states-back (goal.at.slice_bounds-digest_commitments-end c).After-own_leaves).there
-
 pub slice_bounds-states-end-2 : goal.slice_bounds-states-end-2
-slice_bounds-states-end-2 c = (states-back (goal.at.slice_bounds-states-end-2 c).After-own_leaves).lent
+slice_bounds-states-end-2 c = (states-back (goal.at.slice_bounds-states-end-2 c).After-own_leaves).there
+
+pub slice_bounds-digest_commitments-end-2 : goal.slice_bounds-digest_commitments-end-2
+slice_bounds-digest_commitments-end-2 c = (states-back (goal.at.slice_bounds-digest_commitments-end-2 c).After-own_leaves).lent
 
 pub slice_bounds-aux-end-2 : goal.slice_bounds-aux-end-2
 slice_bounds-aux-end-2 c = (aux-back (goal.at.slice_bounds-aux-end-2 c).After-own_leaves).there

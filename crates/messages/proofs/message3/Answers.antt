@@ -32,10 +32,10 @@ pub slice_bounds-fill-end : goal.slice_bounds-fill-end
 slice_bounds-fill-end c = front_length _ _ (x_fits _ _ _ _ c.requires.0)
 
 pub slice_bounds-fill-end-2 : goal.slice_bounds-fill-end-2
-slice_bounds-fill-end-2 c = search fits
+slice_bounds-fill-end-2 c = fits (goal.at.slice_bounds-fill-end-2 c).After-sums_length-end
 
 pub slice_bounds-fill-end-3 : goal.slice_bounds-fill-end-3
-slice_bounds-fill-end-3 c = front_length _ _ (search fits)
+slice_bounds-fill-end-3 c = front_length _ _ (fits (goal.at.slice_bounds-fill-end-3 c).After-sums_length-end)
 
 pub fill-requires : goal.fill-requires
 fill-requires c = let h = c.requires.0 in record {

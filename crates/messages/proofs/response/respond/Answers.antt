@@ -28,16 +28,16 @@ back c =
     front-back _ _ _ c.axis_rows.auto.rows (few)
 
 pub slice_bounds-hidden_values-end : goal.slice_bounds-hidden_values-end
-slice_bounds-hidden_values-end c = search short
+slice_bounds-hidden_values-end c = short (goal.at.slice_bounds-hidden_values-end c).After-rows_length-size
 
 pub slice_bounds-axis_rows-end : goal.slice_bounds-axis_rows-end
-slice_bounds-axis_rows-end c = front_length _ _ (search short)
+slice_bounds-axis_rows-end c = front_length _ _ (short (goal.at.slice_bounds-axis_rows-end c).After-rows_length-size)
 
 pub slice_bounds-rows-end : goal.slice_bounds-rows-end
-slice_bounds-rows-end c = search few
+slice_bounds-rows-end c = few (goal.at.slice_bounds-rows-end c).After-rows_length-size
 
 pub slice_bounds-axis_rows-end-2 : goal.slice_bounds-axis_rows-end-2
-slice_bounds-axis_rows-end-2 c = front_length _ _ (search few)
+slice_bounds-axis_rows-end-2 c = front_length _ _ (few (goal.at.slice_bounds-axis_rows-end-2 c).After-rows_length-size)
 
 pub axis_rows-requires : goal.axis_rows-requires
 axis_rows-requires c = let h = c.requires.0 in record {
