@@ -7,9 +7,8 @@ use Rattle.extractor.specs.Difference.{difference_of, named}
 use Rattle.extractor.proofs.findings.compare.Goals as goal
 use Rattle.extractor.proofs.findings.compare.Goals.{After-rows_end-end}
 
-rows : (c : After-rows_end-end) → (o : List ℕ) → lent o ≡ rows_in c.args.p o
+rows : (c : After-rows_end-end) → (o : List ℕ) → (λ (o : List ℕ). take (c.rows_end-end.result - c.states_length-at.result) (drop c.states_length-at.result o)) o ≡ rows_in c.args.p o
 rows c o =
-    let lent : List ℕ → List ℕ = λ o. take (c.rows_end-end.result - c.states_length-at.result) (drop c.states_length-at.result o) in
     rows-lent c.args.p o c.states_length-at.ensures c.rows_end-end.ensures
 
 pub returns-then-first_digest-d : goal.returns-then-first_digest-d

@@ -26,12 +26,12 @@ pub put_states-requires : goal.put_states-requires
 put_states-requires c = record { both = c.requires.both; below = c.requires.below; room = omega (arith, room (goal.at.put_states-requires c).Start) }
 
 pub put_at-requires : goal.put_at-requires
-put_at-requires c = omega (arith, room (goal.at.put_at-requires c).Start, c.requires.new (sym c.is_last.ensures ∙ c.if-is_last.true), c.states_length-all.ensures, c.put_states)
+put_at-requires c = omega (arith, room (goal.at.put_at-requires c).Start, c.requires.last (sym c.is_last.ensures ∙ c.if-is_last.true), c.states_length-all.ensures, c.put_states)
 
 pub returns-then-is_last : goal.returns-then-is_last
 unfolding output_of
 returns-then-is_last c = let last = sym c.is_last.ensures ∙ c.if-is_last.true in
-    rw last (c.put_at.ensures ∙ written (goal.at.returns-then-is_last c).After-is_last _ _ _ c.states_length-all.ensures (c.requires.new last)
+    rw last (c.put_at.ensures ∙ written (goal.at.returns-then-is_last c).After-is_last _ _ _ c.states_length-all.ensures (c.requires.last last)
     c.put_states.ensures)
 
 pub put_at-requires-2 : goal.put_at-requires-2

@@ -8,90 +8,89 @@ use Rattle.extractor.specs.Recall.{prefix_of}
 use Rattle.extractor.specs.Outputs.{part_in, part_of, WriteAsked, Written}
 use Rattle.extractor.specs.Outputs.Laws.{held-part, written_none, lent_fits, length-of-lent, lent-before, written-lent}
 use Rattle.extractor.proofs.outputs.write_outputs.Goals as goal
-use Rattle.extractor.proofs.outputs.write_outputs.Goals.{After-write_run}
+use Rattle.extractor.proofs.outputs.write_outputs.Goals.{After-output_length-size, After-write_run}
 
-abbrev Start : Type 0
-Start = tie.Start
-
-abbrev Size : Type 0
-Size = tie.After-output-length
-
-abbrev start : Size → Start
-start c = search
-
-abbrev runs : Size → ℕ
-runs c = length (start c).args.first4.now
-
-asked : (c : Size) (n : ℕ) → n < runs c → PlaceAsked (start c).args.p (start c).args.first4.now n × PlaceAsked (start c).args.p (start c).args.second4.now n
-asked c n l = let q = (start c).requires.asked in
+asked : (c : After-output_length-size) → (n : ℕ) → n < (length c.args.first4.now) → PlaceAsked c.args.p c.args.first4.now n × PlaceAsked c.args.p c.args.second4.now n
+asked c n l =
+    let q = c.requires.asked in
     (record { within = q.within; few = q.few; inside = l }, record { within = q.within; few = omega (arith, q.few, q.same); inside = omega (arith, q.same) })
 
 -- the place of a run's part
-place : (c : Size) (n : ℕ) → n * c.output-length.result ≡ n * output_length (start c).args.p
-place c n = ap (◌*◌ n) c.output-length.ensures
+place : (c : After-output_length-size) → (n : ℕ) → n * c.output_length-size.result ≡ n * output_length c.args.p
+place c n =
+    ap (◌*◌ n) c.output_length-size.ensures
 
-small : (c : Size) (n : ℕ) → n < runs c → n * c.output-length.result + c.output-length.result ≤ 300_000
-small c n l = let q = (start c).requires.asked in
-    omega (arith, place c n, outputs-most (start c).args.p q.within n (omega (arith, q.few)), output-most (start c).args.p q.within, c.output-length.ensures)
+small : (c : After-output_length-size) → (n : ℕ) → n < (length c.args.first4.now) → n * c.output_length-size.result + c.output_length-size.result ≤ 300_000
+small c n l =
+    let place : (n : ℕ) → n * c.output_length-size.result ≡ n * output_length c.args.p = λ n. ap (◌*◌ n) c.output_length-size.ensures in
+    let q = c.requires.asked in
+    omega (arith, place n, outputs-most c.args.p q.within n (omega (arith, q.few)), output-most c.args.p q.within, c.output_length-size.ensures)
 
-last : (c : Size) → runs c - 1 < runs c
-last c = omega (arith, (start c).requires.asked.some)
+last : (c : After-output_length-size) → (length c.args.first4.now) - 1 < (length c.args.first4.now)
+last c =
+    omega (arith, c.requires.asked.some)
 
-none : (c : Size) → Written (start c).args.p (start c).args.message1.now (start c).args.first4.now (start c).args.first5.now
-    (start c).args.second4.now (start c).args.second5.now (start c).args.out.now (runs c) (start c).args.out.now
-none c = written_none _ _ _ _ _ _ _ (start c).requires.asked.room
+lent-size : (c : After-output_length-size) → let n : ℕ = (length c.args.first4.now) - 1 in let k : ℕ = c.output_length-size.result in
+    length (take (n * k + k - n * k) (drop (n * k) c.args.out.now)) ≡ output_length c.args.p
+lent-size c =
+    let place : (n : ℕ) → n * c.output_length-size.result ≡ n * output_length c.args.p = λ n. ap (◌*◌ n) c.output_length-size.ensures in
+    let last : (length c.args.first4.now) - 1 < (length c.args.first4.now) = omega (arith, c.requires.asked.some) in
+    length-of-lent c.args.first4.now c.args.out.now (output_length c.args.p) ((length c.args.first4.now) - 1) _ c.output_length-size.result
+    (last) c.requires.asked.room (place ((length c.args.first4.now) - 1)) c.output_length-size.ensures
 
-next : (c : Size) → runs c ≡ suc (runs c - 1)
-next c = omega (arith, (start c).requires.asked.some)
-
-lent-size : (c : Size) → let n : ℕ = runs c - 1 in let k : ℕ = c.output-length.result in
-    length (take (n * k + k - n * k) (drop (n * k) (start c).args.out.now)) ≡ output_length (start c).args.p
-lent-size c = length-of-lent (start c).args.first4.now (start c).args.out.now (output_length (start c).args.p) (runs c - 1) _ c.output-length.result
-    (last c) (start c).requires.asked.room (place c (runs c - 1)) c.output-length.ensures
-
-begun : (c : After-write_run) → let a = (start (search)).args in
-    Written a.p a.message1.now a.first4.now a.first5.now a.second4.now a.second5.now a.out.now (runs (search) - 1) ((let n : ℕ = runs (search) - 1 in let k : ℕ = (search).output-length.result in let o = (start (search)).args.out.now in
+begun : (c : After-write_run) → let a = c.args in
+    Written a.p a.message1.now a.first4.now a.first5.now a.second4.now a.second5.now a.out.now ((length c.args.first4.now) - 1) ((let n : ℕ = (length c.args.first4.now) - 1 in let k : ℕ = c.output_length-size.result in let o = c.args.out.now in
     take (n * k) o ++ (c.write_run.new.out ++ drop (n * k + k - n * k) (drop (n * k) o))))
 begun c =
-    let size = search in let s = start size in let a = s.args in let n = runs size - 1 in
-    let k = size.output-length.result in
+    let place : (n : ℕ) → n * c.output_length-size.result ≡ n * output_length c.args.p = λ n. ap (◌*◌ n) c.output_length-size.ensures in
+    let last : (length c.args.first4.now) - 1 < (length c.args.first4.now) = omega (arith, c.requires.asked.some) in
+    let none : Written c.args.p c.args.message1.now c.args.first4.now c.args.first5.now
+    c.args.second4.now c.args.second5.now c.args.out.now ((length c.args.first4.now)) c.args.out.now = written_none _ _ _ _ _ _ _ c.requires.asked.room in
+    let next : (length c.args.first4.now) ≡ suc ((length c.args.first4.now) - 1) = omega (arith, c.requires.asked.some) in
+    let place : (n : ℕ) → n * c.output_length-size.result ≡ n * output_length c.args.p = λ n. ap (◌*◌ n) c.output_length-size.ensures in
+    let last : (length c.args.first4.now) - 1 < (length c.args.first4.now) = omega (arith, c.requires.asked.some) in
+    let lent-size : let n : ℕ = (length c.args.first4.now) - 1 in let k : ℕ = c.output_length-size.result in
+    length (take (n * k + k - n * k) (drop (n * k) c.args.out.now)) ≡ output_length c.args.p = length-of-lent c.args.first4.now c.args.out.now (output_length c.args.p) ((length c.args.first4.now) - 1) _ c.output_length-size.result
+    (last) c.requires.asked.room (place ((length c.args.first4.now) - 1)) c.output_length-size.ensures in
+    let a = c.args in let n = (length c.args.first4.now) - 1 in
+    let k = c.output_length-size.result in
     let lent : List ℕ = take (n * k + k - n * k) (drop (n * k) a.out.now) in
-    written-lent a.p a.message1.now a.first4.now a.first5.now a.second4.now a.second5.now a.out.now n (runs size) (n * k) k
-    a.out.now (last size) (next size) (none size) (place size n) size.output-length.ensures c.write_run.new.out
-    (c.write_run.auto.out ∙ lent-size size)
+    written-lent a.p a.message1.now a.first4.now a.first5.now a.second4.now a.second5.now a.out.now n ((length c.args.first4.now)) (n * k) k
+    a.out.now (last) (next) (none) (place n) c.output_length-size.ensures c.write_run.new.out
+    (c.write_run.auto.out ∙ lent-size)
     (c.write_run.ensures
     ∙ ap (λ (x : Pair). part_in x a.first5.now a.second5.now a.openings.now lent) c.pair_at-last.ensures
     ∙ held-part (pair_at a.p a.first4.now a.second4.now n) (prefix_of a.message1.now n) a.first5.now a.second5.now a.openings.now
-    s.pre.holds lent
+    c.requires.holds lent
     ∙ ap (part_of (pair_at a.p a.first4.now a.second4.now n) (prefix_of a.message1.now n) a.first5.now a.second5.now)
-    (lent-before a.p a.message1.now a.first4.now a.first5.now a.second4.now a.second5.now a.out.now n (runs size) (n * k) k
-    a.out.now (last size) (next size) (none size) (place size n) size.output-length.ensures))
+    (lent-before a.p a.message1.now a.first4.now a.first5.now a.second4.now a.second5.now a.out.now n ((length c.args.first4.now)) (n * k) k
+    a.out.now (last) (next) (none) (place n) c.output_length-size.ensures))
 
 pub overflow_sub-run : goal.overflow_sub-run
-overflow_sub-run c = let s : Start = search in s.pre.asked.some
+overflow_sub-run c = c.requires.asked.some
 
 pub overflow_mul-at : goal.overflow_mul-at
-overflow_mul-at c = omega (arith, small c (runs c - 1) (last c))
+overflow_mul-at c = omega (arith, small (goal.at.overflow_mul-at c).After-output_length-size ((length c.args.first4.now) - 1) (last (goal.at.overflow_mul-at c).After-output_length-size))
 
 pub pair_at-last-requires : goal.pair_at-last-requires
-pair_at-last-requires c = asked c (runs c - 1) (last c)
+pair_at-last-requires c = asked (goal.at.pair_at-last-requires c).After-output_length-size ((length c.args.first4.now) - 1) (last (goal.at.pair_at-last-requires c).After-output_length-size)
 
 pub overflow_add-at : goal.overflow_add-at
-overflow_add-at c = let size : Size = search in omega (arith, small size (runs size - 1) (last size))
+overflow_add-at c = omega (arith, small (goal.at.overflow_add-at c).After-output_length-size ((length c.args.first4.now) - 1) (last (goal.at.overflow_add-at c).After-output_length-size))
 
 pub slice_bounds-write_run-end : goal.slice_bounds-write_run-end
-slice_bounds-write_run-end c = let size : Size = search in let s = start size in lent_fits s.args.first4.now s.args.out.now (output_length s.args.p) (runs size - 1) _
-    size.output-length.result (last size) s.pre.asked.room (place size (runs size - 1)) size.output-length.ensures
+slice_bounds-write_run-end c = lent_fits c.args.first4.now c.args.out.now (output_length c.args.p) ((length c.args.first4.now) - 1) _
+    c.output_length-size.result (last (goal.at.slice_bounds-write_run-end c).After-output_length-size) c.requires.asked.room (place (goal.at.slice_bounds-write_run-end c).After-output_length-size ((length c.args.first4.now) - 1)) c.output_length-size.ensures
 
 pub write_run-requires : goal.write_run-requires
-write_run-requires c = let size : Size = search in let s = start size in let q = s.pre.asked in
-    let n = runs size - 1 in let k = size.output-length.result in
-    subst (λ (x : Pair). WriteAsked x s.args.first5.now s.args.second5.now s.args.openings.now
-    (take (n * k + k - n * k) (drop (n * k) s.args.out.now))) (sym c.pair_at-last.ensures)
-    (record { within = q.within; first = q.first n (last size); second = q.second n (last size); held = q.held; room = lent-size size })
+write_run-requires c = let q = c.requires.asked in
+    let n = (length c.args.first4.now) - 1 in let k = c.output_length-size.result in
+    subst (λ (x : Pair). WriteAsked x c.args.first5.now c.args.second5.now c.args.openings.now
+    (take (n * k + k - n * k) (drop (n * k) c.args.out.now))) (sym c.pair_at-last.ensures)
+    (record { within = q.within; first = q.first n (last (goal.at.write_run-requires c).After-output_length-size); second = q.second n (last (goal.at.write_run-requires c).After-output_length-size); held = q.held; room = lent-size (goal.at.write_run-requires c).After-output_length-size })
 
 pub write_earlier-requires : goal.write_earlier-requires
-write_earlier-requires c = let q = (start (search)).requires.asked in
+write_earlier-requires c = let q = c.requires.asked in
     record {
       within = q.within;
       reaches = q.reaches;
@@ -105,7 +104,7 @@ write_earlier-requires c = let q = (start (search)).requires.asked in
     }
 
 pub shape_of-out : goal.shape_of-out
-shape_of-out c = omega (arith, c.write_earlier, (begun (goal.at.shape_of-out c).After-write_run).sized, (start (search)).requires.asked.room)
+shape_of-out c = omega (arith, c.write_earlier, (begun (goal.at.shape_of-out c).After-write_run).sized, c.requires.asked.room)
 
 pub returns : goal.returns
-returns c = c.write_earlier.ensures (start (search)).args.out.now (begun (goal.at.returns c).After-write_run)
+returns c = c.write_earlier.ensures c.args.out.now (begun (goal.at.returns c).After-write_run)

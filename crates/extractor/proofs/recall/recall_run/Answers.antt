@@ -63,10 +63,10 @@ unfolding states_in
 returns c = let a = c.args in let ys : List ℕ = c.recall_states-2.new.opened in
     let halves = both_halves a.openings.now (c.recall_states.new.opened) ys (first-long (goal.at.returns c).After-recall_states) in let most = opened-most a.pair.p c.requires.within in
     record {
-      c = ap (take (states_length a.pair.p)) halves
+      first = ap (take (states_length a.pair.p)) halves
           ∙ take-append-le (states_length a.pair.p) (c.recall_states.new.opened) ys (omega (arith, first-long (goal.at.returns c).After-recall_states, most))
           ∙ c.recall_states.ensures ∙ ap (λ (l : List ℕ). recalled a.pair.p l a.pair.first a.first5.now) c.put_prefix.ensures;
-      c = ap (λ (l : List ℕ). take (states_length a.pair.p) (drop most_opened l)) halves
+      second = ap (λ (l : List ℕ). take (states_length a.pair.p) (drop most_opened l)) halves
           ∙ ap (take (states_length a.pair.p)) (drop_at (c.recall_states.new.opened) ys most_opened (first-long (goal.at.returns c).After-recall_states))
           ∙ c.recall_states-2.ensures ∙ ap (λ (l : List ℕ). recalled a.pair.p l a.pair.second a.second5.now) c.put_prefix.ensures;
     }

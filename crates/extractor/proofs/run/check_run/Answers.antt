@@ -115,7 +115,7 @@ judge-two-requires c = let q = c.requires.compared in
 
 pub compare_run-difference-requires : goal.compare_run-difference-requires
 compare_run-difference-requires c = let q = c.requires.compared in
-    record { within = q.within; sized-statement = q.sized-statement; first = q.first; c = q.second; room = whole_long (goal.at.compare_run-difference-requires c).After-judge-two }
+    record { within = q.within; sized-statement = q.sized-statement; first = q.first; second = q.second; room = whole_long (goal.at.compare_run-difference-requires c).After-judge-two }
 
 pub shape_of-work : goal.shape_of-work
 shape_of-work c = omega (arith, c.judge-two, c.judge-one)
