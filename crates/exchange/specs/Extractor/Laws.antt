@@ -59,7 +59,7 @@ module _ (p : Parameters) (e e' : Exchange) where
   mem-compared a at_commitment = Memᴰ.append_right upper (Memᴰ.head refl)
   mem-compared a (at_leaf i h n n') =
       Memᴰ.append_right upper
-      (Memᴰ.tail (mem-those (λ n. opened_in_both e.leaf e'.leaf n.1) (listed (λ i. (4, i)) (leaves p)) (4, i) (mem-listed (λ i. (4, i)) (leaves p) i h) (both-when i n n')))
+      (Memᴰ.tail (mem-those (λ n. opened_in_both e.leaf e'.leaf n.1) (4, i) (listed (λ i. (4, i)) (leaves p)) (mem-listed (λ i. (4, i)) (leaves p) i h) (both-when i n n')))
 
   pub compared_is : compared p e e' ≡ upper ++ ((5, 0) ∷ lower)
   unfolding compared

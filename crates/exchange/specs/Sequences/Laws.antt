@@ -181,11 +181,11 @@ module _ {A : Type 0} (f : A → Bool) where
       go true ih = ap (◌∷◌ x) ih
       go false ih = ih
 
-  pub mem-those : (l : List A) (a : A) → Memᴰ a l → f a ≡ true → Memᴰ a (those f l)
+  pub mem-those : (a : A) (l : List A) → Memᴰ a l → f a ≡ true → Memᴰ a (those f l)
   unfolding those
-  mem-those l a (Memᴰ.head {x} {xs} e) h =
+  mem-those a l (Memᴰ.head {x} {xs} e) h =
       subst (λ (t : Bool). Memᴰ a (cond t (x ∷ those f xs) (those f xs))) (sym (ap f (sym e) ∙ h)) (Memᴰ.head e)
-  mem-those l a (Memᴰ.tail {x} {xs} m) h = go (f x) (mem-those xs a m h)
+  mem-those a l (Memᴰ.tail {x} {xs} m) h = go (f x) (mem-those a xs m h)
     where
       go : (t : Bool) → Memᴰ a (those f xs) → Memᴰ a (cond t (x ∷ those f xs) (those f xs))
       go true k = Memᴰ.tail k
@@ -210,7 +210,7 @@ module _ {A : Type 0} (f : A → Bool) where
   none-those l e a m = go (f a) refl
     where
       go : (t : Bool) → f a ≡ t → f a ≡ false
-      go true q = absurd (Memᴰ.not-nil (subst (Memᴰ a) e (mem-those l a m q)))
+      go true q = absurd (Memᴰ.not-nil (subst (Memᴰ a) e (mem-those a l m q)))
       go false q = q
 
   pub record First (l : List A) (a : A) : Type 0 where

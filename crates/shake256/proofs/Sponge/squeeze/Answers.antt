@@ -20,7 +20,6 @@ unfolding squeezed after
 loop-i-init c = (omega arith, (refl, (refl, refl)))
 
 pub permute_lanes-requires : goal.permute_lanes-requires
-unfolding squeezed after
 permute_lanes-requires c = tt
 
 pub give_some-n-requires : goal.give_some-n-requires
@@ -28,7 +27,6 @@ unfolding squeezed after
 give_some-n-requires c = ((at_join (goal.at.give_some-n-requires c).Joined-t-ge-RATE).1, omega (arith, c.loop-i.invariant.1.1.0))
 
 pub overflow_add-t : goal.overflow_add-t
-unfolding squeezed after
 overflow_add-t c = omega (arith, c.give_some-n.ensures.room)
 
 pub loop-i-preserved : goal.loop-i-preserved
@@ -40,7 +38,7 @@ loop-i-preserved c =
     g.ensures.room g.ensures.some in
     let written = written-more self c.loop-i.t c.if-t-ge-RATE.t.lanes c.if-t-ge-RATE.t.at c.loop-i.i g.result inv.0 (at_join (goal.at.loop-i-preserved c).Joined-t-ge-RATE).0
     g.ensures.room g.ensures.some c.loop-i.out d within long inv.1.1 in
-    (within, (more, (g.auto.1.1.0 ∙ long, g.ensures.is ∙ written)))
+    (within, (more, (g.auto.out ∙ long, g.ensures.is ∙ written)))
 
 pub shape_of-out : goal.shape_of-out
 unfolding squeezed after
