@@ -17,7 +17,8 @@ pub overflow_sub-side : goal.overflow_sub-side
 overflow_sub-side c = omega (arith, c.side.ensures, side-le c.args.way)
 
 pub returns : goal.returns
-returns c = let filled = c.below in let args = c.args in let w = args.way in let d = args.seeds.now in let half = w.size / 2 in
+returns c =
+    λ prefix b. let filled = c.below in let args = c.args in let w = args.way in let d = args.seeds.now in let half = w.size / 2 in
     let from = args.at + 16 * (half - c.skipped.result) in let room : from + 16 * half ≤ length d = omega (arith, c.requires.room) in
     let leaves : ℕ → List ℕ = λ n. laid (leaf_seeds SHAKE256 prefix args.l (2 * w.node + (1 - n)) args.sibling.now) in
     part-back d filled.new.seeds from (16 * half) (filled.auto.seeds ∙ length-lent from (16 * half) d room)

@@ -16,7 +16,8 @@ pub put_at-requires : goal.put_at-requires
 put_at-requires c = room (goal.at.put_at-requires c).Start
 
 pub returns : goal.returns
-returns c = let seed = c.args.seed.now in
+returns c =
+    λ prefix b. let seed = c.args.seed.now in
     let d = c.args.seeds.now in let size : 16 ≡ 0 + length seed = omega (arith, c.requires.sixteen) in
     c.descend.ensures prefix b ∙ ap (λ (s : List ℕ). laid (leaf_seeds SHAKE256 prefix c.args.l c.args.v s))
     (ap (take 16) c.put_at.ensures ∙ ap (λ (n : ℕ). take n (put_at d 0 seed)) size ∙ take-put_at-end d 0 seed (room (goal.at.returns c).Start))

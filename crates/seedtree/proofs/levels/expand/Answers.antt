@@ -13,7 +13,8 @@ pub seed_of-seed-requires : goal.seed_of-seed-requires
 seed_of-seed-requires c = length-lent c.args.from 16 c.args.seeds.now c.requires.seed
 
 pub returns : goal.returns
-returns c = let args = c.args in let w = args.seeds.now in let string = node_bytes args.v ++ part w args.from 16 in
+returns c =
+    λ prefix b. let args = c.args in let w = args.seeds.now in let string = node_bytes args.v ++ part w args.from 16 in
     let is : c.node_hash.new.out ≡ hashed args.nodes string 32 = c.node_hash.ensures
     ∙ ap₂ (λ l. hashed args.nodes (node_bytes args.v ++ l)) (c.seed_of-seed.ensures ∙ lent-part w args.from 16)
     (length-lent args.to 32 w c.requires.room) in

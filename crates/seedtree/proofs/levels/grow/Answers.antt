@@ -24,5 +24,6 @@ loop-j-preserved c = let made = c.expand in let args = c.args in let d = args.se
     )
 
 pub returns : goal.returns
-returns c = let args = c.args in let d = args.seeds.now in let last : c.loop-j.j ≡ 0 = omega arith in
+returns c =
+    λ prefix b. let args = c.args in let d = args.seeds.now in let last : c.loop-j.j ≡ 0 = omega arith in
     c.loop-j.invariant.1.1 prefix b ∙ ap (growing SHAKE256 prefix args.c args.v d) last ∙ growing-all SHAKE256 prefix args.c args.v d
