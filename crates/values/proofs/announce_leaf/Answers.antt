@@ -1,6 +1,6 @@
 -- The arrays have room for all parameters. S of the share is made, the share alone is announced, and the front of its block is copied (`leaf-made`).
 use Rattle.std.proofs.Common.{List, ap, arith, drop, length, replicate, sym, take, take_at, ℕ, ◌*◌, ◌++◌, ◌∙◌, ◌≡◌, ◌≤◌}
-use lib.Seq.{take-append-le}
+use Rattle.std.proofs.lemmas.List.{take-append-le}
 use Rattle.parameters.specs.declared.Parameters.{Parameters}
 use Rattle.parameters.specs.Limits.{Within}
 use Rattle.layout.specs.Layout.{y_length, row_length}
