@@ -1,5 +1,7 @@
 // The four lines of a key (document 01, Key listing), read in pieces of any length. The scanner is a state by value; the bytes of the matrix, y and
 // x_A go into lent slices as they come.
+#![tactic(auto)]
+
 pub mod form;
 pub mod listing;
 

@@ -1,31 +1,33 @@
 // A prover's session of two runs at the shipped set, through right and wrong calls. Of each call it prints the name, document 01's number of the answer
 // and SHAKE256 of the output after the call. Keys, seeds and messages are SHAKE256 of a label; the work area comes as bytes a5, the output as
 // bytes 5a.
+#![tactic(auto)]
+
 ghost use Rattle.std.specs.Prelude.{◌≤◌, length};
 
 use answers::Answer;
-use libc::STDOUT_FILENO;
 use parameters::Parameters;
 use parameters::set::parameters_of;
 use prover::Prover;
 use shake256::shake256;
+use std::io;
 
 fn wide(b: u8) -> u64 {
     b as u64
 }
 
 // A call's line.
-fn show(name: &[u8], answer: Answer, out: &[u8]) {
+fn show(rt: &impl Print, name: &[u8], answer: Answer, out: &[u8]) -> io::Result<()> {
     let mut digest = [0u8; 32];
     let mut digits = [0u8; 64];
     shake256(out, &mut digest);
     text::print::put_hex(&mut digits, 0, &digest);
-    io::write_all(STDOUT_FILENO, name);
-    io::write_all(STDOUT_FILENO, b"\t");
-    io::print_decimal(STDOUT_FILENO, wide(answers::answer_number(answer)));
-    io::write_all(STDOUT_FILENO, b"\t");
-    io::write_all(STDOUT_FILENO, &digits);
-    io::write_all(STDOUT_FILENO, b"\n");
+    rt.write_all(name)?;
+    rt.write_all(b"\t")?;
+    rt.print(wide(answers::answer_number(answer)))?;
+    rt.write_all(b"\t")?;
+    rt.write_all(&digits)?;
+    rt.write_all(b"\n")
 }
 
 // The shipped set, of length m.
@@ -59,6 +61,7 @@ fn syndrome(x_a: &[u8; 126], matrix: &[u8; 13104]) -> [u8; 104] {
 
 // The call begin of this many runs with the salt, and with the root seed of a label.
 fn begin_runs(
+    rt: &impl Print,
     s: Prover,
     p: Parameters,
     runs: usize,
@@ -66,7 +69,7 @@ fn begin_runs(
     seed: &[u8],
     matrix: &[u8],
     y: &[u8],
-) -> Prover {
+) -> io::Result<Prover> {
     let mut salt = [0u8; 32];
     let mut root = [0u8; 16];
     let mut work = [0xa5u8; 5120];
@@ -76,115 +79,149 @@ fn begin_runs(
     let called = s.begin(p, runs, x_a, &salt, &root, matrix, y, &mut work, &mut out);
     let answer = called.answer;
     let next = called.prover;
-    show(b"begin", answer, &out);
-    next
+    show(rt, b"begin", answer, &out)?;
+    Ok(next)
 }
 
 // The call begin of two runs.
-fn begin(s: Prover, p: Parameters, x_a: &[u8], seed: &[u8], matrix: &[u8], y: &[u8]) -> Prover {
-    begin_runs(s, p, 2, x_a, seed, matrix, y)
+fn begin(
+    rt: &impl Print,
+    s: Prover,
+    p: Parameters,
+    x_a: &[u8],
+    seed: &[u8],
+    matrix: &[u8],
+    y: &[u8],
+) -> io::Result<Prover> {
+    begin_runs(rt, s, p, 2, x_a, seed, matrix, y)
 }
 
 // The call points with a message 2.
-fn points_with(s: Prover, message2: &[u8], matrix: &[u8], y: &[u8]) -> Prover {
+fn points_with(
+    rt: &impl Print,
+    s: Prover,
+    message2: &[u8],
+    matrix: &[u8],
+    y: &[u8],
+) -> io::Result<Prover> {
     let mut work = [0xa5u8; 5120];
     let mut out = [0x5au8; 64];
     let called = s.points(message2, matrix, y, &mut work, &mut out);
     let answer = called.answer;
     let next = called.prover;
-    show(b"points", answer, &out);
-    next
+    show(rt, b"points", answer, &out)?;
+    Ok(next)
 }
 
 // The call points.
-fn points(s: Prover, matrix: &[u8], y: &[u8]) -> Prover {
+fn points(rt: &impl Print, s: Prover, matrix: &[u8], y: &[u8]) -> io::Result<Prover> {
     let mut message2 = [0u8; 48];
     shake256(b"points", &mut message2);
-    points_with(s, &message2, matrix, y)
+    points_with(rt, s, &message2, matrix, y)
 }
 
 // The call points with the first 47 bytes of message 2.
-fn points_short(s: Prover, matrix: &[u8], y: &[u8]) -> Prover {
+fn points_short(rt: &impl Print, s: Prover, matrix: &[u8], y: &[u8]) -> io::Result<Prover> {
     let mut message2 = [0u8; 47];
     shake256(b"points", &mut message2);
-    points_with(s, &message2, matrix, y)
+    points_with(rt, s, &message2, matrix, y)
 }
 
 // The call points with zeros, so with equal points in each run.
-fn points_equal(s: Prover, matrix: &[u8], y: &[u8]) -> Prover {
+fn points_equal(rt: &impl Print, s: Prover, matrix: &[u8], y: &[u8]) -> io::Result<Prover> {
     let message2 = [0u8; 48];
-    points_with(s, &message2, matrix, y)
+    points_with(rt, s, &message2, matrix, y)
 }
 
 // The call leaf with an output.
-fn leaf_with(s: Prover, leaves: &[u8], matrix: &[u8], y: &[u8], out: &mut [u8]) -> Prover {
+fn leaf_with(
+    rt: &impl Print,
+    s: Prover,
+    leaves: &[u8],
+    matrix: &[u8],
+    y: &[u8],
+    out: &mut [u8],
+) -> io::Result<Prover> {
     let mut work = [0xa5u8; 5120];
     let called = s.leaf(leaves, matrix, y, &mut work, out);
     let answer = called.answer;
     let next = called.prover;
-    show(b"leaf", answer, out);
-    next
+    show(rt, b"leaf", answer, out)?;
+    Ok(next)
 }
 
 // The call leaf with an output of 664 bytes, the length of message 5 where leaves 77 and 255 are hidden.
-fn leaf_664(s: Prover, leaves: &[u8], matrix: &[u8], y: &[u8]) -> Prover {
+fn leaf_664(
+    rt: &impl Print,
+    s: Prover,
+    leaves: &[u8],
+    matrix: &[u8],
+    y: &[u8],
+) -> io::Result<Prover> {
     let mut out = [0x5au8; 664];
-    leaf_with(s, leaves, matrix, y, &mut out)
+    leaf_with(rt, s, leaves, matrix, y, &mut out)
 }
 
 // The call leaf with an output of 368 bytes, the length of message 5 where leaf 255 is hidden twice.
-fn leaf_368(s: Prover, leaves: &[u8], matrix: &[u8], y: &[u8]) -> Prover {
+fn leaf_368(
+    rt: &impl Print,
+    s: Prover,
+    leaves: &[u8],
+    matrix: &[u8],
+    y: &[u8],
+) -> io::Result<Prover> {
     let mut out = [0x5au8; 368];
-    leaf_with(s, leaves, matrix, y, &mut out)
+    leaf_with(rt, s, leaves, matrix, y, &mut out)
 }
 
 // Calls that a fresh session refuses: points, which is not due; m and the run count out of their limits; y one byte short; x of too
 // many nonzero entries.
-fn refusals(s: Prover, x_a: &[u8], matrix: &[u8], y: &[u8]) -> Prover
+fn refusals(rt: &impl Print, s: Prover, x_a: &[u8], matrix: &[u8], y: &[u8]) -> io::Result<Prover>
     requires { 103 ≤ length y.now }
 {
     let heavy = [0xffu8; 126];
-    let a = points(s, matrix, y);
-    let b = begin(a, set_of(256), x_a, b"root", matrix, y);
-    let c = begin_runs(b, set_of(230), 33, x_a, b"root", matrix, y);
-    let d = begin(c, set_of(230), x_a, b"root", matrix, &y[..103]);
-    begin(d, set_of(230), &heavy, b"root", matrix, y)
+    let a = points(rt, s, matrix, y)?;
+    let b = begin(rt, a, set_of(256), x_a, b"root", matrix, y)?;
+    let c = begin_runs(rt, b, set_of(230), 33, x_a, b"root", matrix, y)?;
+    let d = begin(rt, c, set_of(230), x_a, b"root", matrix, &y[..103])?;
+    begin(rt, d, set_of(230), &heavy, b"root", matrix, y)
 }
 
 // A first exchange, with calls that are not due, of wrong lengths, with equal points, and after its end.
-fn first(s: Prover, x_a: &[u8], matrix: &[u8], y: &[u8]) -> Prover {
-    let a = begin(s, set_of(230), x_a, b"root", matrix, y);
-    let b = leaf_664(a, &[77, 255], matrix, y);
-    let c = points_short(b, matrix, y);
-    let d = points_equal(c, matrix, y);
-    let e = points(d, matrix, y);
-    let f = points(e, matrix, y);
-    let g = leaf_368(f, &[77, 255], matrix, y);
-    let h = leaf_664(g, &[77], matrix, y);
-    let i = leaf_664(h, &[77, 255], matrix, y);
-    let j = leaf_664(i, &[77, 255], matrix, y);
-    points(j, matrix, y)
+fn first(rt: &impl Print, s: Prover, x_a: &[u8], matrix: &[u8], y: &[u8]) -> io::Result<Prover> {
+    let a = begin(rt, s, set_of(230), x_a, b"root", matrix, y)?;
+    let b = leaf_664(rt, a, &[77, 255], matrix, y)?;
+    let c = points_short(rt, b, matrix, y)?;
+    let d = points_equal(rt, c, matrix, y)?;
+    let e = points(rt, d, matrix, y)?;
+    let f = points(rt, e, matrix, y)?;
+    let g = leaf_368(rt, f, &[77, 255], matrix, y)?;
+    let h = leaf_664(rt, g, &[77], matrix, y)?;
+    let i = leaf_664(rt, h, &[77, 255], matrix, y)?;
+    let j = leaf_664(rt, i, &[77, 255], matrix, y)?;
+    points(rt, j, matrix, y)
 }
 
 // A second exchange: refused with the first one's salt and root, carried out with another root.
-fn second(s: Prover, x_a: &[u8], matrix: &[u8], y: &[u8]) -> Prover {
-    let a = begin(s, set_of(230), x_a, b"root", matrix, y);
-    let b = begin(a, set_of(230), x_a, b"other root", matrix, y);
-    let c = points(b, matrix, y);
-    leaf_368(c, &[255, 255], matrix, y)
+fn second(rt: &impl Print, s: Prover, x_a: &[u8], matrix: &[u8], y: &[u8]) -> io::Result<Prover> {
+    let a = begin(rt, s, set_of(230), x_a, b"root", matrix, y)?;
+    let b = begin(rt, a, set_of(230), x_a, b"other root", matrix, y)?;
+    let c = points(rt, b, matrix, y)?;
+    leaf_368(rt, c, &[255, 255], matrix, y)
 }
 
 // All calls, on one session.
-fn run(x_a: &[u8; 126], matrix: &[u8; 13104], y: &[u8; 104]) {
-    let a = refusals(prover::fresh(), x_a, matrix, y);
-    let b = first(a, x_a, matrix, y);
-    second(b, x_a, matrix, y);
+fn run(rt: &impl Print, x_a: &[u8; 126], matrix: &[u8; 13104], y: &[u8; 104]) -> io::Result<()> {
+    let a = refusals(rt, prover::fresh(), x_a, matrix, y)?;
+    let b = first(rt, a, x_a, matrix, y)?;
+    second(rt, b, x_a, matrix, y)?;
+    Ok(())
 }
 
-fn main() {
+fn main(rt: HostRuntime) -> io::Result<()> {
     let mut matrix = [0u8; 13104];
     shake256(b"matrix", &mut matrix);
     let x_a = key_front();
     let y = syndrome(&x_a, &matrix);
-    run(&x_a, &matrix, &y);
+    run(&rt, &x_a, &matrix, &y)
 }

@@ -1,9 +1,13 @@
 // Runs NIST's published vectors of SHAKE256 (the .rsp files of data/) and writes of each file how many hold and how many
 // do not. A case that cannot be read counts as one that does not hold.
+#![tactic(auto)]
+
 ghost use Rattle.std.specs.Prelude.{◌≤◌};
 
-use libc::STDOUT_FILENO;
 use shake256::shake256;
+use std::io::Read;
+use std::rt::Files;
+use std::{fs, io};
 
 // What the lines so far say, lengths in bytes: the line at hand, the case at hand, and how many cases held.
 #[derive(Clone, Copy)]
@@ -386,57 +390,64 @@ fn chunk(t: Tally, s: &[u8], line: &mut [u8], message: &mut [u8], monte: bool) -
 }
 
 // Reads on, and goes through what came.
-fn read_some(fd: i32, t: Tally, line: &mut [u8], message: &mut [u8], monte: bool) -> Tally {
-    let mut space = io::buffer();
-    let n = io::read_full(fd, &mut space);
+fn read_some<R: Read>(
+    file: &mut R,
+    t: Tally,
+    line: &mut [u8],
+    message: &mut [u8],
+    monte: bool,
+) -> io::Result<Tally> {
+    let mut space = [0u8; 4096];
+    let n = file.read(&mut space)?;
     if n == 0 {
         let mut u = t;
         u.more = false;
-        return u;
+        return Ok(u);
     }
-    chunk(t, &space[..n], line, message, monte)
+    Ok(chunk(t, &space[..n], line, message, monte))
 }
 
 // A proved loop has to end, and nothing says that a file does: the turns are counted down.
-fn read_all(fd: i32, line: &mut [u8], message: &mut [u8], monte: bool) -> Tally {
+fn read_all<R: Read>(
+    file: &mut R,
+    line: &mut [u8],
+    message: &mut [u8],
+    monte: bool,
+) -> io::Result<Tally> {
     let mut t = Tally::new();
     let mut turns: usize = 1000000;
     while 0 < turns {
-        let u = read_some(fd, t, line, message, monte);
+        let u = read_some(file, t, line, message, monte)?;
         if !u.more {
-            return u;
+            return Ok(u);
         }
         t = u;
         turns -= 1;
     }
-    t
+    Ok(t)
 }
 
-fn report(name: &[u8], t: Tally) {
-    io::write_all(STDOUT_FILENO, name);
-    io::write_all(STDOUT_FILENO, b": ");
-    io::print_decimal(STDOUT_FILENO, t.passed);
-    io::write_all(STDOUT_FILENO, b" passed, ");
-    io::print_decimal(STDOUT_FILENO, t.failed);
-    io::write_all(STDOUT_FILENO, b" failed\n");
+fn report(rt: &impl Print, name: &str, t: Tally) -> io::Result<()> {
+    let passed = t.passed;
+    let failed = t.failed;
+    println!(rt; "{name}: {passed} passed, {failed} failed")
 }
 
-fn run(name: &[u8], monte: bool) {
-    let fd = os::open_read(name);
-    if fd < 0 {
-        os::fail(name);
-        return;
-    }
-    let mut first = io::large_buffer();
-    let mut second = io::large_buffer();
-    let t = read_all(fd, &mut first, &mut second, monte);
-    libc::close(fd);
-    report(name, t);
+// A file that cannot be opened is named on standard error.
+fn run(rt: &(impl Files + Print + Eprint), name: &str, monte: bool) -> io::Result<()> {
+    let mut file = match fs::open(rt, name) {
+        Ok(opened) => opened,
+        Err(e) => return eprintln!(rt; "{name}: {e}"),
+    };
+    let mut first = [0u8; 65536];
+    let mut second = [0u8; 65536];
+    let t = read_all(&mut file, &mut first, &mut second, monte)?;
+    report(rt, name, t)
 }
 
-fn main() {
-    run(b"SHAKE256ShortMsg.rsp", false);
-    run(b"SHAKE256LongMsg.rsp", false);
-    run(b"SHAKE256VariableOut.rsp", false);
-    run(b"SHAKE256Monte.rsp", true);
+fn main(rt: HostRuntime) -> io::Result<()> {
+    run(&rt, "SHAKE256ShortMsg.rsp", false)?;
+    run(&rt, "SHAKE256LongMsg.rsp", false)?;
+    run(&rt, "SHAKE256VariableOut.rsp", false)?;
+    run(&rt, "SHAKE256Monte.rsp", true)
 }

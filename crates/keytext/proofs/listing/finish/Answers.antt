@@ -13,23 +13,23 @@ Lent s n = length (take n s) ≡ n
 
 passed : (c : After-parameters_of-p) → Read c.args.scan (length c.args.matrix.now) (length c.args.y.now) (length c.args.x_a.now)
 passed c =
-    read_done _ _ _ _ (sym c.read_checks-checked.ensures ∙ c.enum_told-1.given.1)
+    read_done _ _ _ _ (sym c.read_checks-checked.ensures ∙ c.in_default.is)
 
 within : (c : After-parameters_of-p) → Within c.parameters_of-p.result
 within c =
-    let passed : Read c.args.scan (length c.args.matrix.now) (length c.args.y.now) (length c.args.x_a.now) = read_done _ _ _ _ (sym c.read_checks-checked.ensures ∙ c.enum_told-1.given.1) in
-    read-within c.args.scan c.parameters_of-p.ensures (passed)
+    let passed : Read c.args.scan (length c.args.matrix.now) (length c.args.y.now) (length c.args.x_a.now) = read_done _ _ _ _ (sym c.read_checks-checked.ensures ∙ c.in_default.is) in
+    read-within c.args.scan c.parameters_of-p.ensures passed
 
-lent : (c : After-y_length-rows) → let a = (c).args in
+lent : (c : After-y_length-rows) → let a = c.args in
     Lent a.matrix.now c.matrix_length-size.result × Lent a.y.now c.y_length-rows.result × Lent a.x_a.now c.parameters_of-p.result.k
 lent c =
-    let passed : Read c.args.scan (length c.args.matrix.now) (length c.args.y.now) (length c.args.x_a.now) = read_done _ _ _ _ (sym c.read_checks-checked.ensures ∙ c.enum_told-1.given.1) in
-    let h = read_held c.args.scan c.parameters_of-p.ensures (passed) in
+    let passed : Read c.args.scan (length c.args.matrix.now) (length c.args.y.now) (length c.args.x_a.now) = read_done _ _ _ _ (sym c.read_checks-checked.ensures ∙ c.in_default.is) in
+    let h = read_held c.args.scan c.parameters_of-p.ensures passed in
     (length-take-le _ _ (omega (arith, h.0, c.matrix_length-size.ensures)), length-take-le _ _ (omega (arith, h.1, c.y_length-rows.ensures)), length-take-le _ _ h.2)
 
 pub returns-in-Refused : goal.returns-in-Refused
 returns-in-Refused c = let a = c.args in
-    let e = finish-refused a.scan a.matrix.now a.y.now a.x_a.now (sym c.read_checks-checked.ensures ∙ c.checked-1.given.1) in
+    let e = finish-refused a.scan a.matrix.now a.y.now a.x_a.now (sym c.read_checks-checked.ensures ∙ c.in-Refused.is) in
     rw e (written-whole _ _ c.refused.ensures)
 
 pub matrix_length-size-requires : goal.matrix_length-size-requires
