@@ -102,9 +102,9 @@ those-map g h (a ∷ l) = go (g (h a)) (those-map g h l)
     go true ih = ap (◌∷◌ (h a)) ih
     go false ih = ih
 
-pub mem-map : {A B : Type 0} (h : A → B) (l : List A) (a : A) → Memᴰ a l → Memᴰ (h a) (map h l)
-mem-map h l a (Memᴰ.head e) = Memᴰ.head (ap h e)
-mem-map h l a (Memᴰ.tail {x} {xs} m) = Memᴰ.tail (mem-map h xs a m)
+pub mem-map : {A B : Type 0} (h : A → B) (a : A) (l : List A) → Memᴰ a l → Memᴰ (h a) (map h l)
+mem-map h a l (Memᴰ.head e) = Memᴰ.head (ap h e)
+mem-map h a l (Memᴰ.tail {x} {xs} m) = Memᴰ.tail (mem-map h a xs m)
 
 pub map-mem : {A B : Type 0} (h : A → B) (l : List A) (b : B) → Memᴰ b (map h l) → (a : A) × Memᴰ a l × (b ≡ h a)
 map-mem h [] b m = absurd (Memᴰ.not-nil m)

@@ -83,7 +83,7 @@ module _ (p : Parameters) (n : ℕ) (t t' : Transcript) where
       → Memᴰ (e, a) (compared p n t t')
   unfolding compared
   mem-compared e a l d m =
-      mem-gathered compared_in n e (e, a) l (rw d (mem-map (placed e) (run.compared p (exchange_at p t e) (exchange_at p t' e)) a m))
+      mem-gathered compared_in n e (e, a) l (rw d (mem-map (placed e) a (run.compared p (exchange_at p t e) (exchange_at p t' e)) m))
 
   pub compared-mem : (a : ℕ × (ℕ × ℕ)) → Memᴰ a (compared p n t t')
       → (a.0 < n) × (differs t t' a.0 ≡ true) × Memᴰ a.1 (run.compared p (exchange_at p t a.0) (exchange_at p t' a.0))

@@ -23,7 +23,4 @@ pub returns : goal.returns
 returns c =
     let es = c.siblings_length-seeds.ensures in
     let ev = c.values_length-points.ensures in
-    let parts = c.read_parts.ensures in (
-      left-read _ _ _ _ _ c.requires _ _ es ev parts,
-      (siblings-read _ _ _ _ _ c.requires _ _ es ev parts, (commitment-read _ _ _ _ _ c.requires _ _ es ev parts, values-read _ _ _ _ _ c.requires _ _ es ev parts)),
-    )
+    let parts = c.read_parts.ensures in record { value = left-read _ _ _ _ _ c.requires _ _ es ev parts; siblings_after = siblings-read _ _ _ _ _ c.requires _ _ es ev parts; commitment_after = commitment-read _ _ _ _ _ c.requires _ _ es ev parts; values_after = values-read _ _ _ _ _ c.requires _ _ es ev parts }

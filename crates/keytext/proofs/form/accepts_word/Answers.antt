@@ -1,0 +1,14 @@
+-- The word of each line.
+use Rattle.std.proofs.Common.{eq-eqb, ne_eqb}
+use Rattle.keytext.specs.Form.{syndrome_word, key_word}
+use Rattle.keytext.proofs.form.accepts_word.Goals as goal
+
+pub returns-then-line-eq2 : goal.returns-then-line-eq2
+unfolding syndrome_word
+returns-then-line-eq2 c = rw (ne_eqb _ _ c.if-line-eq0.false, ne_eqb _ _ c.if-line-eq1.false, eq-eqb _ _ c.if-line-eq2.true)
+    c.accepts-then-line-eq2.ensures
+
+pub returns : goal.returns
+unfolding key_word
+returns c = rw (ne_eqb _ _ c.if-line-eq0.false, ne_eqb _ _ c.if-line-eq1.false, ne_eqb _ _ c.if-line-eq2.false)
+    c.accepts-2.ensures
