@@ -6,7 +6,7 @@
 -- number-of         the number is that of the checks
 -- carried           number 0: all checks passed, and the call was carried out
 -- refused-same      any other number: session, output and work area are as they were
--- seen_as           number, output and work area of a call, from its number
+-- seen_as_lem       number, output and work area of a call, from its number
 use Rattle.std.specs.Prelude.{◌≡◌, cond, List, ℕ, eqb}
 use Rattle.std.proofs.Math.Path.{refl}
 use Rattle.std.proofs.Common.{sym, ap, ◌∙◌, ne_eqb}
@@ -82,9 +82,9 @@ module _ (hash : List ℕ → ℕ → List ℕ) (s : Prover) where
       settles c ∙ settle-refused (checks_of c) s (lent_out c) (lent_work c) (done_of c) (done-number c) (λ z. e (number ∙ z))
       ∙ ap (λ (n : ℕ). record { answer = n; prover = s; out = lent_out c; work = lent_work c }) (sym number)
 
-  pub seen_as : (c : Call) (n : ℕ) (message zeros : List ℕ) → answer_number (checks_of c) ≡ n
+  pub seen_as_lem : (c : Call) (n : ℕ) (message zeros : List ℕ) → answer_number (checks_of c) ≡ n
       → (checks_of c ≡ Done → ((done_of c).out ≡ message) × ((done_of c).work ≡ zeros))
       → seen (outcome hash s c) ≡ seen_as n message zeros (lent_out c) (lent_work c)
-  seen_as c n message zeros e gives =
+  seen_as_lem c n message zeros e gives =
       ap seen (settles c) ∙ settle-seen (checks_of c) s (lent_out c) (lent_work c) (done_of c) message zeros (done-number c) gives
       ∙ ap (λ (k : ℕ). seen_as k message zeros (lent_out c) (lent_work c)) e

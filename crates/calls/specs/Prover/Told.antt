@@ -34,7 +34,7 @@ use Rattle.calls.specs.Prover.{Prover, fresh, held_message2, closed, points_due,
 use Rattle.calls.specs.Prover as prover
 use Rattle.calls.specs.Prover.History.{Begin, Call, begin_call, points_call, leaf_call, Made, outcome, after, made, last_begin, points_since, leaf_since, secret_of, repeats, conditions, message, area, Seen, seen, expected}
 use Rattle.calls.specs.Prover.Checked.{begin-ordered, points-ordered, leaf-ordered}
-use Rattle.calls.specs.Prover.Settled.{seen_as}
+use Rattle.calls.specs.Prover.Settled.{seen_as_lem}
 use Rattle.calls.specs.Prover.Reached.{Orderly, unstarted, started, challenged, session_told, reached, standing-told, secret-held, points-begun, leaf-answered}
 
 -- ---- 11 and 12 before all others
@@ -184,12 +184,12 @@ module _ (hash : List ℕ → ℕ → List ℕ) where
       → seen (outcome hash (session_told (last_begin h) (points_since h) (leaf_since h)) c) ≡ expected hash h c
   unfolding expected conditions message area prover.begun
   as-expected h ok (begin_call b work out) =
-      seen_as hash _ (begin_call b work out) _ _ _ (begin-number hash (last_begin h) (points_since h) (leaf_since h) ok b work out) (λ e. (refl, refl))
+      seen_as_lem hash _ (begin_call b work out) _ _ _ (begin-number hash (last_begin h) (points_since h) (leaf_since h) ok b work out) (λ e. (refl, refl))
   as-expected h ok (points_call m2 key work out) =
-      seen_as hash _ (points_call m2 key work out) _ _ _ (points-number hash (last_begin h) (points_since h) (leaf_since h) ok m2 key work out)
+      seen_as_lem hash _ (points_call m2 key work out) _ _ _ (points-number hash (last_begin h) (points_since h) (leaf_since h) ok m2 key work out)
       (points-gives hash m2 key work out (last_begin h) (points_since h) (leaf_since h) ok)
   as-expected h ok (leaf_call is key work out) =
-      seen_as hash _ (leaf_call is key work out) _ _ _ (leaf-number hash (last_begin h) (points_since h) (leaf_since h) ok is key work out)
+      seen_as_lem hash _ (leaf_call is key work out) _ _ _ (leaf-number hash (last_begin h) (points_since h) (leaf_since h) ok is key work out)
       (leaf-gives hash is key work out (last_begin h) (points_since h) (leaf_since h) ok)
 
   pub told-by-calls : (cs : List Call) (c : Call) → seen (outcome hash (after hash cs) c) ≡ expected hash (made hash cs) c

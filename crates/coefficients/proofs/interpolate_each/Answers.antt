@@ -1,5 +1,4 @@
 -- An array becomes the scales and the complement, and is lent. The last row becomes F's, and those before it S (`rows_whole`).
--- m bytes are lent behind the n rows
 use Rattle.std.proofs.Common.{ap, arith, drop, length, length-drop, length-take, refl, sym, take, take_all, ◌*◌, ◌+◌, ◌-◌, ◌∙◌, ◌≡◌}
 use Rattle.points.specs.Blocks.{next-block}
 use Rattle.interpolants.specs.Complement.{complement_of}
@@ -8,9 +7,10 @@ use Rattle.coefficients.specs.Groups.{end-lent, rows_whole}
 use Rattle.coefficients.proofs.interpolate_each.Goals as goal
 use Rattle.coefficients.proofs.interpolate_each.Goals.{Start}
 
+-- m bytes are lent behind the n rows
 behind : (c : Start) → c.args.n * c.args.p.m + c.args.p.m ≡ length c.args.rows.now
 behind c =
-    next-block c.args.n c.args.p.m _ refl ∙ sym c.requires.0.Sized-rows
+    next-block c.args.n c.args.p.m _ refl ∙ sym c.requires.0.sized_rows
 
 pub vanishing-requires : goal.vanishing-requires
 vanishing-requires c = let w = c.requires.0.within in
@@ -20,14 +20,15 @@ vanishing-requires c = let w = c.requires.0.within in
     (omega arith, omega arith, g ∙ factors-end m f c.factors.ensures ∙ ap complement_of (sym e))
 
 pub slice_bounds-interpolate_with-end-2 : goal.slice_bounds-interpolate_with-end-2
-slice_bounds-interpolate_with-end-2 c = omega (arith, behind (goal.at.slice_bounds-interpolate_with-end-2 c).Start, c.rows-1.given.1)
+slice_bounds-interpolate_with-end-2 c = omega (arith, behind (goal.at.slice_bounds-interpolate_with-end-2 c).Start)
 
 pub slice_bounds-interpolate_with-end-3 : goal.slice_bounds-interpolate_with-end-3
-slice_bounds-interpolate_with-end-3 c = simp length-take (omega (arith, rows-room c))
+slice_bounds-interpolate_with-end-3 c = simp length-take (omega (arith, behind (goal.at.slice_bounds-interpolate_with-end-3 c).Start))
 
 pub interpolate_with-requires : goal.interpolate_with-requires
 interpolate_with-requires c = let (r, et) = c.requires in
-    let Sized-rows = sym (rows-lent c) in (search, c.factors.ensures, et)
+    let b = behind (goal.at.interpolate_with-requires c).Start in
+    (record { within = r.within; few = r.few; sized-shares = r.sized-shares; sized-matrix = r.sized-matrix; sized-y = r.sized-y; sized_rows = simp length-take (omega (arith, b)) }, c.factors.ensures, et)
 
 pub returns : goal.returns
 returns c = rows_whole c.args.p (c.args.n * c.args.p.m) c.args.rows.now (behind (goal.at.returns c).Start) _ _ _ c.interpolate_with.ensures c.vanishing.ensures

@@ -46,7 +46,7 @@ front-lent c =
 
 rows-kept : (c : After-unpack) → length c.unpack.new.rows ≡ c.args.group.n * c.args.p.m
 rows-kept c =
-    c.unpack.auto.rows ∙ c.requires.0.Sized-rows
+    c.unpack.auto.rows ∙ c.requires.0.sized_rows
 
 full : (c : After-interpolate) → length c.interpolate.new.a ≡ 255
 full c =
@@ -68,7 +68,7 @@ pub slice_bounds-unpack-end : goal.slice_bounds-unpack-end
 slice_bounds-unpack-end c = sym (front-lent (goal.at.slice_bounds-unpack-end c).After-vectors)
 
 pub unpack-requires : goal.unpack-requires
-unpack-requires c = (c.requires.1, c.requires.0.Sized-rows ∙ ap (λ (n : ℕ). c.args.group.n * n) (sym (front-lent (goal.at.unpack-requires c).After-vectors)))
+unpack-requires c = (c.requires.1, c.requires.0.sized_rows ∙ ap (λ (n : ℕ). c.args.group.n * n) (sym (front-lent (goal.at.unpack-requires c).After-vectors)))
 
 pub slice_bounds-interpolate-end : goal.slice_bounds-interpolate-end
 slice_bounds-interpolate-end c = sym (words (goal.at.slice_bounds-interpolate-end c).After-vectors)

@@ -142,12 +142,12 @@ fields_fit i l (f' ∷ fs) j m k f =
 abbrev pub line_over : Held → List ℕ → Held
 line_over h l = on_scan line_end (fold line_byte h l)
 
-pub line_walk : (h : Held) (l : List ℕ) → line_over h l ≡ line_walk h (first tab l) (rest tab l)
-line_walk h l = ap (on_scan line_end) (fold-split tab (on_scan field_end) byte_step h l)
+pub line_walk_lem : (h : Held) (l : List ℕ) → line_over h l ≡ line_walk h (first tab l) (rest tab l)
+line_walk_lem h l = ap (on_scan line_end) (fold-split tab (on_scan field_end) byte_step h l)
 
 pub line-fits : (i : ℕ) → i ≤ 3 → (k : Kept) (l : List ℕ) → (line_over (fresh i 0 true k) l).scan.sound ≡ fits_line (kinds_of i) l
 line-fits i h k l =
-    ap (λ (z : Held). z.scan.sound) (line_walk (fresh i 0 true k) l) ∙ fields_fit i h (rest tab l) 0 (omega arith) k (first tab l)
+    ap (λ (z : Held). z.scan.sound) (line_walk_lem (fresh i 0 true k) l) ∙ fields_fit i h (rest tab l) 0 (omega arith) k (first tab l)
 
 sound-end : (h : Held) → (on_scan line_end h).scan.sound ≡ true → on_scan line_end h ≡ fresh (h.scan.line + 1) 0 true (kept (on_scan line_end h))
 unfolding line_end closed

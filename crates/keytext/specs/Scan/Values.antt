@@ -29,7 +29,7 @@ use Rattle.keytext.specs.Form.{key_form, word_of, last_field, numbers_in, bytes_
 use Rattle.keytext.specs.Scan.{start, with_hex, Held, held, on_scan, accepted, saved_numbers, saved_lengths, closed, field_end, line_end, step}
 use Rattle.keytext.specs.Scan.Keeps.{line_byte}
 use Rattle.keytext.specs.Scan.Fields.{Kept, fresh_scan, fresh, read, word_read, number_read, matrix-read, y-read, x_a-read}
-use Rattle.keytext.specs.Scan.Complete.{kinds_of, line_walk, line_over, line_walk, text_walk}
+use Rattle.keytext.specs.Scan.Complete.{kinds_of, line_walk, line_over, line_walk_lem, text_walk}
 
 abbrev pub count_in : List ℕ → List ℕ → ℕ
 count_in d s = min (length s) (length d + 1)
@@ -196,7 +196,7 @@ hex-line : (i : ℕ) → 1 ≤ i → i ≤ 3 → (k : Kept) (l : List ℕ) (g : 
     → fits_fields (word (word_of i) ∷ hex ∷ []) (split tab l) ≡ true → line_over (fresh i 0 true k) l ≡ g (one l)
 hex-line i l m k t g e h =
     let q = hex-facts (word_of i) (first tab t) (rest tab t) h in
-    line_walk (fresh i 0 true k) t ∙ hex-walk i l m k (first tab t) (rest tab t) g e q.0 q.1 q.2
+    line_walk_lem (fresh i 0 true k) t ∙ hex-walk i l m k (first tab t) (rest tab t) g e q.0 q.1 q.2
 
 -- ---- the text
 
@@ -233,7 +233,7 @@ four-lines k a b c d ea eb ec ed =
     record { numbers = k₁.numbers; lengths = set k.lengths 0 (count_in k.matrix (bytes_of (one b))); matrix = stored k.matrix (one b); y = k.y; x_a = k.x_a } in
     let k₃ : Kept =
     record { numbers = k₁.numbers; lengths = set k₂.lengths 1 (count_in k.y (bytes_of (one c))); matrix = k₂.matrix; y = stored k.y (one c); x_a = k.x_a } in
-    ap (λ (h : Held). line_over (line_over (line_over h b) c) d) (line_walk (fresh 0 0 true k) a ∙ set_walk k (first tab a) (rest tab a) ea)
+    ap (λ (h : Held). line_over (line_over (line_over h b) c) d) (line_walk_lem (fresh 0 0 true k) a ∙ set_walk k (first tab a) (rest tab a) ea)
     ∙ ap (λ (h : Held). line_over (line_over h c) d) (hex-line 1 (omega arith) (omega arith) k₁ b _ (end-matrix k₁) eb)
     ∙ ap (λ (h : Held). line_over h d) (hex-line 2 (omega arith) (omega arith) k₂ c _ (end-y k₂) ec)
     ∙ hex-line 3 (omega arith) (omega arith) k₃ d _ (end-x_a k₃) ed

@@ -10,7 +10,7 @@
 -- word-front, -middle, -end    what stands in the parts: the words of Q, of S and F, and of P
 -- evaluation-asked     n polynomials that stand in blocks of one size, at one place of each, can be evaluated
 -- factor-made          ε·F(r)
-use Rattle.std.specs.Prelude.{◌≡◌, Bool, true, false, cond, ℕ, zero, ◌+◌, ◌-◌, ◌*◌, ◌≤◌, ◌<◌, length, take, drop}
+use Rattle.std.specs.Prelude.{◌≡◌, Bool, true, false, cond, ℕ, ◌+◌, ◌-◌, ◌*◌, ◌≤◌, ◌<◌, length, take, drop}
 use Rattle.std.proofs.Common.{sym, ap₂, ◌∙◌, arith, length-append, length-take, length-drop, length-take-le, take_at, drop_at, get_or-append-add}
 use Rattle.std.proofs.Math.Path.{ap}
 use mathlib.Core.List.{List, [], ◌∷◌, ◌++◌, append-nil, append_assoc}

@@ -36,7 +36,7 @@ slice_bounds-add_share-end c = omega (arith, inside (goal.at.slice_bounds-add_sh
 pub loop-i-preserved : goal.loop-i-preserved
 loop-i-preserved c = let a = c.args in
     let g = gathered-more _ a.shares.now a.from _ _ _ c.loop-i-test.true (sized (goal.at.loop-i-preserved c).After-share_length-size).0 (sized (goal.at.loop-i-preserved c).After-share_length-size).1 _ _ c.loop-i.invariant.1
-    (λ k. omega (arith, c.shared_slice_known-1.given k)) c.add_share.ensures in
+    (λ k. omega (arith, c.type_inv.shares k)) c.add_share.ensures in
     (omega arith, g, omega (arith, c.add_share))
 
 pub returns : goal.returns

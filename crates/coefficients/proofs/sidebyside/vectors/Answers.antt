@@ -43,7 +43,7 @@ image-requires c = prepared-image _ _ c.gather.new.words _ (below (goal.at.image
 
 pub returns : goal.returns
 returns c = let a = c.args in let p = a.p in
-    λ i h. vector-made p a.matrix.now a.y.now a.first (share_of p a.shares.now i) i h (λ k. omega (arith, c.shared_slice_known-3-1.given k))
+    λ i h. vector-made p a.matrix.now a.y.now a.first (share_of p a.shares.now i) i h (λ k. omega (arith, c.type_inv.y k))
     c.requires.sized-y _ _ c.image.new.words c.add_where.new.words (below (goal.at.returns c).Start) (gathered (goal.at.returns c).After-gather) (prepared (goal.at.returns c).After-clear) c.image.auto.words c.image.ensures.0
     (c.image.ensures.1 i h) c.add_where.ensures
     (c.gather.ensures i ∙ ap₂ (bytes_at (share_of p a.shares.now i)) c.at_x-at.ensures (sym (front (goal.at.returns c).Start)))

@@ -21,7 +21,7 @@ within c =
     read-within c.args.scan c.parameters_of-p.ensures (passed)
 
 lent : (c : After-y_length-rows) → let a = (c).args in
-    Lent a.matrix.now c.matrix_length-size.result × Lent a.y.now c.y_length-rows.result × Lent a.x-a.now c.parameters_of-p.result.k
+    Lent a.matrix.now c.matrix_length-size.result × Lent a.y.now c.y_length-rows.result × Lent a.x_a.now c.parameters_of-p.result.k
 lent c =
     let passed : Read c.args.scan (length c.args.matrix.now) (length c.args.y.now) (length c.args.x_a.now) = read_done _ _ _ _ (sym c.read_checks-checked.ensures ∙ c.enum_told-1.given.1) in
     let h = read_held c.args.scan c.parameters_of-p.ensures (passed) in

@@ -6,15 +6,15 @@ use Rattle.keytext.proofs.listing.lengths_read.Goals as goal
 use Rattle.keytext.proofs.listing.lengths_read.Goals.{After-read_in, After-read_in-2}
 
 -- the first two answers are those of the definition
-matrix-read : (c : After-read_in) → let a = c.args in c.read_in.result ≡ read_in (get_or a.t2 0 0) a.matrix (matrix_length a.p)
+matrix-read : (c : After-read_in) → let a = c.args in c.read_in.result ≡ read_in (get_or a.lengths 0 0) a.matrix (matrix_length a.p)
 matrix-read c =
     let a = c.args in
-    c.read_in.ensures ∙ ap (read_in (get_or a.t2 0 0) a.matrix) c.matrix_length.ensures
+    c.read_in.ensures ∙ ap (read_in (get_or a.lengths 0 0) a.matrix) c.matrix_length.ensures
 
-y-read : (c : After-read_in-2) → let a = c.args in c.read_in-2.result ≡ read_in (get_or a.t2 1 0) a.y (y_length a.p)
+y-read : (c : After-read_in-2) → let a = c.args in c.read_in-2.result ≡ read_in (get_or a.lengths 1 0) a.y (y_length a.p)
 y-read c =
     let a = c.args in
-    c.read_in-2.ensures ∙ ap (read_in (get_or a.t2 1 0) a.y) c.y_length.ensures
+    c.read_in-2.ensures ∙ ap (read_in (get_or a.lengths 1 0) a.y) c.y_length.ensures
 
 pub returns-then-not-read_in : goal.returns-then-not-read_in
 unfolding lengths_read

@@ -15,4 +15,4 @@ pub slice_bounds-key_lines-end-4 : goal.slice_bounds-key_lines-end-4
 slice_bounds-key_lines-end-4 c = sym (fits _ _ (omega arith))
 
 pub key_lines-requires : goal.key_lines-requires
-key_lines-requires c = (c.requires.weighted, (c.requires.tables_value, (fits _ _ (omega arith), fits _ _ (omega arith), fits _ _ (omega arith), fits _ _ (omega arith))))
+key_lines-requires c = record { weighted = c.requires.weighted; tables_value = c.requires.tables_value; q_len = (fits _ _ (omega arith), fits _ _ (omega arith), fits _ _ (omega arith), fits _ _ (omega arith)) }
