@@ -11,6 +11,7 @@ LINES = [
     ("  %x = ptrtoint ptr %a0 to i64", "an address becomes a number"),
     ("  %x = inttoptr i64 8 to ptr", "an address becomes a number"),
     ("  %x = icmp ult ptr %a0, %a0", "it goes by an address"),
+    ("  %x = icmp eq ptr %a0, %a0", "it goes by an address"),
     ("  %x = bitcast i64 1 to double", "it goes by an address"),
     ("  %x = fadd double 1.0, 1.0", "floating point"),
     ("  %x = add <2 x i32> zeroinitializer, zeroinitializer", "a vector"),
