@@ -21,6 +21,7 @@ every f (a ∷ l) = f a && every f l
 
 every_in : {A : Type 0} (f : A → Bool) (l : List A) → every f l ≡ true → (a : A) → In a l → f a ≡ true
 unfolding every
+every_in {A = A} f [] e a i = elim i [ ]
 every_in f (b ∷ l) e a here = and_left (f b) (every f l) e
 every_in f (b ∷ l) e a (later i) = every_in f l (and_right (f b) (every f l) e) a i
 
@@ -59,6 +60,7 @@ module _ (hash : List ℕ → ℕ → List ℕ) {A C : Type 0} (f : A → C → 
   in-column : (a a' : A) (cs : List C) → apart (row cs a) (row cs a') ≡ true → (c : C) → In c cs
       → (f a c ≡ f a' c → ⊥) → hash (f a c) 32 ≡ hash (f a' c) 32 → ⊥
   unfolding row apart string
+  in-column a a' [] h c i = elim i [ ]
   in-column a a' (b ∷ cs) h c here = go (eq_list (f a c) (f a' c)) refl (and_left (differ (string a c) (string a' c)) (apart (row cs a) (row cs a')) h)
     where
       go : (t : Bool) → eq_list (f a c) (f a' c) ≡ t → cond t true (not (eq_list (hash (f a c) 32) (hash (f a' c) 32))) ≡ true

@@ -47,13 +47,13 @@ put_all-requires c = let f = c.requires in (
 )
 
 pub shape_of-rows : goal.shape_of-rows
-shape_of-rows c = c.put_all_lem.auto.1.1.1.1.0 ∙ front_kept _ (c.evaluate-made.new.blocks) _ (long (goal.at.shape_of-rows c).After-evaluate-made) (room (goal.at.shape_of-rows c).After-blocks_length-b)
+shape_of-rows c = c.put_all.auto.rows ∙ front_kept _ (c.evaluate-made.new.blocks) _ (long (goal.at.shape_of-rows c).After-evaluate-made) (room (goal.at.shape_of-rows c).After-blocks_length-b)
 
 pub returns : goal.returns
 returns c = let a = c.args in
-    let given = (c).shared-slice-known5.given in (
-      c.put_all_lem.ensures
-          ∙ ap (λ (b : List ℕ). rows_by a.p a.sums.now b a.hidden_leaf a.hidden_values.now) (take_at (c.evaluate-made.new.blocks) ((drop c.blocks_length-b.result (c).args.rows.now)) _ (long (goal.at.returns c).After-evaluate-made ∙ c.blocks_length-b.ensures))
+    let given = c.shared_slice_known-5-1.given in (
+      c.put_all.ensures
+          ∙ ap (λ (b : List ℕ). rows_by a.p a.sums.now b a.hidden_leaf a.hidden_values.now) (take_at (c.evaluate-made.new.blocks) ((drop c.blocks_length-b.result c.args.rows.now)) _ (long (goal.at.returns c).After-evaluate-made ∙ c.blocks_length-b.ensures))
           ∙ rows_made a.p (key_of a.matrix.now a.y.now) a.message2.now a.sums.now a.hidden_leaf a.hidden_values.now (c.evaluate-made.new.blocks) c.evaluate-made.ensures.0
           c.requires.sized-hidden (λ i. omega (arith, given i)),
       c.evaluate-made.ensures.1,

@@ -31,7 +31,7 @@ small : (c : After-others) → c.row_length-room.result ≤ longest_row
 small c =
     omega (arith, c.row_length-room.ensures, c.requires.0.within.t-most)
 
-written : (c : After-put_parties) → length (c.put_parties.new.rows) ≡ c.others.result * (c).row-length.result
+written : (c : After-put_parties) → length (c.put_parties.new.rows) ≡ c.others.result * c.row_length-room.result
 written c =
     let front : c.others.result * c.row_length-room.result ≡ others c.args.p * row_length c.args.p = ap₂ ◌*◌ c.others.ensures c.row_length-room.ensures in
     let whole : length c.args.row.now ≡ others c.args.p * row_length c.args.p + row_length c.args.p = c.requires.3 ∙ ap (λ (n : ℕ). n * row_length c.args.p) (side-others c.args.p) ∙ suc-mul (others c.args.p) (row_length c.args.p) in
@@ -44,7 +44,7 @@ again c =
     let front : c.others.result * c.row_length-room.result ≡ others c.args.p * row_length c.args.p = ap₂ ◌*◌ c.others.ensures c.row_length-room.ensures in
     let whole : length c.args.row.now ≡ others c.args.p * row_length c.args.p + row_length c.args.p = c.requires.3 ∙ ap (λ (n : ℕ). n * row_length c.args.p) (side-others c.args.p) ∙ suc-mul (others c.args.p) (row_length c.args.p) in
     let lent : let n = c.others.result * c.row_length-room.result in length (take n c.args.row.now) ≡ n = length-take-le _ c.args.row.now (omega (arith, front, whole)) in
-    let written : length (c.put_parties.new.rows) ≡ c.others.result * (c).row-length.result = c.put_parties.auto.rows ∙ lent in
+    let written : length (c.put_parties.new.rows) ≡ c.others.result * c.row_length-room.result = c.put_parties.auto.rows ∙ lent in
     take_at _ _ _ (written)
 
 -- the slice is as long as it was
@@ -56,10 +56,10 @@ kept c =
     let front : c.others.result * c.row_length-room.result ≡ others c.args.p * row_length c.args.p = ap₂ ◌*◌ c.others.ensures c.row_length-room.ensures in
     let whole : length c.args.row.now ≡ others c.args.p * row_length c.args.p + row_length c.args.p = c.requires.3 ∙ ap (λ (n : ℕ). n * row_length c.args.p) (side-others c.args.p) ∙ suc-mul (others c.args.p) (row_length c.args.p) in
     let lent : let n = c.others.result * c.row_length-room.result in length (take n c.args.row.now) ≡ n = length-take-le _ c.args.row.now (omega (arith, front, whole)) in
-    let written : length (c.put_parties.new.rows) ≡ c.others.result * (c).row-length.result = c.put_parties.auto.rows ∙ lent in
+    let written : length (c.put_parties.new.rows) ≡ c.others.result * c.row_length-room.result = c.put_parties.auto.rows ∙ lent in
     front_kept _ (c.put_parties.new.rows) _ (written) (omega (arith, front, whole))
 
-sized : (c : After-put_last) → length (c.put_last.new.last) ≡ (c).row-length.result
+sized : (c : After-put_last) → length (c.put_last.new.last) ≡ c.row_length-room.result
 sized c =
     let small : c.row_length-room.result ≤ longest_row = omega (arith, c.row_length-room.ensures, c.requires.0.within.t-most) in
     c.put_last.auto.last ∙ length-take-le _ _ (small)
@@ -93,13 +93,13 @@ put_last-requires c = let (f, j, t, w, z) = c.requires in
     (f.within, t, ap length (again (goal.at.put_last-requires c).After-put_parties) ∙ written (goal.at.put_last-requires c).After-put_parties ∙ front (goal.at.put_last-requires c).After-others, length-take-le _ _ (small (goal.at.put_last-requires c).After-others) ∙ c.row_length-room.ensures)
 
 pub slice_bounds-last-end-2 : goal.slice_bounds-last-end-2
-slice_bounds-last-end-2 c = front-there (c.put_last.new.last) ((drop (c).row-length.result (replicate longest_row 0))) _ (sized (goal.at.slice_bounds-last-end-2 c).After-put_last)
+slice_bounds-last-end-2 c = front-there (c.put_last.new.last) ((drop c.row_length-room.result (replicate longest_row 0))) _ (sized (goal.at.slice_bounds-last-end-2 c).After-put_last)
 
 pub slice_bounds-put_at-end : goal.slice_bounds-put_at-end
-slice_bounds-put_at-end c = sym (front-sized (c.put_last.new.last) ((drop (c).row-length.result (replicate longest_row 0))) _ (sized (goal.at.slice_bounds-put_at-end c).After-put_last))
+slice_bounds-put_at-end c = sym (front-sized (c.put_last.new.last) ((drop c.row_length-room.result (replicate longest_row 0))) _ (sized (goal.at.slice_bounds-put_at-end c).After-put_last))
 
 pub put_at-requires : goal.put_at-requires
-put_at-requires c = front_fits (c.put_last.new.last) ((drop (c).row-length.result (replicate longest_row 0))) _ (sized (goal.at.put_at-requires c).After-put_last) _ _ (omega (arith, c.row_length-room.ensures, kept (goal.at.put_at-requires c).After-put_parties, front (goal.at.put_at-requires c).After-others, whole (goal.at.put_at-requires c).After-others))
+put_at-requires c = front_fits (c.put_last.new.last) ((drop c.row_length-room.result (replicate longest_row 0))) _ (sized (goal.at.put_at-requires c).After-put_last) _ _ (omega (arith, c.row_length-room.ensures, kept (goal.at.put_at-requires c).After-put_parties, front (goal.at.put_at-requires c).After-others, whole (goal.at.put_at-requires c).After-others))
 
 pub shape_of-row : goal.shape_of-row
 shape_of-row c = c.put_at.auto.out ∙ kept (goal.at.shape_of-row c).After-put_parties
@@ -109,7 +109,7 @@ unfolding formula_rows
 returns c = let a = c.args in let n = c.others.result * c.row_length-room.result in
     let r = party_row a.p a.sums.now a.blocks.now a.hats.now a.axis in
     let lengths = length-party_row a.p a.sums.now a.blocks.now a.hats.now c.requires.0.sized-blocks a.axis c.requires.1 in
-    c.put_at.ensures ∙ ap (put_at (c.put_parties.new.rows ++ drop n a.row.now) n) (take_at (c.put_last.new.last) ((drop (c).row-length.result (replicate longest_row 0))) _ (sized (goal.at.returns c).After-put_last))
+    c.put_at.ensures ∙ ap (put_at (c.put_parties.new.rows ++ drop n a.row.now) n) (take_at (c.put_last.new.last) ((drop c.row_length-room.result (replicate longest_row 0))) _ (sized (goal.at.returns c).After-put_last))
     ∙ put-behind (c.put_parties.new.rows) (c.put_last.new.last) a.row.now _ (written (goal.at.returns c).After-put_parties) (omega (arith, whole (goal.at.returns c).After-others, front (goal.at.returns c).After-others, sized (goal.at.returns c).After-put_last, c.row_length-room.ensures))
     ∙ ap₂ ◌++◌ c.put_parties.ensures
     (c.put_last.ensures

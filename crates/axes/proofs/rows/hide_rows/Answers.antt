@@ -1,18 +1,15 @@
 use Rattle.std.proofs.Common.{List, ap, ap₂, arith, length, refl, sym, ℕ, ◌*◌, ◌+◌, ◌-◌, ◌<◌, ◌∙◌, ◌≡◌, ◌≤◌}
 use Rattle.lists.specs.Part.{part}
 use Rattle.lists.specs.Part.Laws.{lent-part, part-put_at-behind}
-use Rattle.parameters.specs.declared.Parameters.{Parameters}
 use Rattle.layout.specs.Layout.{axis_length}
 use Rattle.layout.specs.Layout.Bounds.{rows-most}
 use Rattle.layout.specs.Maxima.{most_rows}
 use Rattle.points.specs.Written.{middle-kept}
 use Rattle.points.specs.Blocks.{within-blocks, next-block, length-block, blocks-none, blocks-turn, blocks_end}
 use Rattle.axes.specs.Row.{hidden_party, with_hiding}
+use Rattle.axes.proofs.rows.hide_rows.Invariants.{row_at}
 use Rattle.axes.proofs.rows.hide_rows.Goals as goal
 use Rattle.axes.proofs.rows.hide_rows.Goals.{At-loop-j}
-
-abbrev row_at : Parameters → ℕ → List ℕ → List ℕ → ℕ → List ℕ
-row_at p leaf hiding rows j = with_hiding p (hidden_party p leaf j) hiding (part rows (j * axis_length p) (axis_length p))
 
 whole : (c : At-loop-j) → length c.args.rows.now ≡ c.args.p.axes * c.axis_length-width.result
 whole c =

@@ -28,7 +28,7 @@ pub slice_bounds-copy-end : goal.slice_bounds-copy-end
 slice_bounds-copy-end c = front_length _ _ (room (goal.at.slice_bounds-copy-end c).After-blocks_length-b)
 
 pub slice_bounds-copy-end-2 : goal.slice_bounds-copy-end-2
-slice_bounds-copy-end-2 c = side c
+slice_bounds-copy-end-2 c = inside (goal.at.slice_bounds-copy-end-2 c).After-blocks_length-b
 
 pub slice_bounds-copy-end-3 : goal.slice_bounds-copy-end-3
 slice_bounds-copy-end-3 c = front_length _ _ (inside (goal.at.slice_bounds-copy-end-3 c).After-blocks_length-b)

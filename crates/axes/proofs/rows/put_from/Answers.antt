@@ -13,7 +13,7 @@ small : (c : After-row_length-t) → (c.values_length-v.result ≤ most_values) 
 small c =
     let t = c.requires.0.within.t-most in (omega (arith, c.values_length-v.ensures, t), omega (arith, c.row_length-t.ensures, t))
 
-sized-hats : (c : After-total_row) → length (c.total_row.new.hats) ≡ (c).values_length.result
+sized-hats : (c : After-total_row) → length (c.total_row.new.hats) ≡ c.values_length-v.result
 sized-hats c =
     let small : (c.values_length-v.result ≤ most_values) × (c.row_length-t.result ≤ longest_row) = let t = c.requires.0.within.t-most in (omega (arith, c.values_length-v.ensures, t), omega (arith, c.row_length-t.ensures, t)) in
     c.total_row.auto.hats ∙ length-take-le _ _ (small).0
@@ -23,7 +23,7 @@ sized-total c =
     let small : (c.values_length-v.result ≤ most_values) × (c.row_length-t.result ≤ longest_row) = let t = c.requires.0.within.t-most in (omega (arith, c.values_length-v.ensures, t), omega (arith, c.row_length-t.ensures, t)) in
     c.total_row.auto.total ∙ length-take-le _ _ (small).1
 
-sized : (c : After-put_at) → length (c.put_at.new.out) ≡ (c).row-length.result
+sized : (c : After-put_at) → length (c.put_at.new.out) ≡ c.row_length-t.result
 sized c =
     let small : (c.values_length-v.result ≤ most_values) × (c.row_length-t.result ≤ longest_row) = let t = c.requires.0.within.t-most in (omega (arith, c.values_length-v.ensures, t), omega (arith, c.row_length-t.ensures, t)) in
     let sized-total : length (c.total_row.new.total) ≡ c.row_length-t.result = c.total_row.auto.total ∙ length-take-le _ _ (small).1 in
@@ -57,10 +57,10 @@ total_row-requires c = let (f, n, w) = c.requires in (
 )
 
 pub slice_bounds-hats-end-2 : goal.slice_bounds-hats-end-2
-slice_bounds-hats-end-2 c = front-there (c.total_row.new.hats) ((drop (c).values_length.result (replicate most_values 0))) _ (sized-hats (goal.at.slice_bounds-hats-end-2 c).After-total_row)
+slice_bounds-hats-end-2 c = front-there (c.total_row.new.hats) ((drop c.values_length-v.result (replicate most_values 0))) _ (sized-hats (goal.at.slice_bounds-hats-end-2 c).After-total_row)
 
 pub slice_bounds-put_rows-end : goal.slice_bounds-put_rows-end
-slice_bounds-put_rows-end c = sym (front-sized (c.total_row.new.hats) ((drop (c).values_length.result (replicate most_values 0))) _ (sized-hats (goal.at.slice_bounds-put_rows-end c).After-total_row))
+slice_bounds-put_rows-end c = sym (front-sized (c.total_row.new.hats) ((drop c.values_length-v.result (replicate most_values 0))) _ (sized-hats (goal.at.slice_bounds-put_rows-end c).After-total_row))
 
 pub slice_bounds-total-end-2 : goal.slice_bounds-total-end-2
 slice_bounds-total-end-2 c = front-there (c.total_row.new.total) ((drop c.row_length-t.result (replicate longest_row 0))) _ (sized-total (goal.at.slice_bounds-total-end-2 c).After-total_row)
@@ -74,7 +74,7 @@ put_rows-requires c = let (f, n, w) = c.requires in (
     within = f.within;
     sized-parts = f.sized-parts;
     sized-blocks = n;
-    sized-hats = front-sized (c.total_row.new.hats) ((drop (c).values_length.result (replicate most_values 0))) _ (sized-hats (goal.at.put_rows-requires c).After-total_row) ∙ c.values_length-v.ensures;
+    sized-hats = front-sized (c.total_row.new.hats) ((drop c.values_length-v.result (replicate most_values 0))) _ (sized-hats (goal.at.put_rows-requires c).After-total_row) ∙ c.values_length-v.ensures;
   },
   front-sized (c.total_row.new.total) ((drop c.row_length-t.result (replicate longest_row 0))) _ (sized-total (goal.at.put_rows-requires c).After-total_row) ∙ c.row_length-t.ensures,
   f.sized_rows,
@@ -110,4 +110,4 @@ returns c = let a = c.args in c.hide_rows.ensures
     c.total_row.ensures.0 c.total_row.ensures.1 (sized-total (goal.at.returns c).After-total_row ∙ c.row_length-t.ensures)
     (take_at (c.put_at.new.out) ((drop c.row_length-t.result (c.total_row.new.total ++ (drop c.row_length-t.result (replicate longest_row 0))))) _ (sized (goal.at.returns c).After-put_at) ∙ c.put_at.ensures ∙ ap (λ (c : List ℕ). put_at c 0 a.hidden_values.now) (take_at (c.total_row.new.total) ((drop c.row_length-t.result (replicate longest_row 0))) _ (sized-total (goal.at.returns c).After-total_row)))
     (c.put_rows.ensures
-    ∙ ap₂ (λ (c t : List ℕ). joined (formula_rows a.p a.sums.now a.blocks.now c t) a.p.axes) (take_at (c.total_row.new.hats) ((drop (c).values_length.result (replicate most_values 0))) _ (sized-hats (goal.at.returns c).After-total_row)) (take_at (c.total_row.new.total) ((drop c.row_length-t.result (replicate longest_row 0))) _ (sized-total (goal.at.returns c).After-total_row)))
+    ∙ ap₂ (λ (c t : List ℕ). joined (formula_rows a.p a.sums.now a.blocks.now c t) a.p.axes) (take_at (c.total_row.new.hats) ((drop c.values_length-v.result (replicate most_values 0))) _ (sized-hats (goal.at.returns c).After-total_row)) (take_at (c.total_row.new.total) ((drop c.row_length-t.result (replicate longest_row 0))) _ (sized-total (goal.at.returns c).After-total_row)))
