@@ -1,9 +1,9 @@
 -- How long the arrays are that a session holds: what its type tells of a session that a function is passed. `held-exchanging`: a message can be made from them.
-use mathlib.Core.Path.{◌≡◌, sym, ◌∙◌}
+use mathlib.Core.Path.{◌≡◌}
 use mathlib.Core.List.{List, [], ◌∷◌}
 use Prim.Native.Nat.{ℕ, ◌≤◌}
 use native.Mathlib.Omega.{arith}
-use lib.ListN.{length, length-map}
+use lib.ListN.{length}
 use denote.RattleType.{Valss}
 use denote.Shadow.{shadow}
 use denote.Struct.Declared.{shape}
@@ -21,16 +21,16 @@ use Rattle.prover.proofs.Prover.TheLaws.{the_laws}
 
 module _ (s : Prover) (told : (vs : Valss (shape the_type).fields) × shadow (within (shape the_type) (the_type.to s) (val the_type the_laws s ∷ []) vs)) where
   pub x-length : length s.x ≡ 255
-  x-length = sym (length-map s.x _) ∙ told.1.1.1.1.1.0.1.0.1
+  x-length = told.1.1.1.1.1.0.1.0.1
 
   pub root-length : length s.root ≡ 16
-  root-length = sym (length-map s.root _) ∙ told.1.1.1.1.1.1.1.0.1.0.1
+  root-length = told.1.1.1.1.1.1.1.0.1.0.1
 
   pub message2-length : length s.message2 ≡ most_messages2
-  message2-length = sym (length-map s.message2 _) ∙ told.1.1.1.1.1.1.1.1.0.1.0.1
+  message2-length = told.1.1.1.1.1.1.1.1.0.1.0.1
 
   pub salt-length : length s.salt ≡ 32
-  salt-length = sym (length-map s.salt _) ∙ told.1.1.1.1.1.1.0.1.0.1
+  salt-length = told.1.1.1.1.1.1.0.1.0.1
 
   pub held-exchanging : (n : ℕ) (seeds work : List ℕ) → n ≡ s.runs → length seeds ≡ 48 → Ready (held s) → work_length s.parameters ≤ length work
       → Exchanging s.parameters n s.x seeds work

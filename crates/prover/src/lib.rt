@@ -33,7 +33,7 @@ pub struct Prover {
 }
 
 // A session after a call, with what the call answers.
-#[derive(Clone, Copy)]
+#[derive(Drop)]
 pub struct Called {
     pub prover: Prover,
     pub answer: Answer,

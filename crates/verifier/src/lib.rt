@@ -34,7 +34,7 @@ pub struct Verifier {
 }
 
 // A session after a call, with what the call answers.
-#[derive(Clone, Copy)]
+#[derive(Drop)]
 pub struct Called {
     pub verifier: Verifier,
     pub answer: Answer,
