@@ -16,7 +16,6 @@ use Rattle.bytefield.specs.Product.{reduction, xtime, times_bits, ◌⊗◌}
 use Rattle.bytefield.specs.Byte.{Byte, byte, byte_ring, byte_field}
 use Rattle.bytefield.specs.Byte.Laws.{byte-zero}
 use Rattle.tower.specs.Point.{Quad, quad}
-pub mod Laws
 
 -- ---- u² + u is never 20
 differs_at : ℕ → Bool
