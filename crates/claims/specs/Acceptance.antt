@@ -13,7 +13,7 @@ use Rattle.answers.specs.Number.{answer_number}
 use Rattle.answers.specs.Number.Laws.{answers-apart, refused-not-0}
 use Rattle.exchange.specs.Values.{Key}
 use Rattle.runs.specs.Opening.{Accepted}
-use Rattle.runs.specs.Opening.Laws.{accepted-when, accepted-then}
+use Rattle.runs.proofs.Opening.Laws.{accepted-when, accepted-then}
 use Rattle.calls.specs.Verifier.{Verifier, Judged, held_transcript, opening_checks, judge, opening}
 use Rattle.claims.specs.Verifier.{opening-closes}
 

@@ -38,7 +38,7 @@ use Rattle.exchange.specs.Sequences.{least}
 use Rattle.exchange.specs.Values.{Key}
 use Rattle.exchange.specs.Parties.{sums_of}
 use Rattle.exchange.specs.Opening.{Exchange, announced}
-use Rattle.exchange.specs.Opening.Laws.{sums-agree}
+use Rattle.exchange.proofs.Opening.Laws.{sums-agree}
 use Rattle.runs.specs.Opening.{Transcript, transcript, exchange_at, verdict}
 use Rattle.calls.specs.Held.{is_some, told}
 use Rattle.calls.specs.Lengths.{opening_lengths}

@@ -18,7 +18,7 @@ use Rattle.answers.specs.declared.Answer.TheVariants.{Done}
 use Rattle.layout.specs.Layout.{leaves}
 use Rattle.runs.specs.Messages.{leaf_at}
 use Rattle.runs.specs.Opening.{Transcript, verdict}
-use Rattle.runs.specs.Opening.Laws.{accepted-then}
+use Rattle.runs.proofs.Opening.Laws.{accepted-then}
 use Rattle.claims.specs.Words.{Sent}
 use Rattle.claims.specs.Completeness.Sample.{one-position}
 use Rattle.claims.specs.Weight.{Pair, In, here, later, MeetsTwice, Under, Meeting, OneX}

@@ -19,12 +19,12 @@ use Rattle.answers.specs.Checks.{checks}
 use Rattle.answers.specs.Order.{Conditions, holds, first_of, answer_of}
 use Rattle.parameters.specs.declared.Parameters.{Parameters}
 use Rattle.exchange.specs.Sequences.{least}
-use Rattle.exchange.specs.Sequences.Laws.{Least, least-is}
+use Rattle.exchange.proofs.Sequences.Laws.{Least, least-is}
 use Rattle.exchange.specs.Values.{Key}
 use Rattle.exchange.specs.Opening as run
 use Rattle.exchange.specs.Opening.{Exchange, commitment_string, response_string}
 use Rattle.runs.specs.Opening.{Transcript, exchange_at, lowest, verdict}
-use Rattle.runs.specs.Opening.Laws.{lowest-all, lowest-first, lowest-keeps}
+use Rattle.runs.proofs.Opening.Laws.{lowest-all, lowest-first, lowest-keeps}
 use Rattle.calls.specs.Judging.{digest_differs, response_differs, refused_run, opening_conditions, judged}
 
 -- the two conditions, from whether there is a refused run

@@ -19,7 +19,7 @@ use Rattle.layout.specs.Runs.{runs_within, message1_length, messages2_length, me
 use Rattle.exchange.specs.Values.{Key}
 use Rattle.runs.specs.Points.{distinct_points}
 use Rattle.runs.specs.Opening.{transcript, verdict, Accepted}
-use Rattle.runs.specs.Opening.Laws.{accepted-then, accepted-when}
+use Rattle.runs.proofs.Opening.Laws.{accepted-then, accepted-when}
 use Rattle.calls.specs.Lengths.{opening_lengths, leaves_below}
 use Rattle.calls.specs.Judging.{opening_conditions}
 use Rattle.calls.specs.Verifier as verifier

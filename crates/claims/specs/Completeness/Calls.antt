@@ -13,9 +13,9 @@ use Rattle.layout.specs.Runs.Laws.{RunsWithin}
 use Rattle.exchange.specs.Values.{Key}
 use Rattle.runs.specs.Messages.{message1, message3, message5}
 use Rattle.runs.specs.Points.{DistinctPoints}
-use Rattle.runs.specs.Messages.Laws.{length-message1, length-message3, length-message5, messages-accepted}
+use Rattle.runs.proofs.Messages.Laws.{length-message1, length-message3, length-message5, messages-accepted}
 use Rattle.runs.specs.Opening.{transcript}
-use Rattle.runs.specs.Opening.Laws.{accepted-when}
+use Rattle.runs.proofs.Opening.Laws.{accepted-when}
 use Rattle.calls.specs.Prover as prover
 use Rattle.calls.specs.Prover.{Prover}
 use Rattle.calls.specs.Prover.History.{Call, after, made}

@@ -31,10 +31,10 @@ use Rattle.layout.specs.Maxima.{most_runs, most_message1, most_messages2, most_m
 use Rattle.layout.specs.Runs.{message1_length, messages2_length, messages3_length, messages5_length}
 use Rattle.layout.specs.Runs.Laws.{RunsWithin, within-runs}
 use Rattle.exchange.specs.Values.{Key}
-use Rattle.exchange.specs.Messages.Laws.{Secret}
+use Rattle.exchange.proofs.Messages.Laws.{Secret}
 use Rattle.runs.specs.Messages.{message1, message3, message5}
 use Rattle.runs.specs.Points.{distinct_points, DistinctPoints}
-use Rattle.runs.specs.Points.Laws.{distinct-points}
+use Rattle.runs.proofs.Points.Laws.{distinct-points}
 use Rattle.runs.specs.Opening.{transcript, verdict}
 use Rattle.prover_phase.specs.declared.Phase.{Phase}
 use Rattle.prover_phase.specs.declared.Phase.TheVariants.{Begun, Answered, Closed}

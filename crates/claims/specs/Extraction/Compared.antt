@@ -21,12 +21,12 @@ use Rattle.lists.specs.Equal.Laws.{eq_list-true, eq_list-false, eq_list-of}
 use Rattle.parameters.specs.declared.Parameters.{Parameters}
 use Rattle.layout.specs.Layout.{leaves}
 use Rattle.exchange.specs.Sequences.{listed}
-use Rattle.exchange.specs.Sequences.Laws.{listed-mem, those-none, none-those, those-first}
+use Rattle.exchange.proofs.Sequences.Laws.{listed-mem, those-none, none-those, those-first}
 use Rattle.exchange.specs.Values.{Key}
 use Rattle.exchange.specs.Opening.{Exchange, leaf_commitment, Accepted}
-use Rattle.exchange.specs.Opening.Laws.{commitment-disclosed}
+use Rattle.exchange.proofs.Opening.Laws.{commitment-disclosed}
 use Rattle.exchange.specs.Extractor.{compared, string_at, unequal_at}
-use Rattle.exchange.specs.Extractor.Laws.{Compared, at_response, at_axis, at_commitment, at_leaf, upper, lower, compared_is, mem-compared, compared-mem, string-6}
+use Rattle.exchange.proofs.Extractor.Laws.{Compared, at_response, at_axis, at_commitment, at_leaf, upper, lower, compared_is, mem-compared, compared-mem, string-6}
 use Rattle.claims.specs.Words.{At, here, later}
 use Rattle.claims.specs.Extraction.Strings.{axis_string_of, commitments-same, digests-same}
 use Rattle.claims.specs.Extraction.Leaves.{Matched, SameLeaves}

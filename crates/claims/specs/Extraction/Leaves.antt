@@ -19,9 +19,9 @@ use Rattle.parameters.specs.declared.Parameters.{Parameters}
 use Rattle.layout.specs.Layout.{leaves, message5_length}
 use Rattle.layout.specs.Layout.Laws.{is_last-true, is_last-false, is_last-last}
 use Rattle.exchange.specs.Sequences.{joined}
-use Rattle.exchange.specs.Sequences.Laws.{joined_at, joined-rest}
+use Rattle.exchange.proofs.Sequences.Laws.{joined_at, joined-rest}
 use Rattle.exchange.specs.Leaf.{share}
-use Rattle.exchange.specs.Leaf.Laws.{SameAux, share-ext}
+use Rattle.exchange.proofs.Leaf.Laws.{SameAux, share-ext}
 use Rattle.exchange.specs.Opening.{Exchange, aux_of, opened_state, opened_share, leaf_string}
 use Rattle.exchange.specs.Extractor.{aux_from, state_from, output}
 use Rattle.claims.specs.Words.{leaf_state, aux_state, leaf_share}

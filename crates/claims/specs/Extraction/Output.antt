@@ -9,13 +9,13 @@ use Rattle.std.proofs.Math.Decide.{ℕ_discrete}
 use Rattle.parameters.specs.declared.Parameters.{Parameters}
 use Rattle.layout.specs.Layout.{leaves, y_length}
 use Rattle.layout.specs.Layout.Laws.{leaves-pos, is_last-true}
-use Rattle.exchange.specs.FirstAxis.{first_axis, first-inside, first-apart}
+use Rattle.exchange.proofs.FirstAxis.{first_axis, first-inside, first-apart}
 use Rattle.exchange.specs.Strings.{string4}
 use Rattle.exchange.specs.Leaf.{commitment}
-use Rattle.exchange.specs.Leaf.Laws.{SameAux, string4-ext}
+use Rattle.exchange.proofs.Leaf.Laws.{SameAux, string4-ext}
 use Rattle.exchange.specs.Values.{Key}
 use Rattle.exchange.specs.Opening.{Exchange, aux_of, opened_state, leaf_string, leaf_commitment}
-use Rattle.exchange.specs.Opening.Laws.{commitment-disclosed}
+use Rattle.exchange.proofs.Opening.Laws.{commitment-disclosed}
 use Rattle.exchange.specs.Extractor.{axis, output}
 use Rattle.claims.specs.Words.{States, leaf_state, aux_state}
 use Rattle.claims.specs.Extraction.Leaves.{Matched, from_first, from_second, leaf_state-is, aux_state-is}

@@ -17,17 +17,17 @@ use Rattle.parameters.specs.Limits.Laws.{within-test}
 use Rattle.layout.specs.Layout.{work_length, output_length}
 use Rattle.layout.specs.Runs.{outputs_length}
 use Rattle.layout.specs.Runs.Laws.{within-runs}
-use Rattle.exchange.specs.Sequences.Laws.{those-none, none-those, those-first}
+use Rattle.exchange.proofs.Sequences.Laws.{those-none, none-those, those-first}
 use Rattle.exchange.specs.Values.{Key}
 use Rattle.exchange.specs.Extractor.{axis, output}
 use Rattle.runs.specs.Messages.{leaf_at}
 use Rattle.runs.specs.Points.{DistinctPoints}
-use Rattle.runs.specs.Points.Laws.{distinct-points}
+use Rattle.runs.proofs.Points.Laws.{distinct-points}
 use Rattle.runs.specs.Opening.{Transcript, exchange_at}
-use Rattle.runs.specs.Opening.Laws.{accepted-when}
+use Rattle.runs.proofs.Opening.Laws.{accepted-when}
 use Rattle.runs.specs.Extractor.{compared, differs, lowest_run, outputs, string_at, unequal_at, finding, extract}
-use Rattle.runs.specs.Extractor.Laws.{differs-when, differs-then, differs-not, lowest-run, none_then, first_then}
-use Rattle.runs.specs.Extractor.Output.{length-outputs, part-extracted, part-untouched}
+use Rattle.runs.proofs.Extractor.Laws.{differs-when, differs-then, differs-not, lowest-run, none_then, first_then}
+use Rattle.runs.proofs.Extractor.Output.{length-outputs, part-extracted, part-untouched}
 use Rattle.calls.specs.Lengths.Laws.{below-leaves}
 use Rattle.calls.specs.Extractor.{pair, filled, Outcome, extract_lengths, both_distinct, same_statement, early_checks, found, second, first, early, extraction}
 use Rattle.claims.specs.Words.{Apart, Comparable, run_part, Same, Clash, States}

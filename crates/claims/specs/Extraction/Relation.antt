@@ -19,10 +19,10 @@ use Rattle.parameters.specs.declared.Parameters.{Parameters}
 use Rattle.layout.specs.Layout.{side, leaves, digit, y_length}
 use Rattle.exchange.specs.Reading.{◌⊞◌, 𝟎}
 use Rattle.exchange.specs.Values.{Key, alpha, beta, part_v}
-use Rattle.exchange.specs.Values.Relation.{Relation, total_v-relation}
-use Rattle.exchange.specs.Parties.Cube.{axis_partition, G, GG, leaf_w, leaf_v, constant_w, constant_v, v-total}
+use Rattle.exchange.proofs.Values.Relation.{Relation, total_v-relation}
+use Rattle.exchange.proofs.Parties.Cube.{axis_partition, G, GG, leaf_w, leaf_v, constant_w, constant_v, v-total}
 use Rattle.exchange.specs.Opening.{Exchange, opened_share, announced}
-use Rattle.exchange.specs.Opening.Cube.{opened_w, opened_v, opened-announced, opened-verified}
+use Rattle.exchange.proofs.Opening.Cube.{opened_w, opened_v, opened-announced, opened-verified}
 use Rattle.exchange.specs.Extractor.{output}
 use Rattle.claims.specs.Words.{leaf_share, Witness}
 use Rattle.claims.specs.Extraction.Sums.{whole, whole-ext, sums-when, syndrome-holds}

@@ -18,7 +18,7 @@ use Rattle.exchange.specs.Opening.{Exchange, exchange}
 use Rattle.exchange.specs.Extractor.{output, unequal_at}
 use Rattle.runs.specs.Messages.{message2_at, leaf_at}
 use Rattle.runs.specs.Opening.{Transcript, message1_at, message3_at, message5_at, exchange_at}
-use Rattle.runs.specs.Extractor.Output.{length-output}
+use Rattle.runs.proofs.Extractor.Output.{length-output}
 use Rattle.claims.specs.Words.{Sent, Apart, Comparable, States}
 use Rattle.claims.specs.Extraction.Compared.{Alike, none_then}
 use Rattle.claims.specs.Extraction.Output.{states-hold}

@@ -13,14 +13,14 @@ use Rattle.std.proofs.Common.{◌∙◌}
 use mathlib.Core.List.{List, []}
 use Rattle.parameters.specs.declared.Parameters.{Parameters}
 use Rattle.layout.specs.Layout.{side, leaves, is_last, message5_length}
-use Rattle.exchange.specs.Sequences.Laws.{append_inj, joined-inj}
+use Rattle.exchange.proofs.Sequences.Laws.{append_inj, joined-inj}
 use Rattle.exchange.specs.Strings.{string, string4, string5, string7}
-use Rattle.exchange.specs.Leaf.Laws.{SameAux, length-state}
+use Rattle.exchange.proofs.Leaf.Laws.{SameAux, length-state}
 use Rattle.exchange.specs.Values.{Key}
 use Rattle.exchange.specs.Parties.{axis_string}
-use Rattle.exchange.specs.Parties.Laws.{axis_string-inj}
+use Rattle.exchange.proofs.Parties.Laws.{axis_string-inj}
 use Rattle.exchange.specs.Opening.{Exchange, aux_of, opened_state, leaf_string, leaf_commitment, commitment_string, announced, response_string}
-use Rattle.exchange.specs.Opening.Laws.{length-commitments}
+use Rattle.exchange.proofs.Opening.Laws.{length-commitments}
 
 pub strings-inj : (layer : ℕ) (pre pre' a b : List ℕ) → pre ≡ pre' → string layer pre a ≡ string layer pre' b → a ≡ b
 unfolding string

@@ -25,14 +25,14 @@ use Rattle.relation.specs.Key.Vector.{bytes-rows}
 use Rattle.parameters.specs.declared.Parameters.{Parameters}
 use Rattle.layout.specs.Layout.{leaves, share_length, at_x, at_q, y_length}
 use Rattle.exchange.specs.Reading.{bytes_at, value, ◌⊞◌, ◌⊠◌}
-use Rattle.exchange.specs.Reading.Laws.{length-bytes_at, bytes_at-all, bytes_at-xor}
+use Rattle.exchange.proofs.Reading.Laws.{length-bytes_at, bytes_at-all, bytes_at-xor}
 use Rattle.exchange.specs.Values.{Key, x_a_of, q_of, p_of, a_of, b_of, c_of, point_of, multiplier_of, F, image_of, x_of, s_of}
-use Rattle.exchange.specs.Values.Relation.{Relation}
-use Rattle.exchange.specs.Values.Laws.{length-x_a_of, length-image_of, length-x_of, length-p_of, x_of-plain, x_of-xor, p_of-xor, a_of-xor, b_of-xor, c_of-xor}
-use Rattle.exchange.specs.Messages.Sum.{added_twice}
+use Rattle.exchange.proofs.Values.Relation.{Relation}
+use Rattle.exchange.proofs.Values.Laws.{length-x_a_of, length-image_of, length-x_of, length-p_of, x_of-plain, x_of-xor, p_of-xor, a_of-xor, b_of-xor, c_of-xor}
+use Rattle.exchange.proofs.Messages.Sum.{added_twice}
 use Rattle.exchange.specs.Parties.{total}
-use Rattle.exchange.specs.Parties.Laws.{total_ext, bytes-total}
-use Rattle.exchange.specs.Parties.Cube.{total-additive}
+use Rattle.exchange.proofs.Parties.Laws.{total_ext, bytes-total}
+use Rattle.exchange.proofs.Parties.Cube.{total-additive}
 use Rattle.claims.specs.Words.{leaf_x, summed, plain_x, x_sum, q_sum, p_sum, a_sum, b_sum, c_sum}
 
 abbrev pub whole : Parameters → (ℕ → List ℕ) → List ℕ

@@ -19,7 +19,7 @@ use Rattle.lists.specs.Equal.{eq_list}
 use Rattle.lists.specs.Checks.{all_true}
 use Rattle.lists.specs.Checks.Laws.{and_left, and_right, not_so}
 use Rattle.tower.specs.Field.{point, bytes_of}
-use Rattle.tower.specs.Field.Laws.{bytes_of-point}
+use Rattle.tower.proofs.Field.Laws.{bytes_of-point}
 use Rattle.shake256.specs.Fips.{SHAKE256}
 use Rattle.answers.specs.declared.Answer.{Answer}
 use Rattle.answers.specs.declared.Answer.TheVariants.{Done, Refused}
@@ -34,12 +34,12 @@ use Rattle.polynomial.specs.Bytes.Laws.{bytes_take, byte-at}
 use Rattle.layout.specs.Layout.{message2_length}
 use Rattle.layout.specs.Runs.{runs_within, messages2_length}
 use Rattle.layout.specs.Runs.Laws.{runs-within, within-runs}
-use Rattle.exchange.specs.Sequences.Laws.{bytes_drop}
+use Rattle.exchange.proofs.Sequences.Laws.{bytes_drop}
 use Rattle.exchange.specs.Reading.{bytes_at, point_at}
 use Rattle.exchange.specs.Values.{Key, point_of}
 use Rattle.runs.specs.Messages.{message2_at}
 use Rattle.runs.specs.Points.{point_bytes, distinct_points, DistinctPoints}
-use Rattle.runs.specs.Points.Laws.{points-distinct, distinct-points}
+use Rattle.runs.proofs.Points.Laws.{points-distinct, distinct-points}
 use Rattle.runs.specs.Opening.{Transcript, verdict}
 use Rattle.runs.specs.Extractor.{Finding, unequal, states, extract}
 use Rattle.verifier_phase.specs.declared.Phase.TheVariants.{Begun}

@@ -19,12 +19,12 @@ use Rattle.parameters.specs.declared.Parameters.{Parameters}
 use Rattle.layout.specs.Layout.{leaves, message5_length, y_length}
 use Rattle.layout.specs.Layout.Laws.{is_last-last}
 use Rattle.exchange.specs.Leaf.{share}
-use Rattle.exchange.specs.Leaf.Laws.{SameAux, share-ext}
+use Rattle.exchange.proofs.Leaf.Laws.{SameAux, share-ext}
 use Rattle.exchange.specs.Values.{Key}
 use Rattle.exchange.specs.Opening.{Exchange, aux_of, opened_state, leaf_string, commitment_string}
-use Rattle.exchange.specs.Opening.Laws.{commitment-disclosed}
+use Rattle.exchange.proofs.Opening.Laws.{commitment-disclosed}
 use Rattle.exchange.specs.Extractor.{output, string_at, unequal_at}
-use Rattle.exchange.specs.Extractor.Laws.{Compared, at_response, at_axis, at_commitment, at_leaf, compared-mem}
+use Rattle.exchange.proofs.Extractor.Laws.{Compared, at_response, at_axis, at_commitment, at_leaf, compared-mem}
 use Rattle.claims.specs.Words.{States, leaf_state, aux_state, leaf_share}
 use Rattle.claims.specs.Extraction.Strings.{leaf-same, commitments-same}
 use Rattle.claims.specs.Extraction.Compared.{Alike, Equal, OneDigest, digest-7, digest-6, digest-5, digest-4, none_then, none-when}

@@ -17,13 +17,13 @@ use Rattle.parameters.specs.Limits.{Within}
 use Rattle.polynomial.specs.Bytes.{Bytes}
 use Rattle.relation.specs.Key.{weight_of}
 use Rattle.layout.specs.Layout.{leaves, values_length, at_q, siblings_length, y_length}
-use Rattle.exchange.specs.Sequences.Laws.{bytes_drop}
+use Rattle.exchange.proofs.Sequences.Laws.{bytes_drop}
 use Rattle.exchange.specs.Reading.{bytes_at, ◌⊞◌, ◌⊠◌}
-use Rattle.exchange.specs.Reading.Laws.{length-bytes_at}
-use Rattle.exchange.specs.Leaf.Laws.{bytes-share}
+use Rattle.exchange.proofs.Reading.Laws.{length-bytes_at}
+use Rattle.exchange.proofs.Leaf.Laws.{bytes-share}
 use Rattle.exchange.specs.Values.{Key, x_of, p_of, F, point_of, multiplier_of}
-use Rattle.exchange.specs.Values.Relation.{Relation}
-use Rattle.exchange.specs.Values.Laws.{length-p_of}
+use Rattle.exchange.proofs.Values.Relation.{Relation}
+use Rattle.exchange.proofs.Values.Laws.{length-p_of}
 use Rattle.exchange.specs.Opening.{Exchange, aux_of}
 use Rattle.exchange.specs.Extractor.{output}
 use Rattle.claims.specs.Words.{leaf_state, aux_state, leaf_share, summed, States, x_sum, q_sum, p_sum, a_sum, b_sum, c_sum}

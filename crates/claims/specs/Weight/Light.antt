@@ -26,13 +26,13 @@ use Rattle.bytefield.specs.Product.{byte_ops}
 use Rattle.bytefield.specs.Byte.{Byte, byte, byte_ring, byte-path}
 use Rattle.tower.specs.Point.{lone}
 use Rattle.tower.specs.Field.{Point, point, lone_of}
-use Rattle.tower.specs.Field.Laws.{point-lone, lone_field}
+use Rattle.tower.proofs.Field.Laws.{point-lone, lone_field}
 use Rattle.polynomial.specs.Bytes.{Bytes, in_field}
 use Rattle.polynomial.specs.Interpolant.{interpolation_points, interpolant_of, vanishing_of}
 use Rattle.polynomial.specs.Interpolant.Laws.{length-ascending, points-distinct, length-interpolant, interpolant-values}
 use Rattle.relation.specs.Key.{weight_of}
 use Rattle.exchange.specs.Reading.{points, value, ◌⊞◌, ◌⊠◌, 𝟎}
-use Rattle.exchange.specs.Reading.Laws.{lone-homomorphism}
+use Rattle.exchange.proofs.Reading.Laws.{lone-homomorphism}
 use Rattle.claims.specs.Weight.{low_bytes}
 
 pub low_bytes-bytes : (x : List ℕ) → Bytes x → low_bytes x ≡ x

@@ -26,7 +26,7 @@ use Rattle.polynomial.specs.Bytes.Laws.{bytes_take}
 use Rattle.relation.specs.Key.{weight_of}
 use Rattle.layout.specs.Layout.{message5_length, work_length, prefix_length, y_length}
 use Rattle.layout.specs.Runs.{message5_place, outputs_length}
-use Rattle.exchange.specs.Sequences.Laws.{bytes_drop}
+use Rattle.exchange.proofs.Sequences.Laws.{bytes_drop}
 use Rattle.exchange.specs.Values.{Key}
 use Rattle.exchange.specs.Opening.{Exchange, exchange}
 use Rattle.exchange.specs.Extractor.{unequal_at as run_unequal}
@@ -34,7 +34,7 @@ use Rattle.runs.specs.Run.{run_prefix}
 use Rattle.runs.specs.Messages.{leaf_at}
 use Rattle.runs.specs.Opening.{Transcript, message1_at, message5_at, exchange_at}
 use Rattle.runs.specs.Extractor.{differs, unequal_at}
-use Rattle.runs.specs.Extractor.Laws.{differs-when, differs-then, none-when, first_then}
+use Rattle.runs.proofs.Extractor.Laws.{differs-when, differs-then, none-when, first_then}
 use Rattle.calls.specs.Extractor.{filled, extraction}
 use Rattle.claims.specs.Words.{Comparable, run_part, States}
 use Rattle.claims.specs.Extraction.Runs.{alike_of}
