@@ -25,7 +25,6 @@ use Rattle.runs.specs.Opening.{Transcript, transcript, exchange_at, verdict}
 use Rattle.calls.specs.Held.{is_some, told}
 use Rattle.calls.specs.Judging.{digest_differs, response_differs, refused_run, opening_conditions}
 use Rattle.calls.proofs.Judging.Laws.{verdict-told}
-use Rattle.calls.specs.Prover.History as prover
 use Rattle.calls.proofs.Prover.Settled.{checks_of, number-of}
 use Rattle.calls.specs.Verifier.{Verifier, settle, held_transcript, begin_checks, begin, points_checks, points, response_checks, response, leaf_checks, leaf, opening_checks, judge, opening}
 use Rattle.calls.specs.Verifier.History.{Made, Call, begin_call, points_call, response_call, leaf_call, opening_call, outcome, made, last_begin, points_since, response_since, leaf_since, opened_since, of_exchange, conditions}
