@@ -1,1 +1,1 @@
-// Theory only: the definitions and laws are in specs/.
+// Theory only: the definitions are in specs/, their laws in proofs/.
