@@ -10,9 +10,10 @@ use Rattle.lists.specs.Computed.{all, below}
 use Rattle.bytefield.specs.Product.{◌⊗◌}
 use Rattle.bytefield.specs.Product.Laws.{⊗-comm, ⊗-assoc, ⊗-zero, one-⊗}
 use Rattle.bytefield.specs.Inverse.{inverse}
-use Rattle.bytefield.specs.Inverse.Laws.{⊗-inverse}
+use Rattle.bytefield.proofs.Laws.Inverse.{⊗-inverse}
 use Rattle.bytefield.specs.Tables.{powers, logs}
-use Rattle.bytefield.specs.Powers.{power, powers-at}
+use Rattle.bytefield.specs.Powers.{power}
+use Rattle.bytefield.proofs.Laws.Powers.{powers-at}
 
 undo : (a b : ℕ) → 0 < a → a < 256 → b < 256 → inverse a ⊗ (a ⊗ b) ≡ b
 undo a b z h k = sym (⊗-assoc (inverse a) a b) ∙ ap (λ (x : ℕ). x ⊗ b) (⊗-comm (inverse a) a ∙ ⊗-inverse a z h) ∙ one-⊗ b k

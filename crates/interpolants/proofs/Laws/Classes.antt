@@ -18,7 +18,8 @@ use Rattle.lists.specs.Xor.Laws.{positive}
 use Rattle.lists.specs.Additive.{additive-zero}
 use Rattle.bytefield.specs.Product.{◌⊗◌}
 use Rattle.bytefield.specs.Product.Laws.{⊗-assoc, ⊗-zero, zero-⊗, ⊗-additive-l, one-⊗, ⊗-lt}
-use Rattle.bytefield.specs.Powers.{power, power-add, power-cycle}
+use Rattle.bytefield.specs.Powers.{power, power-add}
+use Rattle.bytefield.proofs.Laws.Powers.{power-cycle}
 use Rattle.packed.specs.Word.{scaled}
 use Rattle.packed.specs.Word.Laws.{scaled-add, scaled-sum, scaled-scaled}
 use Rattle.packed.specs.Share.{byte_at, share}

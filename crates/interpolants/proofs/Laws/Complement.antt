@@ -21,7 +21,8 @@ use Rattle.algebra.specs.Polynomial.Lengths.{length-product}
 use Rattle.algebra.specs.Polynomial.Quotients.{vanishing-elsewhere}
 use Rattle.algebra.specs.Polynomial.Maps.{map-eval}
 use Rattle.bytefield.specs.Product.{◌⊗◌, byte_ops}
-use Rattle.bytefield.specs.Byte.{byte, byte_ring, byte_field}
+use Rattle.bytefield.specs.Byte.{byte, byte_ring}
+use Rattle.bytefield.proofs.Laws.Field.{byte_field}
 use Rattle.bytefield.specs.Byte.Laws.{byte-zero}
 use Rattle.bytefield.specs.Byte.Laws.{byte-homomorphism}
 use Rattle.polynomial.specs.Bytes.{Bytes, in_field}

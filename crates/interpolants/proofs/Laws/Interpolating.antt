@@ -20,8 +20,9 @@ use Rattle.algebra.specs.Polynomial.Maps.{map-eval}
 use Rattle.bytefield.specs.Product.{◌⊗◌, byte_ops}
 use Rattle.bytefield.specs.Product.Laws.{⊗-lt, one-⊗, bytefield}
 use Rattle.bytefield.specs.Inverse.{inverse}
-use Rattle.bytefield.specs.Inverse.Laws.{⊗-inverse}
-use Rattle.bytefield.specs.Byte.{byte, byte_ring, byte_field}
+use Rattle.bytefield.proofs.Laws.Inverse.{⊗-inverse}
+use Rattle.bytefield.specs.Byte.{byte, byte_ring}
+use Rattle.bytefield.proofs.Laws.Field.{byte_field}
 use Rattle.bytefield.specs.Byte.Laws.{byte-zero}
 use Rattle.bytefield.specs.Byte.Laws.{byte-homomorphism}
 use Rattle.packed.specs.Maps.{get_d-map-in}

@@ -24,7 +24,8 @@ use Rattle.algebra.specs.Each.Laws.{each-to-map}
 use Rattle.algebra.specs.Polynomial.{eval, pow, values}
 use Rattle.bytefield.specs.Product.{◌⊗◌, byte_ops}
 use Rattle.bytefield.specs.Product.Laws.{⊗-comm, bytefield}
-use Rattle.bytefield.specs.Powers.{power, logs_at}
+use Rattle.bytefield.specs.Powers.{power}
+use Rattle.bytefield.proofs.Laws.Powers.{logs_at}
 use Rattle.bytefield.specs.Tables.{logs}
 use Rattle.polynomial.specs.Bytes.{Bytes}
 use Rattle.polynomial.specs.Bytes.Laws.{byte-at, byte-eval, bytes_take}

@@ -14,10 +14,11 @@ use Rattle.lists.specs.Xor.Laws.{⊕-self, zero-⊕, ⊕-apart, ⊕-lt}
 use Rattle.algebra.specs.Polynomial.{eval}
 use Rattle.bytefield.specs.Product.{◌⊗◌, byte_ops}
 use Rattle.bytefield.specs.Product.Laws.{⊗-zero, bytefield}
-use Rattle.bytefield.specs.Powers.{power, power-lt, power-add, power-cycle, logs-small, logs_at}
+use Rattle.bytefield.specs.Powers.{power, power-lt, power-add}
+use Rattle.bytefield.proofs.Laws.Powers.{power-cycle, logs-small, logs_at}
 use Rattle.bytefield.specs.Tables.{logs}
 use Rattle.bytefield.specs.Inverse.{inverse}
-use Rattle.bytefield.specs.Inverse.Laws.{inverse-unique}
+use Rattle.bytefield.proofs.Laws.Inverse.{inverse-unique}
 use Rattle.interpolants.specs.PowerSum.{entry_of, power_sum, PowerSums}
 use Rattle.polynomial.specs.Bytes.{Bytes}
 use Rattle.polynomial.specs.Bytes.Laws.{byte-eval}
