@@ -1,4 +1,4 @@
-//! Links the static library that `rt staticlib capi` writes.
+//! Links the static library that `tools/staticlib capi` writes.
 
 use std::env::var;
 

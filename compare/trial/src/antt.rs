@@ -7,15 +7,12 @@ use reference::strings::SALT_BYTES;
 use std::collections::HashSet;
 
 /// What every module may use: a module and the names taken from it.
-const COMMON: [(&str, &[&str]); 8] = [
-    ("mathlib.Core.Path", &["_≡_", "refl"]),
-    ("mathlib.Core.List", &["List", "[]", "_∷_", "map"]),
-    ("Prim.Native.Nat", &["ℕ"]),
-    ("lib.ListN", &["replicate"]),
-    ("Rattle·answers.specs.Number", &["answer_number"]),
-    ("Rattle·parameters.specs.declared.Parameters", &["Parameters"]),
-    ("Rattle·exchange.specs.Values", &["Key"]),
-    ("Rattle·test_standin.specs.StandIn", &["hex", "stand_in", "weak", "weak_leaves"]),
+const COMMON: [(&str, &[&str]); 5] = [
+    ("Rattle.std.specs.Prelude", &["◌≡◌", "refl", "List", "[]", "◌∷◌", "map", "ℕ", "replicate"]),
+    ("Rattle.answers.specs.Number", &["answer_number"]),
+    ("Rattle.parameters.specs.declared.Parameters", &["Parameters"]),
+    ("Rattle.exchange.specs.Values", &["Key"]),
+    ("Rattle.test_standin.specs.StandIn", &["hex", "stand_in", "weak", "weak_leaves"]),
 ];
 
 /// From so many equal bytes on, a list is written as a repetition.
@@ -168,7 +165,7 @@ impl Module {
         let words: HashSet<&str> = self.body.split(separators).collect();
         let mut uses = String::new();
         for (module, names) in &self.uses {
-            let used: Vec<&str> = names.iter().copied().filter(|name| words.contains(name.trim_matches('_'))).collect();
+            let used: Vec<&str> = names.iter().copied().filter(|name| words.contains(name.trim_matches('◌'))).collect();
             if !used.is_empty() {
                 uses += &format!("use {module}.{{{}}}\n", used.join(", "));
             }

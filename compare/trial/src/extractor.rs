@@ -8,15 +8,15 @@ use reference::sampling::exchanges::{extraction, Exchange};
 use reference::stand_in::{under, Weakness};
 
 const FINDING_USES: [(&str, &[&str]); 3] = [
-    ("Rattle·exchange.specs.Opening", &["Exchange"]),
-    ("Rattle·exchange.specs.Extractor", &["extract"]),
-    ("Rattle·test_standin.specs.Definitions", &["definitions", "finding_lists"]),
+    ("Rattle.exchange.specs.Opening", &["Exchange"]),
+    ("Rattle.exchange.specs.Extractor", &["extract"]),
+    ("Rattle.test_standin.specs.Definitions", &["definitions", "finding_lists"]),
 ];
 
 const CALL_USES: [(&str, &[&str]); 3] = [
-    ("Rattle·runs.specs.Opening", &["Transcript"]),
-    ("Rattle·calls.specs.Extractor", &["Outcome", "refused", "pair", "filled", "extraction"]),
-    ("Rattle·test_calls·specs.specs.Definitions", &["definitions", "gives", "given"]),
+    ("Rattle.runs.specs.Opening", &["Transcript"]),
+    ("Rattle.calls.specs.Extractor", &["Outcome", "refused", "pair", "filled", "extraction"]),
+    ("Rattle.test_calls.specs.Definitions", &["definitions", "gives", "given"]),
 ];
 
 /// The hash of a weakness.
@@ -70,7 +70,7 @@ impl<'a> Pair<'a> {
             Answer::Extracted { axis, .. } => format!("({axis} ∷ []) ∷ {} ∷ []", list(&output)),
         };
         let hash = hash(self.weakness);
-        let [first, second] = [("A", &self.first), ("B", &self.second)].map(|(side, exchange)| {
+        let [first, second] = [("_a", &self.first), ("_b", &self.second)].map(|(side, exchange)| {
             let name = format!("{name}{side}");
             module.run(&name, exchange);
             name
@@ -105,8 +105,8 @@ fn call_fact(module: &mut Module, name: &str, weakness: Weakness, call: &Extract
         Answer::Extracted { run, axis } => format!("filled {run} {axis}"),
     };
     let lent = &call.lent;
-    let first = named(module, &format!("{name}A"), &call.first);
-    let second = named(module, &format!("{name}B"), &call.second);
+    let first = named(module, &format!("{name}_a"), &call.first);
+    let second = named(module, &format!("{name}_b"), &call.second);
     let set = module.argument(&parameters(&call.parameters));
     let key = module.argument(&public_key(&lent.matrix, &lent.y));
     let (lent_work, lent_output) = (module.list(&lent.work), module.list(&call.output));
@@ -121,9 +121,9 @@ fn findings_module(name: &'static str, title: &str, sample: &Sample) -> Module {
     let comment = [
         title,
         "",
-        "p, key       parameters, matrix and y",
-        "..A, ..B     a run of two exchanges, accepted under the hash named in the fact",
-        "..-found     what the extractor finds in them: layer and number; or the axis, then the output",
+        "p, key        parameters, matrix and y",
+        ".._a, .._b    a run of two exchanges, accepted under the hash named in the fact",
+        "..-found      what the extractor finds in them: layer and number; or the axis, then the output",
     ];
     let mut module = Module::new(name, &comment, &FINDING_USES);
     module.key(&sample.key);
@@ -181,7 +181,7 @@ pub fn calls(sample: &Sample) -> Module {
         "The extractor's call of two runs.",
         "",
         "p, key, work, out     parameters, matrix and y, work area and output as lent",
-        "..A, ..B              the messages of two exchanges",
+        ".._a, .._b            the messages of two exchanges",
         "honest, ..            the calls, with all that they are lent",
         "..-gives              what the call answers, and output and work area after it",
     ];
@@ -229,13 +229,13 @@ pub fn points(sample: &Sample) -> Module {
     let comment = [
         "The extractor's call of two runs where points of a run are equal, or alike and not equal, with a second fault.",
         "",
-        "p, key, work, out     parameters, matrix and y, work area and output as lent",
-        "..A, ..B              the messages of two exchanges",
-        "ends..                points 0 and 2 of run 1 are equal in both, and the work area is short, a leaf is n, or the leaves",
-        "                      are the same; of the first alone: messages 2 differ",
+        "p, key, work, out       parameters, matrix and y, work area and output as lent",
+        ".._a, .._b              the messages of two exchanges",
+        "ends..                  points 0 and 2 of run 1 are equal in both, and the work area is short, a leaf is n, or the leaves",
+        "                        are the same; of the first alone: messages 2 differ",
         "neighbours_of_second    points 0 and 1 of run 0 are equal in the second alone",
-        "alike_beyond           points apart in one byte, runs and multipliers alike, messages 2 differ, and a leaf is n",
-        "..-gives              what the call answers, and output and work area after it",
+        "alike_beyond            points apart in one byte, runs and multipliers alike, messages 2 differ, and a leaf is n",
+        "..-gives                what the call answers, and output and work area after it",
     ];
     let mut module = Module::new("ExtractorPoints", &comment, &CALL_USES);
     let honest = Pair::new(Weakness::Nothing, sample, [&[0, 0], &[0, 1]], 0, [None; 2]).call();

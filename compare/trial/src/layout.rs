@@ -9,14 +9,14 @@ use reference::tree::sibling_nodes;
 
 const USES: [(&str, &[&str]); 6] = [
     (
-        "Rattle·layout.specs.Layout",
+        "Rattle.layout.specs.Layout",
         &["levels", "coordinate", "message2_length", "message5_length", "work_length", "output_length"],
     ),
-    ("Rattle·exchange.specs.Tree", &["siblings"]),
-    ("Rattle·exchange.specs.Opening", &["Exchange"]),
-    ("Rattle·exchange.specs.Extractor", &["compared", "axis"]),
-    ("Rattle·test_standin.specs.Definitions", &["definitions"]),
-    ("Rattle·test_exchange·specs.specs.Definitions", &["exchange_lengths"]),
+    ("Rattle.exchange.specs.Tree", &["siblings"]),
+    ("Rattle.exchange.specs.Opening", &["Exchange"]),
+    ("Rattle.exchange.specs.Extractor", &["compared", "axis"]),
+    ("Rattle.test_standin.specs.Definitions", &["definitions"]),
+    ("Rattle.test_exchange.specs.Definitions", &["exchange_lengths"]),
 ];
 
 /// A list of terms.
@@ -93,7 +93,7 @@ fn cube_facts(module: &mut Module, set: &Parameters) {
     let coordinates = terms(axes.clone().map(|axis| format!("coordinate cube {axis} i")));
     let expected = rows(leaves().map(|leaf| axes.clone().map(|axis| coordinate(leaf, axis)).collect()));
     module.fact("coordinates-are", &format!("map (λ i. {coordinates}) leaf_numbers"), &expected);
-    let nodes = "map (λ s. s .0) (siblings (λ s n. []) [] (levels cube) 1 [] i)";
+    let nodes = "map (λ s. s.0) (siblings (λ s n. []) [] (levels cube) 1 [] i)";
     let expected = rows(leaves().map(|leaf| sibling_nodes(set.axes, leaf)));
     module.fact("siblings-are", &format!("map (λ i. {nodes}) leaf_numbers"), &expected);
 }
@@ -102,14 +102,14 @@ fn extractor_facts(module: &mut Module, set: &Parameters) {
     let hiding = "record { prefix = []; h = []; message2 = []; message3 = []; leaf = i; message5 = [] }";
     module.function("hiding", "ℕ → Exchange", "i", hiding);
     let expected = rows(compared(set, [2, 5]).into_iter());
-    let computed = "map (λ n. n .0 ∷ n .1 ∷ []) (compared cube (hiding 2) (hiding 5))";
+    let computed = "map (λ n. n.0 ∷ n.1 ∷ []) (compared cube (hiding 2) (hiding 5))";
     module.fact("compared-are", computed, &expected);
     let pairs: Vec<[usize; 2]> =
         (0..set.leaves()).flat_map(|first| (first + 1..set.leaves()).map(move |second| [first, second])).collect();
     let written = terms(pairs.iter().map(|[first, second]| format!("({first}, {second})")));
     module.value("pairs", "List (ℕ × ℕ)", &written);
     let axes = pairs.iter().map(|&[first, second]| usize::from(first_differing_axis(first as u8, second as u8)));
-    module.fact("axes-are", "map (λ n. axis cube (hiding (n .0)) (hiding (n .1))) pairs", &numbers(axes));
+    module.fact("axes-are", "map (λ n. axis cube (hiding n.0) (hiding n.1)) pairs", &numbers(axes));
 }
 
 /// The module of these facts: lengths at the shipped set, all else at D 3.
@@ -117,7 +117,7 @@ pub fn module() -> Module {
     let comment = [
         "What needs no hash: lengths at the shipped set, the rest at D 3.",
         "",
-        "shipped, cube, leaf_numbers     the shipped set; a set with D 3, and its leaves",
+        "shipped, cube, leaf_numbers    the shipped set; a set with D 3, and its leaves",
         "hiding i                       an exchange that hides leaf i, its messages empty",
         "pairs                          the pairs of two leaves",
         "lengths-are                    of a run: message 2; message 5 for leaf 0 and n−1; work area; the extractor's output",

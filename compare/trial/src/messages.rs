@@ -6,8 +6,8 @@ use reference::key::KeyPolynomials;
 use reference::sampling::exchanges::{verdict, Exchange};
 
 const USES: [(&str, &[&str]); 2] = [
-    ("Rattle·test_standin.specs.Definitions", &["definitions"]),
-    ("Rattle·test_exchange·specs.specs.Definitions", &["Sample", "judged", "Computed"]),
+    ("Rattle.test_standin.specs.Definitions", &["definitions"]),
+    ("Rattle.test_exchange.specs.Definitions", &["Sample", "judged", "Computed"]),
 ];
 
 /// The equations of `Computed`.

@@ -8,8 +8,8 @@ use reference::prover::Prover;
 use reference::sampling::calls::{Effect, LentBytes, ProverCall, ProverInput};
 
 const USES: [(&str, &[&str]); 2] = [
-    ("Rattle·calls.specs.Prover", &["Prover", "Outcome", "fresh", "begin", "points", "leaf"]),
-    ("Rattle·test_calls·specs.specs.Definitions", &["definitions"]),
+    ("Rattle.calls.specs.Prover", &["Prover", "Outcome", "fresh", "begin", "points", "leaf"]),
+    ("Rattle.test_calls.specs.Definitions", &["definitions"]),
 ];
 
 /// A session, the term for it, and how many calls were made on it so far.
@@ -28,7 +28,7 @@ impl Script<'_> {
         self.made += 1;
         let name = format!("call{}", self.made);
         let term = self.term(call);
-        self.term = format!("({name} .prover)");
+        self.term = format!("{name}.prover");
         self.module.comment(&format!("{name}: {label}"));
         self.module.value(&name, "Outcome", &term);
         (name, effect)
@@ -37,14 +37,14 @@ impl Script<'_> {
     /// Makes a call and states the number alone, which is cheap to compute where output and work area are not.
     fn answer(&mut self, label: &str, call: &ProverCall) {
         let (name, effect) = self.name(label, call);
-        self.module.fact(&format!("{name}-gives"), &format!("{name} .answer"), &effect.number.to_string());
+        self.module.fact(&format!("{name}-gives"), &format!("{name}.answer"), &effect.number.to_string());
     }
 
     /// Makes a call and states what it gives.
     fn make(&mut self, label: &str, call: &ProverCall) {
         let (name, effect) = self.name(label, call);
         let expected = format!("({} ∷ []) ∷ {} ∷ {} ∷ []", effect.number, list(&effect.output), list(&effect.work));
-        let computed = format!("({name} .answer ∷ []) ∷ {name} .out ∷ {name} .work ∷ []");
+        let computed = format!("({name}.answer ∷ []) ∷ {name}.out ∷ {name}.work ∷ []");
         self.module.fact(&format!("{name}-gives"), &computed, &expected);
     }
 
@@ -53,7 +53,7 @@ impl Script<'_> {
         let mut session = self.session.to_bytes();
         session[1] = 1;
         self.session = Prover::from_bytes(&session);
-        let held = |field: &str| format!("call{} .prover .{field}", self.made);
+        let held = |field: &str| format!("call{}.prover.{field}", self.made);
         let set = parameters(&Parameters { m: 1, ..self.sample.key.parameters });
         let fields = ["phase", "runs", "x", "salt", "root", "message2"].map(|field| (field, held(field)));
         let term = record(&[&fields[..1], &[("parameters", set)], &fields[1..]].concat());
@@ -194,7 +194,7 @@ pub fn calls(sample: &Sample) -> Module {
     let comment = [
         "The prover's calls, each made on the session that the call before it left; the first on a fresh one.",
         "",
-        "p, key, x_a, salt, root, m2     parameters, matrix and y, x_A, salt, root and message 2",
+        "p, key, x_a, salt, root, m2    parameters, matrix and y, x_A, salt, root and message 2",
         "work                           a work area, longer than its named length",
         "call1, call2, ..               the calls, with all that they are lent",
         "damaged                        the session held at the end, with another m",
@@ -239,7 +239,7 @@ pub fn points(sample: &Sample) -> Module {
         "The prover's points where points of a run are equal, each call made on the session that the call before it left; the",
         "first on a fresh one.",
         "",
-        "p, key, x_a, salt, root     parameters, matrix and y, x_A, salt and root",
+        "p, key, x_a, salt, root    parameters, matrix and y, x_A, salt and root",
         "ends                       a message 2 in which points 0 and 2 of run 1 are equal",
         "work                       a work area, longer than its named length",
         "call1, call2, ..           the calls, with all that they are lent",

@@ -5,8 +5,8 @@ use crate::sample::Sample;
 use reference::runs::Run;
 
 const USES: [(&str, &[&str]); 2] = [
-    ("Rattle·test_standin.specs.Definitions", &["definitions"]),
-    ("Rattle·test_exchange·specs.specs.Definitions", &["run_lists"]),
+    ("Rattle.test_standin.specs.Definitions", &["definitions"]),
+    ("Rattle.test_exchange.specs.Definitions", &["run_lists"]),
 ];
 
 /// The first runs and the last one that an exchange may have.

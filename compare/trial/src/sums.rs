@@ -12,9 +12,9 @@ use reference::sampling::simulated::leaf_first;
 use reference::sampling::Random;
 
 const USES: [(&str, &[&str]); 3] = [
-    ("Rattle·exchange.specs.Parties", &["sums_of"]),
-    ("Rattle·exchange.specs.Opening", &["Exchange", "announced", "verdict"]),
-    ("Rattle·test_standin.specs.Definitions", &["definitions"]),
+    ("Rattle.exchange.specs.Parties", &["sums_of"]),
+    ("Rattle.exchange.specs.Opening", &["Exchange", "announced", "verdict"]),
+    ("Rattle.test_standin.specs.Definitions", &["definitions"]),
 ];
 
 /// The module of a key: an opening that hides a leaf, and one that hides leaf n−1.
@@ -23,10 +23,10 @@ pub fn module(name: &'static str, title: &str, sample: &Sample, seed: u64, leaf:
     let comment = [
         title,
         "",
-        "p, key                   parameters, matrix and y",
+        "p, key                      parameters, matrix and y",
         "made_up, made_up_last       accepted runs that no prover made: message 5 is random; made_up_last hides leaf n−1",
-        "..-judged                their verdicts",
-        "..-sums                  the sums of α, β and v on each axis",
+        "..-judged                   their verdicts",
+        "..-sums                     the sums of α, β and v on each axis",
     ];
     let mut module = Module::new(name, &comment, &USES);
     module.key(&sample.key);

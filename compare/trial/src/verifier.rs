@@ -10,10 +10,10 @@ use reference::verifier::Verifier;
 
 const USES: [(&str, &[&str]); 2] = [
     (
-        "Rattle·calls.specs.Verifier",
+        "Rattle.calls.specs.Verifier",
         &["Verifier", "Outcome", "Judged", "fresh", "begin", "points", "response", "leaf", "opening"],
     ),
-    ("Rattle·test_calls·specs.specs.Definitions", &["definitions"]),
+    ("Rattle.test_calls.specs.Definitions", &["definitions"]),
 ];
 
 /// A session, the term for it, and how many calls were made on it so far.
@@ -31,7 +31,7 @@ impl Script {
         let place = session.len() - GREATEST_RUNS;
         session[place + 1] = set.leaves() as u8;
         self.session = Verifier::from_bytes(&session);
-        let held = |field| (field, format!("call{} .verifier .{field}", self.made));
+        let held = |field| (field, format!("call{}.verifier.{field}", self.made));
         let fields = ["phase", "parameters", "runs", "message1", "message2", "message3"].map(held);
         let term = record(&[&fields[..], &[("leaves", list(&session[place..]))]].concat());
         self.module.comment("the session with leaf n in run 1, which no call made");
@@ -62,7 +62,7 @@ impl Script {
         self.made += 1;
         let name = format!("call{}", self.made);
         let term = self.term(call);
-        self.term = format!("({name} .verifier)");
+        self.term = format!("{name}.verifier");
         let kind = if matches!(call, VerifierCall::Opening { .. }) { "Judged" } else { "Outcome" };
         self.module.comment(&format!("{name}: {label}"));
         self.module.value(&name, kind, &term);
@@ -70,10 +70,10 @@ impl Script {
         let fact = format!("{name}-gives");
         if kind == "Judged" {
             let expected = format!("({number} ∷ []) ∷ {} ∷ []", list(&effect.work));
-            let computed = format!("({name} .answer ∷ []) ∷ {name} .work ∷ []");
+            let computed = format!("({name}.answer ∷ []) ∷ {name}.work ∷ []");
             self.module.fact(&fact, &computed, &expected);
         } else {
-            self.module.fact(&fact, &format!("{name} .answer"), &number.to_string());
+            self.module.fact(&fact, &format!("{name}.answer"), &number.to_string());
         }
     }
 

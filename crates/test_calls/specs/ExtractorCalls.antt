@@ -1,7 +1,7 @@
 -- The extractor's call of two runs.
 --
 -- p, key, work, out     parameters, matrix and y, work area and output as lent
--- ..A, ..B              the messages of two exchanges
+-- .._a, .._b            the messages of two exchanges
 -- honest, ..            the calls, with all that they are lent
 -- ..-gives              what the call answers, and output and work area after it
 use Rattle.std.specs.Prelude.{◌≡◌, refl, List, ℕ, replicate}

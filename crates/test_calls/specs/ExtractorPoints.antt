@@ -1,12 +1,12 @@
 -- The extractor's call of two runs where points of a run are equal, or alike and not equal, with a second fault.
 --
--- p, key, work, out     parameters, matrix and y, work area and output as lent
--- ..A, ..B              the messages of two exchanges
--- ends..                points 0 and 2 of run 1 are equal in both, and the work area is short, a leaf is n, or the leaves
---                       are the same; of the first alone: messages 2 differ
+-- p, key, work, out       parameters, matrix and y, work area and output as lent
+-- .._a, .._b              the messages of two exchanges
+-- ends..                  points 0 and 2 of run 1 are equal in both, and the work area is short, a leaf is n, or the leaves
+--                         are the same; of the first alone: messages 2 differ
 -- neighbours_of_second    points 0 and 1 of run 0 are equal in the second alone
--- alike_beyond           points apart in one byte, runs and multipliers alike, messages 2 differ, and a leaf is n
--- ..-gives              what the call answers, and output and work area after it
+-- alike_beyond            points apart in one byte, runs and multipliers alike, messages 2 differ, and a leaf is n
+-- ..-gives                what the call answers, and output and work area after it
 use Rattle.std.specs.Prelude.{◌≡◌, refl, List, ℕ, replicate}
 use Rattle.parameters.specs.declared.Parameters.{Parameters}
 use Rattle.exchange.specs.Values.{Key}

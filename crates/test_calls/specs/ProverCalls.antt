@@ -1,6 +1,6 @@
 -- The prover's calls, each made on the session that the call before it left; the first on a fresh one.
 --
--- p, key, x_a, salt, root, m2     parameters, matrix and y, x_A, salt, root and message 2
+-- p, key, x_a, salt, root, m2    parameters, matrix and y, x_A, salt, root and message 2
 -- work                           a work area, longer than its named length
 -- call1, call2, ..               the calls, with all that they are lent
 -- damaged                        the session held at the end, with another m

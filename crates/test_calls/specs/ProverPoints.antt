@@ -1,7 +1,7 @@
 -- The prover's points where points of a run are equal, each call made on the session that the call before it left; the
 -- first on a fresh one.
 --
--- p, key, x_a, salt, root     parameters, matrix and y, x_A, salt and root
+-- p, key, x_a, salt, root    parameters, matrix and y, x_A, salt and root
 -- ends                       a message 2 in which points 0 and 2 of run 1 are equal
 -- work                       a work area, longer than its named length
 -- call1, call2, ..           the calls, with all that they are lent

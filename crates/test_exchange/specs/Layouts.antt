@@ -1,6 +1,6 @@
 -- What needs no hash: lengths at the shipped set, the rest at D 3.
 --
--- shipped, cube, leaf_numbers     the shipped set; a set with D 3, and its leaves
+-- shipped, cube, leaf_numbers    the shipped set; a set with D 3, and its leaves
 -- hiding i                       an exchange that hides leaf i, its messages empty
 -- pairs                          the pairs of two leaves
 -- lengths-are                    of a run: message 2; message 5 for leaf 0 and n−1; work area; the extractor's output

@@ -1,9 +1,9 @@
 -- m 2, k 1, w 1, D 2, t 1.
 --
--- p, key                   parameters, matrix and y
+-- p, key                      parameters, matrix and y
 -- made_up, made_up_last       accepted runs that no prover made: message 5 is random; made_up_last hides leaf n−1
--- ..-judged                their verdicts
--- ..-sums                  the sums of α, β and v on each axis
+-- ..-judged                   their verdicts
+-- ..-sums                     the sums of α, β and v on each axis
 use Rattle.std.specs.Prelude.{◌≡◌, refl, [], ◌∷◌, map}
 use Rattle.answers.specs.Number.{answer_number}
 use Rattle.parameters.specs.declared.Parameters.{Parameters}

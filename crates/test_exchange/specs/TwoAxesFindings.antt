@@ -1,8 +1,8 @@
 -- The extractor at D 2.
 --
--- p, key       parameters, matrix and y
--- ..A, ..B     a run of two exchanges, accepted under the hash named in the fact
--- ..-found     what the extractor finds in them: layer and number; or the axis, then the output
+-- p, key        parameters, matrix and y
+-- .._a, .._b    a run of two exchanges, accepted under the hash named in the fact
+-- ..-found      what the extractor finds in them: layer and number; or the axis, then the output
 use Rattle.std.specs.Prelude.{◌≡◌, refl, [], ◌∷◌}
 use Rattle.parameters.specs.declared.Parameters.{Parameters}
 use Rattle.exchange.specs.Values.{Key}

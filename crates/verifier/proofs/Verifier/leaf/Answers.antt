@@ -15,7 +15,7 @@ answers c =
 -- a field that is an array has its length
 leaves-length : (c : Start) → length c.args.self.leaves ≡ 32
 leaves-length c =
-    sym (length-map c.args.self.leaves _) ∙ c.well_formed.0.1.1.1.1.1.1.0.1.0.1
+    c.well_formed.0.1.1.1.1.1.1.0.1.0.1
 
 pub returns-in_default : goal.returns-in_default
 unfolding leaf

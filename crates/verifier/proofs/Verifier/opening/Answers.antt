@@ -21,11 +21,11 @@ answers c =
 -- a field that is an array has its length
 messages-length : (c : Start) → length c.args.self.messages ≡ 4_128
 messages-length c =
-    sym (length-map c.args.self.messages _) ∙ c.well_formed.0.1.1.1.1.1.0.1.0.1
+    c.well_formed.0.1.1.1.1.1.0.1.0.1
 
 leaves-length : (c : Start) → length c.args.self.leaves ≡ 32
 leaves-length c =
-    sym (length-map c.args.self.leaves _) ∙ c.well_formed.0.1.1.1.1.1.1.0.1.0.1
+    c.well_formed.0.1.1.1.1.1.1.0.1.0.1
 
 passed : (c : After-messages-1) → (let a = c.args in Opened (held a.self) (length a.message5.now) (length a.matrix.now)
     (length a.y.now) (length a.work.now))
@@ -36,7 +36,7 @@ passed c =
 
 chosen : (c : After-messages-1) → (let s = c.args.self in length (take s.runs s.leaves) ≡ s.runs)
 chosen c =
-    let leaves-length : length c.args.self.leaves ≡ 32 = sym (length-map c.args.self.leaves _) ∙ c.well_formed.0.1.1.1.1.1.1.0.1.0.1 in
+    let leaves-length : length c.args.self.leaves ≡ 32 = c.well_formed.0.1.1.1.1.1.1.0.1.0.1 in
     let answers : (let a = c.args in c.opening_checks-checked.result ≡ opening_checks SHAKE256 (held a.self) a.message5.now
     (key_of a.matrix.now a.y.now) a.work.now) = c.opening_checks-checked.ensures c.args.self.messages in
     let passed : (let a = c.args in Opened (held a.self) (length a.message5.now) (length a.matrix.now)
@@ -72,4 +72,4 @@ returns c = let a = c.args in
     (c.judge-answer.ensures.value
     ∙ ap (λ (n : ℕ). verdict SHAKE256 s.parameters n (transcript_in s.messages (take s.runs s.leaves) a.message5.now) key) (chosen (goal.at.returns c).After-messages-1)
     ∙ sym (held-verdict s.parameters s.phase s.runs s.messages s.leaves a.message5.now key))
-    refl c.judge-answer.ensures.work-after c.in-Done.is
+    refl c.judge-answer.ensures.work_after c.in-Done.is

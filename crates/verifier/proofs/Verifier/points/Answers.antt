@@ -16,7 +16,7 @@ answers c =
 -- a field that is an array has its length
 messages-length : (c : Start) → length c.args.self.messages ≡ 4_128
 messages-length c =
-    sym (length-map c.args.self.messages _) ∙ c.well_formed.0.1.1.1.1.1.0.1.0.1
+    c.well_formed.0.1.1.1.1.1.0.1.0.1
 
 pub returns-in_default : goal.returns-in_default
 unfolding points

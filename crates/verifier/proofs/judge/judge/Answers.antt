@@ -21,14 +21,14 @@ few_bytes c =
     let inside : c.loop-e.place + c.message5_length-size.result ≤ length c.args.message5.now = part-inside _ _ _ _ _ _ _ c.requires _ _ _ _ (below) c.loop-e.invariant.is-place c.wide-leaf.ensures c.message5_length-size.ensures in
     omega (arith, inside, c.requires.sized-message5, messages5-most c.args.p c.requires.within c.args.leaves.now, c.requires.few)
 
-area-fits : (c : At-loop-e) → (search).work-length.result ≤ length c.loop-e.work
+area-fits : (c : At-loop-e) → c.work_length-area.result ≤ length c.loop-e.work
 area-fits c =
-    omega (arith, (search).work-length.ensures, c.requires.lent.work-fits, c.loop-e.invariant.same_length)
+    omega (arith, c.work_length-area.ensures, c.requires.lent.work-fits, c.loop-e.invariant.same_length)
 
-kept : (c : After-judge_run-answer) → length (c.judge_run-answer.new.work ++ drop (search).work-length.result c.loop-e.work)
+kept : (c : After-judge_run-answer) → length (c.judge_run-answer.new.work ++ drop c.work_length-area.result c.loop-e.work)
     ≡ length c.args.work.now
 kept c =
-    length_front c.loop-e.work (c.judge_run-answer.new.work) (search).work-length.result c.judge_run-answer.auto.work ∙ c.loop-e.invariant.same_length
+    length_front c.loop-e.work (c.judge_run-answer.new.work) c.work_length-area.result c.judge_run-answer.auto.work ∙ c.loop-e.invariant.same_length
 
 pub loop-e-init : goal.loop-e-init
 loop-e-init c = turn-first _ _ _ _ _ _ _ c.requires
@@ -54,7 +54,7 @@ judge_run-answer-requires c = record {
   sized-message5 = length-lent _ _ _ (inside (goal.at.judge_run-answer-requires c).After-message5_length-size) ∙ c.message5_length-size.ensures;
   sized-matrix = c.requires.lent.matrix-is;
   sized-y = c.requires.lent.y-is;
-  sized-work = length-take-le _ _ (area-fits (goal.at.judge_run-answer-requires c).At-loop-e) ∙ (search).work-length.ensures;
+  sized-work = length-take-le _ _ (area-fits (goal.at.judge_run-answer-requires c).At-loop-e) ∙ c.work_length-area.ensures;
 }
 
 pub shape_of-work-in_default : goal.shape_of-work-in_default
@@ -63,9 +63,9 @@ shape_of-work-in_default c = kept (goal.at.shape_of-work-in_default c).After-jud
 pub returns-in_default : goal.returns-in_default
 returns-in_default c = record {
   value = turn-refused _ _ _ _ _ _ _ c.requires _ _ _ _ _ (c.judge_run-answer.new.work) _ c.loop-e.invariant (below (goal.at.returns-in_default c).After-message5_length-size) c.wide-leaf.ensures c.message5_length-size.ensures
-      (search).work-length.ensures c.judge_run-answer.ensures.work-after _ c.in_default.field-0 c.judge_run-answer.ensures.value c.in_default.is;
+      c.work_length-area.ensures c.judge_run-answer.ensures.work_after _ c.in_default.field-0 c.judge_run-answer.ensures.value c.in_default.is;
   work_after = work-after _ _ _ _ _ _ _ c.requires _ _ _ _ _ (c.judge_run-answer.new.work) _ c.loop-e.invariant (below (goal.at.returns-in_default c).After-message5_length-size) c.wide-leaf.ensures c.message5_length-size.ensures
-      (search).work-length.ensures c.judge_run-answer.ensures.work-after;
+      c.work_length-area.ensures c.judge_run-answer.ensures.work_after;
 }
 
 pub overflow_add-place-in-loop-e : goal.overflow_add-place-in-loop-e
@@ -79,10 +79,12 @@ loop-e-smaller c = omega (arith, below (goal.at.loop-e-smaller c).After-message5
 
 pub loop-e-preserved : goal.loop-e-preserved
 loop-e-preserved c = turn-next _ _ _ _ _ _ _ c.requires _ _ _ _ _ (c.judge_run-answer.new.work) _ c.loop-e.invariant (below (goal.at.loop-e-preserved c).After-message5_length-size) c.wide-leaf.ensures c.message5_length-size.ensures
-    (search).work-length.ensures c.judge_run-answer.ensures.work-after _ c.judge_run-answer.ensures.value c.in-Done.is (kept (goal.at.loop-e-preserved c).After-judge_run-answer)
+    c.work_length-area.ensures c.judge_run-answer.ensures.work_after _ c.judge_run-answer.ensures.value c.in-Done.is (kept (goal.at.loop-e-preserved c).After-judge_run-answer)
 
 pub shape_of-work : goal.shape_of-work
 shape_of-work c = c.loop-e.invariant.same_length
 
 pub returns : goal.returns
-returns c = turn-done _ _ _ _ _ _ _ c.requires _ _ _ c.loop-e.invariant (omega (arith, c.loop-e-test.false))
+returns c =
+    let done = turn-done _ _ _ _ _ _ _ c.requires _ _ _ c.loop-e.invariant (omega (arith, c.loop-e-test.false)) in
+    record { value = done.0; work_after = done.1 }

@@ -1,0 +1,7 @@
+-- Each number is its byte (`parameters-read`).
+use Rattle.std.proofs.Common.{◌∙◌}
+use Rattle.stored.specs.Parameters.{parameters-read}
+use Rattle.stored.proofs.parts.read_parameters.Goals as goal
+
+pub returns : goal.returns
+returns c = rw (c.wide.ensures, c.wide-2.ensures, c.wide-3.ensures, c.wide-4.ensures, c.wide-5.ensures) at c.parameters_of.ensures ∙ parameters-read _
