@@ -1,5 +1,5 @@
 -- Where the checks pass, the slices hold what the parameters say, and the run count is within its limits.
-use Rattle.std.proofs.Common.{arith, length, length-take-le, sym, ℕ, ◌∙◌, ◌≡◌, ◌≤◌}
+use Rattle.std.proofs.Common.{arith, length-take-le, sym, ℕ, ◌∙◌, ◌≡◌}
 use Rattle.answers.specs.declared.Answer.{Answer}
 use Rattle.answers.specs.declared.Answer.TheVariants.{Done}
 use Rattle.layout.specs.Runs.Laws.{RunsWithin}
