@@ -1,4 +1,6 @@
 // What a call answers, with document 01's numbers ('Numbers caused by the input', 'Numbers caused by the state').
+#![tactic(auto)]
+
 ghost use Rattle.std.specs.Prelude.{◌≡◌};
 ghost use Rattle.answers.specs.Number.{refusal_number, answer_number};
 

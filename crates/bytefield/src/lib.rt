@@ -1,4 +1,6 @@
 // GF(256): bytes modulo z^8 + z^4 + z^3 + z + 1, as FIPS 197, section 4.2, has them. Products go by logarithms to base 03.
+#![tactic(auto)]
+
 ghost use Rattle.std.specs.Prelude.{◌≡◌, ◌<◌};
 ghost use Rattle.lists.specs.Xor.{◌⊕◌};
 ghost use Rattle.bytefield.specs.Product.{◌⊗◌};

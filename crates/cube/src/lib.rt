@@ -1,1 +1,3 @@
+#![tactic(auto)]
+
 // Theory only: the definitions and laws are in specs/.

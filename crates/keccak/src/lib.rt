@@ -1,4 +1,6 @@
 // The permutation KECCAK-f[1600] of FIPS 202 on 25 lanes: lane (x, y) stands at x + 5 * y.
+#![tactic(auto)]
+
 mod steps;
 mod tables;
 

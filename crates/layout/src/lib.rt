@@ -1,4 +1,6 @@
 // How many leaves there are, and every length, offset and maximum (document 01, Leaves, Messages and Sessions).
+#![tactic(auto)]
+
 pub mod arrays;
 pub mod runs;
 

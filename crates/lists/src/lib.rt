@@ -1,4 +1,6 @@
 // Work on lent slices of bytes, each function equal to its definition on lists.
+#![tactic(auto)]
+
 ghost use Rattle.std.specs.Prelude.{◌≡◌, ◌+◌, ◌≤◌, length};
 ghost use Rattle.lists.specs.Part.{put_at};
 ghost use Rattle.lists.specs.Sum.{xor_list, xor_at};

@@ -1,4 +1,6 @@
 // The parameters of an exchange and their limits (document 01, 'Parameters').
+#![tactic(auto)]
+
 pub mod set;
 
 ghost use Rattle.std.specs.Prelude.{◌≡◌};

@@ -1,4 +1,6 @@
 // The phases of a prover's session.
+#![tactic(auto)]
+
 pub mod after;
 pub mod bytes;
 pub mod due;

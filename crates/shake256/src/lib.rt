@@ -1,4 +1,6 @@
 // SHAKE256 of FIPS 202: a sponge by value that absorbs and squeezes slices piece by piece, and the whole in one call.
+#![tactic(auto)]
+
 mod bytes;
 
 ghost use Rattle.std.specs.Prelude.{◌≡◌, ◌<◌, length};

@@ -1,4 +1,6 @@
 // The phases of a verifier's session.
+#![tactic(auto)]
+
 pub mod bytes;
 
 ghost use Rattle.std.specs.Prelude.{◌≡◌};

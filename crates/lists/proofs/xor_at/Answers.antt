@@ -1,5 +1,5 @@
 -- What the lent middle part leaves, `lent_back`, is the write of the sum, which `xor_at` is by definition.
-use Rattle.std.proofs.Common.{ap, arith, length, sym, ℕ, ◌+◌, ◌-◌, ◌∙◌, ◌≡◌}
+use Rattle.std.proofs.Common.{ap, arith, length, ℕ, ◌+◌, ◌-◌, ◌∙◌, ◌≡◌}
 use Rattle.lists.specs.Part.{part, put_at}
 use Rattle.lists.specs.Part.Laws.{lent_back}
 use Rattle.lists.specs.Sum.{xor_list, xor_at}
