@@ -22,14 +22,14 @@ use Rattle.std.proofs.Math.ListN.{drop}
 use Rattle.lists.specs.Part.{part}
 use Rattle.lists.specs.Sum.{xor_list}
 use Rattle.tower.specs.Field.{Point, bytes_of}
-use Rattle.tower.specs.Field.Laws.{bytes_of-point}
+use Rattle.tower.proofs.Field.Laws.{bytes_of-point}
 use Rattle.parameters.specs.declared.Parameters.{Parameters}
 use Rattle.layout.specs.Layout.{side, others, sum_count, sum_index, leaves, digit, factor_length, values_length, at_v}
 use Rattle.layout.specs.Layout.Laws.{digit_lt, side-others, index-lt}
 use Rattle.exchange.specs.Sequences.{joined}
-use Rattle.exchange.specs.Sequences.Laws.{joined-ext}
+use Rattle.exchange.proofs.Sequences.Laws.{joined-ext}
 use Rattle.exchange.specs.Reading.{points, bytes_at, point_at, encode, ◌⊞◌}
-use Rattle.exchange.specs.Reading.Laws.{bytes_at-part, encode-ext}
+use Rattle.exchange.proofs.Reading.Laws.{bytes_at-part, encode-ext}
 use Rattle.exchange.specs.Values.{Key, alpha, beta}
 use Rattle.values.specs.Announced.{announced_of}
 use Rattle.values.specs.Filled.{filled-block}

@@ -17,9 +17,9 @@ use Rattle.tower.specs.Field.{Point, bytes_of}
 use Rattle.parameters.specs.declared.Parameters.{Parameters}
 use Rattle.exchange.specs.Sequences.{joined}
 use Rattle.exchange.specs.Reading.{points, encode, ◌⊞◌}
-use Rattle.exchange.specs.Reading.Laws.{length-encode, encode-ext}
+use Rattle.exchange.proofs.Reading.Laws.{length-encode, encode-ext}
 use Rattle.exchange.specs.Values.{Key, alpha, beta, part_v}
-use Rattle.exchange.specs.Values.Laws.{alpha-xor, alpha-first, beta-xor, beta-first, part_v-xor, part_v-first}
+use Rattle.exchange.proofs.Values.Laws.{alpha-xor, alpha-first, beta-xor, beta-first, part_v-xor, part_v-first}
 
 -- ---- bytes
 

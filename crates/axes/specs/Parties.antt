@@ -22,7 +22,7 @@ use Rattle.parameters.specs.declared.Parameters.{Parameters}
 use Rattle.layout.specs.Layout.{side, others}
 use Rattle.layout.specs.Layout.Laws.{side-others}
 use Rattle.exchange.specs.Reading.{points, encode, ◌⊞◌, 𝟎}
-use Rattle.exchange.specs.Reading.Laws.{encode-ext}
+use Rattle.exchange.proofs.Reading.Laws.{encode-ext}
 use Rattle.exchange.specs.Values.{Key, alpha, beta, part_v}
 use Rattle.exchange.specs.Parties.{sums, announced_bytes}
 use Rattle.exchange.specs.Announcing.{Hidden, party_alpha, party_beta, formula_v, party_v, announced_by}

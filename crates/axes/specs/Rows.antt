@@ -27,9 +27,9 @@ use Rattle.parameters.specs.declared.Parameters.{Parameters}
 use Rattle.layout.specs.Layout.{side, others, sum_count, blocks_length, sum_index, values_length, row_length, axis_length, at_v}
 use Rattle.layout.specs.Layout.Laws.{side-others, index-lt}
 use Rattle.exchange.specs.Sequences.{joined}
-use Rattle.exchange.specs.Sequences.Laws.{joined-ext, length-joined, part-joined}
+use Rattle.exchange.proofs.Sequences.Laws.{joined-ext, length-joined, part-joined}
 use Rattle.exchange.specs.Reading.{encode}
-use Rattle.exchange.specs.Reading.Laws.{length-encode}
+use Rattle.exchange.proofs.Reading.Laws.{length-encode}
 use Rattle.coefficients.specs.Shares.{share_of}
 use Rattle.values.specs.Shares.{block_of}
 use Rattle.points.specs.Blocks.{within-blocks}

@@ -2,7 +2,7 @@
 --
 --   Byte                        a number below 256
 --   byte n                      the low byte of a number
---   byte_ring, byte_field         the ring and the field of bytes, with ⊕, ⊗ and inverse
+--   byte_ring                   the ring of bytes, with ⊕ and ⊗; byte_inverse: the inverse
 use Rattle.std.specs.Prelude.{◌≡◌, ℕ, ◌%◌, ◌<◌}
 use Rattle.std.proofs.Common.{ap, ◌∙◌, mod-lt, arith, lit<}
 use mathlib.Core.HLevel.{Σ_prop_path}
@@ -15,7 +15,7 @@ use Rattle.lists.specs.Xor.Laws.{⊕-assoc, ⊕-comm, ⊕-zero, ⊕-self, ⊕-lt
 use Rattle.bytefield.specs.Product.{◌⊗◌}
 use Rattle.bytefield.specs.Product.Laws.{⊗-comm, ⊗-assoc, ⊗-lt, ⊗-add, one-⊗}
 use Rattle.bytefield.specs.Inverse.{inverse}
-use Rattle.bytefield.specs.Inverse.Laws.{inverse-lt, ⊗-inverse}
+use Rattle.bytefield.specs.Inverse.Laws.{inverse-lt}
 pub mod Laws
 
 abbrev pub Byte : Type 0
@@ -44,13 +44,9 @@ byte_ring = record {
   mul-add = λ x y z. byte-path (⊗-add x.0 y.0 z.0);
 }
 
--- ---- the field
+-- ---- the inverse
 unfoldable pub byte_inverse : Byte → Byte
 byte_inverse a = (inverse a.0, inverse-lt a.0)
-
-pub byte-mul-inverse : (a : Byte) → (a ≡ byte_ring.zero → ⊥) → byte_ring.mul a (byte_inverse a) ≡ byte_ring.one
-unfolding byte_ring byte_inverse
-byte-mul-inverse a n = byte-path (⊗-inverse a.0 (positive a.0 (λ z. n (byte-path z))) a.1)
 
 pub byte-one≢zero : byte_ring.one ≡ byte_ring.zero → ⊥
 unfolding byte_ring
@@ -63,12 +59,3 @@ byte-zero? a = go (ℕ_discrete a.0 0)
     go : Dec (a.0 ≡ 0) → Dec (a ≡ byte_ring.zero)
     go (yes p) = yes (byte-path p)
     go (no p) = no (λ e. p (ap (λ (x : Byte). x.0) e))
-
-abbrev pub byte_field : Field2 Byte
-byte_field = record {
-  base = byte_ring;
-  one≢zero = λ e. byte-one≢zero e;
-  zero? = byte-zero?;
-  inv = byte_inverse;
-  mul-inv = byte-mul-inverse;
-}

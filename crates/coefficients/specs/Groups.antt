@@ -19,14 +19,14 @@ use Rattle.lists.specs.Part.Laws.{part-part, part-fits, tail-back}
 use Rattle.parameters.specs.declared.Parameters.{Parameters}
 use Rattle.polynomial.specs.Interpolant.{interpolant_of, vanishing_of}
 use Rattle.exchange.specs.Sequences.{joined}
-use Rattle.exchange.specs.Sequences.Laws.{joined-ext, part-joined}
+use Rattle.exchange.proofs.Sequences.Laws.{joined-ext, part-joined}
 use Rattle.layout.specs.Layout.{share_length}
 use Rattle.exchange.specs.Values.{Key, x_of, s_of, F}
 use Rattle.packed.specs.Share.{share}
 use Rattle.packed.specs.Share.Laws.{length-share}
 use Rattle.interpolants.specs.Words.{words_of}
-use Rattle.interpolants.specs.Words.Laws.{share-words}
-use Rattle.interpolants.specs.Shares.{share-end}
+use Rattle.interpolants.proofs.Laws.Words.{share-words}
+use Rattle.interpolants.proofs.Laws.Shares.{share-end}
 use Rattle.coefficients.specs.Shares.{share_of}
 
 -- ---- parts of one size

@@ -12,7 +12,7 @@ use Rattle.relation.specs.Key.{rows}
 use Rattle.layout.specs.Layout.{at_x, y_length}
 use Rattle.points.specs.Written.{halves-room, halves-made}
 use Rattle.exchange.specs.Reading.{bytes_at}
-use Rattle.exchange.specs.Reading.Laws.{bytes_at-all}
+use Rattle.exchange.proofs.Reading.Laws.{bytes_at-all}
 use Rattle.exchange.specs.Values.{key_of, x_a_of, image_of, x_of}
 use Rattle.packed.specs.Share.{share}
 use Rattle.packed.specs.Share.Laws.{share-append, share-sum}

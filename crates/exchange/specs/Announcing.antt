@@ -14,7 +14,6 @@ use Rattle.layout.specs.Layout.{side}
 use Rattle.exchange.specs.Reading.{◌⊞◌, 𝟎}
 use Rattle.exchange.specs.Values.{Key, alpha, beta, part_v}
 use Rattle.exchange.specs.Parties.{Announced, sums}
-pub mod Laws
 
 pub record Hidden : Type 0 where
   pub party : ℕ

@@ -18,7 +18,6 @@ use Rattle.exchange.specs.Sequences.{joined, listed, those, least}
 use Rattle.exchange.specs.Values.{Key}
 use Rattle.exchange.specs.Parties.{axis_string}
 use Rattle.exchange.specs.Opening.{Exchange, aux_of, opened_state, leaf_string, commitment_string, announced, response_string}
-pub mod Laws
 
 pub data Finding : Type 0 where
   unequal : ℕ → ℕ → Finding

@@ -8,7 +8,6 @@ use Rattle.std.specs.Prelude.{cond, List, ◌++◌, ℕ, take}
 use Rattle.parameters.specs.declared.Parameters.{Parameters}
 use Rattle.layout.specs.Layout.{is_last, share_length, at_x}
 use Rattle.exchange.specs.Strings.{string2, string3, string4}
-pub mod Laws
 
 module _ (hash : List ℕ → ℕ → List ℕ) where
   unfoldable pub state : List ℕ → ℕ → List ℕ → List ℕ

@@ -1,5 +1,4 @@
 pub mod Sequences
-pub mod FirstAxis
 pub mod Run
 pub mod Strings
 pub mod Reading

@@ -25,10 +25,6 @@ use Rattle.exchange.specs.Reading.{encode, ◌⊠◌}
 use Rattle.exchange.specs.Values.{Key, a_of, b_of, alpha, beta}
 use Rattle.exchange.specs.Parties.{Announced, total, party_of, axis_string}
 use Rattle.exchange.specs.Announcing.{none, announced_by}
-pub mod Laws
-pub mod Opened
-pub mod Sum
-pub mod Agreement
 
 module _ (hash : List ℕ → ℕ → List ℕ) (p : Parameters) (x : List ℕ) (run : Run) where
   unfoldable pub own_state : ℕ → List ℕ

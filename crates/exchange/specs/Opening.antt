@@ -31,8 +31,6 @@ use Rattle.exchange.specs.Reading.{point_at}
 use Rattle.exchange.specs.Values.{Key}
 use Rattle.exchange.specs.Parties.{Announced, total, party_of, axis_string, sums_of}
 use Rattle.exchange.specs.Announcing.{Hidden, announced_by}
-pub mod Laws
-pub mod Cube
 
 pub record Exchange : Type 0 where
   pub prefix : List ℕ

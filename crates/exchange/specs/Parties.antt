@@ -16,8 +16,6 @@ use Rattle.parameters.specs.declared.Parameters.{Parameters}
 use Rattle.layout.specs.Layout.{side, digit, share_length}
 use Rattle.exchange.specs.Strings.{string6}
 use Rattle.exchange.specs.Reading.{points, encode}
-pub mod Laws
-pub mod Cube
 
 unfoldable pub total : Parameters → (ℕ → Bool) → (ℕ → List ℕ) → ℕ → List ℕ
 total p picks s zero = replicate (share_length p) 0

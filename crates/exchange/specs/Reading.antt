@@ -13,7 +13,6 @@ use Rattle.algebra.specs.Polynomial.{eval}
 use Rattle.tower.specs.Point.{lone}
 use Rattle.tower.specs.Field.{Point, point_field, point, bytes_of}
 use Rattle.exchange.specs.Sequences.{joined}
-pub mod Laws
 
 unfoldable pub bytes_at : List ℕ → ℕ → ℕ → List ℕ
 bytes_at s i zero = []

@@ -5,7 +5,6 @@
 -- those f l      the elements of l that pass the test f, in their order
 -- least f n      the least number below n that passes the test f, or n where none does
 use Rattle.std.specs.Prelude.{Bool, cond, List, [], ◌∷◌, ◌++◌, ℕ, zero, suc, ltb}
-pub mod Laws
 
 unfoldable pub joined : (ℕ → List ℕ) → ℕ → List ℕ
 joined f zero = []

@@ -8,7 +8,6 @@
 -- opened_seeds pre l v i s    the seeds of all these leaves from the sibling seeds s; nothing for leaf i
 use Rattle.std.specs.Prelude.{cond, List, [], ◌∷◌, ◌++◌, ℕ, zero, suc, ◌+◌, ◌-◌, ◌*◌, ◌^◌, ltb, take, drop}
 use Rattle.exchange.specs.Strings.{string1}
-pub mod Laws
 
 unfoldable pub seeds_of : List (ℕ × List ℕ) → List ℕ
 seeds_of [] = []

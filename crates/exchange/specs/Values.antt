@@ -20,8 +20,6 @@ use Rattle.polynomial.specs.Interpolant.{interpolant_of, vanishing_of}
 use Rattle.relation.specs.Key.{rows}
 use Rattle.layout.specs.Layout.{points_length, at_b, at_x, at_q, at_p, at_c, y_length}
 use Rattle.exchange.specs.Reading.{bytes_at, point_at, value, ◌⊞◌, ◌⊠◌, 𝟎}
-pub mod Laws
-pub mod Relation
 
 pub record Key : Type 0 where
   pub matrix : List ℕ

@@ -12,7 +12,7 @@ use Rattle.lists.specs.Equal.{eq_list}
 use Rattle.parameters.specs.declared.Parameters.{Parameters}
 use Rattle.layout.specs.Layout.{leaves}
 use Rattle.exchange.specs.Sequences.{listed, those, least}
-use Rattle.exchange.specs.Sequences.Laws.{those-append}
+use Rattle.exchange.proofs.Sequences.Laws.{those-append}
 use Rattle.exchange.specs.Values.{Key}
 use Rattle.exchange.specs.Opening.{Exchange}
 use Rattle.exchange.specs.Extractor.{Finding, unequal, states, opened_in_both, compared, axis, output, string_at, unequal_at, finding, extract}

@@ -15,7 +15,7 @@ use mathlib.Core.List.{List, [], ◌∷◌, ◌++◌}
 use Prim.Native.Nat.{ℕ, zero, suc, ◌<◌}
 use Rattle.std.proofs.Math.Decide.{dec_lt}
 use Rattle.exchange.specs.Sequences.{listed, those, least}
-use Rattle.exchange.specs.Sequences.Laws.{those-append, Least, least-is}
+use Rattle.exchange.proofs.Sequences.Laws.{those-append, Least, least-is}
 
 unfoldable pub head_or : {A B : Type 0} → (A → B) → B → List A → B
 head_or g b [] = b

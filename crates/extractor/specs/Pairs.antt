@@ -20,7 +20,7 @@ use Rattle.layout.specs.Runs.{messages5_length, message5_place}
 use Rattle.layout.specs.Runs.Laws.{message5-inside, messages5-most}
 use Rattle.runs.specs.Messages.{leaf_at}
 use Rattle.reader.specs.Message5.{aux_place}
-use Rattle.reader.specs.Message5.Laws.{aux-inside}
+use Rattle.reader.proofs.Laws.Message5.{aux-inside}
 use Rattle.runs.specs.Opening.{message5_at}
 use Rattle.extractor.specs.declared.pairs.Place.{Place}
 use Rattle.extractor.specs.declared.pairs.Pair.{Pair}

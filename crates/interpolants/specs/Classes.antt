@@ -15,7 +15,6 @@ use Rattle.packed.specs.Word.{scaled}
 use Rattle.interpolants.specs.PowerSum.{entry_of}
 use Rattle.interpolants.specs.Sums.{total}
 use Rattle.interpolants.specs.Words.{words_of}
-pub mod Laws
 
 pub record Asked (rows : List ℕ) (n : ℕ) (w tables : List ℕ) : Type 0 where
   pub few : n ≤ 8

@@ -8,7 +8,6 @@ use Rattle.std.specs.Prelude.{List, [], ◌∷◌, ◌++◌, ℕ, zero, suc, ◌
 use Rattle.algebra.specs.Polynomial.{eval, vanishing}
 use Rattle.bytefield.specs.Product.{◌⊗◌, byte_ops}
 use Rattle.polynomial.specs.Interpolant.{ascending}
-pub mod Laws
 
 unfoldable pub complement_of : ℕ → List ℕ
 complement_of m = vanishing byte_ops (ascending (1 + m) (255 - m))

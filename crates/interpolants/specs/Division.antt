@@ -10,7 +10,6 @@ use Rattle.algebra.specs.Polynomial.{eval, pow}
 use Rattle.lists.specs.Xor.{◌⊕◌}
 use Rattle.bytefield.specs.Product.{◌⊗◌, byte_ops}
 use Rattle.packed.specs.Share.{share}
-pub mod Laws
 
 abbrev pub monic_at : List ℕ → ℕ → ℕ
 monic_at g z = eval byte_ops g z ⊕ pow byte_ops z (length g)

@@ -1,12 +1,7 @@
 pub mod Added
-pub mod Cancel
 pub mod Classes
 pub mod Complement
 pub mod Division
-pub mod Interpolating
-pub mod Loops
 pub mod PowerSum
-pub mod Shares
 pub mod Sums
-pub mod Vanishing
 pub mod Words

@@ -6,7 +6,6 @@ use Rattle.std.specs.Prelude.{List, map, ℕ, ◌+◌, ◌*◌, get_or}
 use Rattle.polynomial.specs.Interpolant.{ascending}
 use Rattle.packed.specs.Share.{placed}
 use Rattle.interpolants.specs.Sums.{total}
-pub mod Laws
 
 abbrev pub side_by_side : List ℕ → ℕ → ℕ → ℕ → ℕ
 side_by_side rows n m j = total (λ i. placed i (get_or rows (i * m + j) 0)) n

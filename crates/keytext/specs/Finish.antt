@@ -20,7 +20,6 @@ use Rattle.relation.specs.Key.{vector_of, weight_of}
 use Rattle.keytext.specs.declared.KeyScan.{KeyScan}
 use Rattle.keytext.specs.Scan.{complete}
 use Rattle.keytext.specs.Listing.{printed}
-pub mod Laws
 
 abbrev pub read_in : ℕ → ℕ → ℕ → Bool
 read_in n l size = eqb n size && leb size l

@@ -23,11 +23,6 @@ use Rattle.text.specs.Scanner.Decimal.{decimal_start, decimal_step, decimal_acce
 use Rattle.text.specs.Scanner.Hex.{hex_start, HexHeld, hex_held, hex_step, hex_accepts}
 use Rattle.keytext.specs.declared.KeyScan.{KeyScan}
 use Rattle.keytext.specs.Form.{word_of, last_field}
-pub mod Steps
-pub mod Keeps
-pub mod Fields
-pub mod Complete
-pub mod Values
 
 abbrev pub start : KeyScan
 start =

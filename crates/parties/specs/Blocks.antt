@@ -15,7 +15,7 @@ use Rattle.lists.specs.Part.Laws.{length_part, part-whole, part-append-right, pa
 use Rattle.lists.specs.Sum.{xor_list, xor_at}
 use Rattle.lists.specs.Sum.Laws.{xor_list-append, xor_list-nil, xor_list-zeros, part-xor_list, length-xor_list, length-xor_at}
 use Rattle.exchange.specs.Sequences.{joined}
-use Rattle.exchange.specs.Sequences.Laws.{part-joined, joined-parts, joined-ext, length-joined}
+use Rattle.exchange.proofs.Sequences.Laws.{part-joined, joined-parts, joined-ext, length-joined}
 
 -- ---- a list added
 

@@ -30,9 +30,9 @@ use Rattle.layout.specs.Layout.{others, leaves, digit, aux_length, share_length,
 use Rattle.layout.specs.Layout.Laws.{side-others, leaves-pos, digit_lt, digit-last}
 use Rattle.exchange.specs.Strings.{string3}
 use Rattle.exchange.specs.Leaf.{share}
-use Rattle.exchange.specs.Leaf.Laws.{share-last, share_other, length-share-le}
+use Rattle.exchange.proofs.Leaf.Laws.{share-last, share_other, length-share-le}
 use Rattle.exchange.specs.Parties.{total, party_of}
-use Rattle.exchange.specs.Parties.Laws.{total-yes, total-no, total_ext, length-total}
+use Rattle.exchange.proofs.Parties.Laws.{total-yes, total-no, total_ext, length-total}
 use Rattle.parties.specs.Blocks.{xor_at-zeros}
 use Rattle.parties.specs.Sums.{less}
 

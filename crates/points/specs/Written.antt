@@ -16,14 +16,14 @@ use Rattle.lists.specs.Part.Laws.{put_at-none, put_at-more, put_at-all, put_at-w
 use Rattle.bytefield.specs.Byte.{byte, byte_ring}
 use Rattle.bytefield.specs.Byte.Laws.{val-byte}
 use Rattle.tower.specs.Point.{point_ops, quad, lone, four_sum, four_times}
-use Rattle.tower.specs.Point.Laws.{bytes-times}
-use Rattle.tower.specs.Point.Written.{four-path}
+use Rattle.tower.proofs.Point.Laws.{bytes-times}
+use Rattle.tower.proofs.Point.Written.{four-path}
 use Rattle.tower.specs.Field.{Point, point, bytes_of}
-use Rattle.tower.specs.Field.Laws.{point-bytes_of}
-use Rattle.tower.specs.Field.Laws.{bytes_of-point, point-times}
+use Rattle.tower.proofs.Field.Laws.{point-bytes_of}
+use Rattle.tower.proofs.Field.Laws.{bytes_of-point, point-times}
 use Rattle.exchange.specs.Sequences.{joined}
 use Rattle.exchange.specs.Reading.{points, bytes_at, point_at, encode, ◌⊞◌, ◌⊠◌}
-use Rattle.exchange.specs.Reading.Laws.{length-bytes_of, length-encode}
+use Rattle.exchange.proofs.Reading.Laws.{length-bytes_of, length-encode}
 
 abbrev pub scalar : ℕ → Point
 scalar b = point (lone b)

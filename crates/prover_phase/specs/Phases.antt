@@ -6,7 +6,6 @@
 use Rattle.std.specs.Prelude.{ℕ, Bool, true, false, cond, eqb}
 use Rattle.prover_phase.specs.declared.Phase.{Phase}
 use Rattle.prover_phase.specs.declared.Phase.TheVariants.{Fresh, Begun, Answered, Closed}
-pub mod Laws
 
 abbrev pub is_fresh : Phase → Bool
 is_fresh Fresh = true

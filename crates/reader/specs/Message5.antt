@@ -10,7 +10,6 @@ use Rattle.std.specs.Prelude.{List, ℕ, ◌+◌, take, drop}
 use Rattle.lists.specs.Part.{part}
 use Rattle.parameters.specs.declared.Parameters.{Parameters}
 use Rattle.layout.specs.Layout.{siblings_length, values_length}
-pub mod Laws
 
 abbrev pub commitment_place : Parameters → ℕ
 commitment_place p = siblings_length p

@@ -8,7 +8,6 @@ use Rattle.parameters.specs.Limits.{Within}
 use Rattle.layout.specs.Layout.{values_length}
 use Rattle.reader.specs.Message5.{commitment_place, aux_place}
 use Rattle.reader.specs.Taken.{taken, behind}
-pub mod Laws
 
 pub record Asked (p : Parameters) (m5 siblings commitment values : List ℕ) : Type 0 where
   pub within : Within p

@@ -4,7 +4,6 @@
 -- behind m at out   the place behind them
 use Rattle.std.specs.Prelude.{ℕ, ◌+◌, List, length}
 use Rattle.lists.specs.Part.{part, put_at}
-pub mod Laws
 
 unfoldable pub taken : List ℕ → ℕ → List ℕ → List ℕ
 taken m at out = put_at out 0 (part m at (length out))

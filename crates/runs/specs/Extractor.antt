@@ -21,8 +21,6 @@ use Rattle.exchange.specs.Extractor as run
 use Rattle.runs.specs.Messages.{leaf_at}
 use Rattle.runs.specs.Opening.{Transcript, exchange_at}
 pub mod Gathered
-pub mod Laws
-pub mod Output
 
 pub data Finding : Type 0 where
   unequal : ℕ → ℕ → ℕ → Finding

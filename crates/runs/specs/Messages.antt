@@ -15,7 +15,6 @@ use Rattle.exchange.specs.Sequences.{joined}
 use Rattle.exchange.specs.Values.{Key}
 use Rattle.exchange.specs.Messages as run
 use Rattle.runs.specs.Run.{run_at}
-pub mod Laws
 
 unfoldable pub message2_at : Parameters → List ℕ → ℕ → List ℕ
 message2_at p m2 e = part m2 (e * message2_length p) (message2_length p)

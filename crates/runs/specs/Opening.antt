@@ -20,7 +20,6 @@ use Rattle.exchange.specs.Opening as run
 use Rattle.exchange.specs.Opening.{Exchange, exchange}
 use Rattle.runs.specs.Run.{run_prefix}
 use Rattle.runs.specs.Messages.{message2_at, leaf_at}
-pub mod Laws
 
 pub record Transcript : Type 0 where
   pub message1 : List ℕ

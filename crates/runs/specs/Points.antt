@@ -13,7 +13,6 @@ use Rattle.parameters.specs.declared.Parameters.{Parameters}
 use Rattle.exchange.specs.Sequences.{listed}
 use Rattle.exchange.specs.Reading.{bytes_at}
 use Rattle.runs.specs.Messages.{message2_at}
-pub mod Laws
 
 abbrev pub point_bytes : List ℕ → ℕ → List ℕ
 point_bytes m2 l = bytes_at m2 (4 * l) 4

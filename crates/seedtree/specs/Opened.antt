@@ -17,7 +17,7 @@ use native.Mathlib.Omega.{arith}
 use Rattle.lists.specs.Part.{part, put_at}
 use Rattle.lists.specs.Part.Laws.{put_at-whole}
 use Rattle.exchange.specs.Tree.{leaf_seeds, opened_seeds}
-use Rattle.exchange.specs.Tree.Laws.{length-leaf_seeds, length-leaf_seed, length-opened_seeds}
+use Rattle.exchange.proofs.Tree.Laws.{length-leaf_seeds, length-leaf_seed, length-opened_seeds}
 use Rattle.seedtree.specs.Writes.{put_at-front, put_at-behind}
 use Rattle.seedtree.specs.Laid.{slot, laid, Slotted}
 use Rattle.seedtree.specs.Laid.Laws.{slot-seed, part-laid, full-slotted, each_append, laid-append, length-laid}

@@ -18,7 +18,7 @@ use Rattle.lists.specs.Part.{part, put_at}
 use Rattle.lists.specs.Part.Laws.{length_part}
 use Rattle.exchange.specs.Strings.{string1}
 use Rattle.exchange.specs.Tree.{seeds_of, children, left_seed, right_seed, leaf_seeds, siblings, sibling_seeds}
-use Rattle.exchange.specs.Tree.Laws.{length-leaf_seeds}
+use Rattle.exchange.proofs.Tree.Laws.{length-leaf_seeds}
 use Rattle.seedtree.specs.Writes.{take-put_at-end}
 use Rattle.seedtree.specs.Levels.Laws.{in-first, in-second, length-children}
 use Rattle.seedtree.specs.declared.nodes.Way.{Way}

@@ -8,11 +8,11 @@ use Rattle.parameters.specs.declared.Parameters.{Parameters}
 use Rattle.relation.specs.Key.{vector_of}
 use Rattle.layout.specs.Layout.{leaves, y_length}
 use Rattle.exchange.specs.Values.{Key}
-use Rattle.exchange.specs.Messages.Laws.{Secret}
-use Rattle.exchange.specs.Messages.Opened.{honest, exchange-is}
+use Rattle.exchange.proofs.Messages.Laws.{Secret}
+use Rattle.exchange.proofs.Messages.Opened.{honest, exchange-is}
 use Rattle.runs.specs.Run.{run_at}
 use Rattle.runs.specs.Messages.{message2_at, leaf_at, message1, message3, message5}
-use Rattle.runs.specs.Messages.Laws.{length-prefix, exchange-at, messages-accepted}
+use Rattle.runs.proofs.Messages.Laws.{length-prefix, exchange-at, messages-accepted}
 use Rattle.runs.specs.Opening.{Transcript, transcript, exchange_at, Accepted}
 use Rattle.test_standin.specs.StandIn.{stand_in}
 use Rattle.test_claims.specs.StandIn.{length-stand_in}

@@ -12,11 +12,11 @@ use Rattle.parameters.specs.declared.Parameters.{Parameters}
 use Rattle.layout.specs.Layout.{leaves}
 use Rattle.runs.specs.Messages.{leaf_at, message1, message3, message5}
 use Rattle.runs.specs.Opening.{Transcript, verdict}
-use Rattle.runs.specs.Opening.Laws.{accepted-then}
+use Rattle.runs.proofs.Opening.Laws.{accepted-then}
 use Rattle.calls.specs.Lengths.{leaves_below}
 use Rattle.calls.specs.Extractor.{pair, extract_lengths, both_distinct, same_statement, early_checks, found, second, first, early, extraction}
 use Rattle.claims.specs.Words.{Sent, Comparable}
-use Rattle.claims.specs.Completeness.Sample.{one-position}
+use Rattle.claims.proofs.Completeness.Sample.{one-position}
 use Rattle.test_standin.specs.StandIn.{weak}
 use Rattle.test_standin.specs.Definitions.{definitions}
 use Rattle.test_claims.specs.Pairs.{p as parameters, key, x, salt, root, messages2}

@@ -14,20 +14,21 @@ use Rattle.relation.specs.Key.{weight_of, vector_of}
 use Rattle.layout.specs.Layout.{leaves, work_length}
 use Rattle.layout.specs.Runs.{outputs_length}
 use Rattle.exchange.specs.Values.{Key}
-use Rattle.exchange.specs.Messages.Laws.{Secret}
+use Rattle.exchange.proofs.Messages.Laws.{Secret}
 use Rattle.runs.specs.Messages.{leaf_at}
-use Rattle.runs.specs.Messages.Laws.{length-message1, length-message3, length-message5}
+use Rattle.runs.proofs.Messages.Laws.{length-message1, length-message3, length-message5}
 use Rattle.runs.specs.Points.{DistinctPoints}
-use Rattle.runs.specs.Points.Laws.{points-distinct}
+use Rattle.runs.proofs.Points.Laws.{points-distinct}
 use Rattle.runs.specs.Opening.{Transcript}
 use Rattle.calls.specs.Prover.History.{after, made}
 use Rattle.calls.specs.Verifier.{Verifier}
 use Rattle.claims.specs.Words.{Sent, Comparable}
 use Rattle.claims.specs.Completeness.{ValidKey, LeadsToAcceptance}
-use Rattle.claims.specs.Completeness.Calls.{completeness}
-use Rattle.claims.specs.Completeness.Sample.{fresh_start, blank, blank-fits}
+use Rattle.claims.proofs.Completeness.Calls.{completeness}
+use Rattle.claims.specs.Completeness.Sample.{blank}
+use Rattle.claims.proofs.Completeness.Sample.{fresh_start, blank-fits}
 use Rattle.claims.specs.Extraction.{Extracts}
-use Rattle.claims.specs.Extraction.Proof.{extracts}
+use Rattle.claims.proofs.Extraction.Proof.{extracts}
 use Rattle.test_standin.specs.StandIn.{stand_in}
 use Rattle.test_standin.specs.Definitions.{definitions}
 use Rattle.test_claims.specs.StandIn.{length-stand_in}

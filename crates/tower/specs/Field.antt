@@ -13,10 +13,10 @@ use Rattle.algebra.specs.Extension.Laws.{ext_field, tower}
 use Rattle.lists.specs.Xor.{◌⊕◌}
 use Rattle.lists.specs.Computed.{all, below}
 use Rattle.bytefield.specs.Product.{reduction, xtime, times_bits, ◌⊗◌}
-use Rattle.bytefield.specs.Byte.{Byte, byte, byte_ring, byte_field}
+use Rattle.bytefield.specs.Byte.{Byte, byte, byte_ring}
+use Rattle.bytefield.proofs.Laws.Field.{byte_field}
 use Rattle.bytefield.specs.Byte.Laws.{byte-zero}
 use Rattle.tower.specs.Point.{Quad, quad}
-pub mod Laws
 
 -- ---- u² + u is never 20
 differs_at : ℕ → Bool

@@ -12,9 +12,6 @@ use Rattle.std.specs.Prelude.{List, [], ◌∷◌, ℕ, get_or}
 use Rattle.algebra.specs.Operations.{Operations}
 use Rattle.algebra.specs.Extension.{ext_ops}
 use Rattle.bytefield.specs.Product.{byte_ops}
-pub mod Laws
-pub mod Steps
-pub mod Written
 
 abbrev pub Quad : Type 0
 Quad = (ℕ × ℕ) × (ℕ × ℕ)

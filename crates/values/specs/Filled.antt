@@ -12,7 +12,7 @@ use Rattle.lists.specs.Part.Laws.{length-put_at, part-put_at-same, part-put_at-b
 use Rattle.tower.specs.Field.{Point, bytes_of}
 use Rattle.exchange.specs.Sequences.{joined}
 use Rattle.exchange.specs.Reading.{encode}
-use Rattle.exchange.specs.Reading.Laws.{length-bytes_of}
+use Rattle.exchange.proofs.Reading.Laws.{length-bytes_of}
 
 abbrev pub Filled : (ℕ → Point) → List ℕ → ℕ → ℕ → Type 0
 Filled f d at n = (i : ℕ) → i < n → part d (at + 4 * i) 4 ≡ bytes_of (f i)

@@ -11,7 +11,7 @@ use Rattle.lists.specs.Part.{put_at}
 use Rattle.algebra.specs.Ring.{Ring2}
 use Rattle.algebra.specs.Ring.Laws.{ring}
 use Rattle.tower.specs.Field.{Point, point, bytes_of}
-use Rattle.tower.specs.Field.Laws.{point-bytes_of}
+use Rattle.tower.proofs.Field.Laws.{point-bytes_of}
 use Rattle.parameters.specs.declared.Parameters.{Parameters}
 use Rattle.layout.specs.Layout.{at_v}
 use Rattle.exchange.specs.Reading.{points, value, ◌⊞◌, ◌⊠◌}

@@ -6,7 +6,6 @@
 use Rattle.std.specs.Prelude.{ℕ, cond, eqb}
 use Rattle.verifier_phase.specs.declared.Phase.{Phase}
 use Rattle.verifier_phase.specs.declared.Phase.TheVariants.{Fresh, Begun, Pointed, Responded, Chosen, Closed}
-pub mod Laws
 
 abbrev pub step : Phase → ℕ
 step Fresh = 0

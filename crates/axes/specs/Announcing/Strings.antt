@@ -15,16 +15,16 @@ use Rattle.lists.specs.Part.Laws.{get_d_part}
 use Rattle.parameters.specs.declared.Parameters.{Parameters}
 use Rattle.layout.specs.Layout.{side, leaves, factor_length, values_length, row_length, axis_length, siblings_length}
 use Rattle.exchange.specs.Sequences.{joined}
-use Rattle.exchange.specs.Sequences.Laws.{joined-ext, length-joined, part-joined}
+use Rattle.exchange.proofs.Sequences.Laws.{joined-ext, length-joined, part-joined}
 use Rattle.exchange.specs.Run.{Run}
 use Rattle.exchange.specs.Strings.{string, string6, string7}
 use Rattle.exchange.specs.Reading.{point_at}
-use Rattle.exchange.specs.Reading.Laws.{point_at-ext}
+use Rattle.exchange.proofs.Reading.Laws.{point_at-ext}
 use Rattle.exchange.specs.Values.{Key}
 use Rattle.exchange.specs.Parties.{Announced, announced_bytes, axis_string}
-use Rattle.exchange.specs.Parties.Laws.{length-announced_bytes}
+use Rattle.exchange.proofs.Parties.Laws.{length-announced_bytes}
 use Rattle.exchange.specs.Announcing.{Hidden, none, announced_by}
-use Rattle.exchange.specs.Announcing.Laws.{by-ext}
+use Rattle.exchange.proofs.Announcing.Laws.{by-ext}
 use Rattle.exchange.specs.Messages.{own_party, own_announced, message3}
 use Rattle.exchange.specs.Opening.{Exchange, alpha_of, beta_of, hidden_on, disclosed, announced}
 use Rattle.axes.specs.RowStrings.{rows_string}

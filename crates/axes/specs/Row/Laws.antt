@@ -12,11 +12,11 @@ use Rattle.std.proofs.Math.Bool.{cond}
 use mathlib.Core.List.{List, [], ◌++◌, append_assoc, append-nil}
 use Rattle.lists.specs.Sum.{xor_list}
 use Rattle.tower.specs.Field.{Point, point, bytes_of}
-use Rattle.tower.specs.Field.Laws.{point-bytes_of}
+use Rattle.tower.proofs.Field.Laws.{point-bytes_of}
 use Rattle.parameters.specs.declared.Parameters.{Parameters}
 use Rattle.layout.specs.Layout.{side, leaves, digit, factor_length, values_length, at_v}
 use Rattle.exchange.specs.Reading.{point_at, encode, ◌⊞◌}
-use Rattle.exchange.specs.Reading.Laws.{length-encode, encode-ext, point_at-encode}
+use Rattle.exchange.proofs.Reading.Laws.{length-encode, encode-ext, point_at-encode}
 use Rattle.exchange.specs.Values.{Key, alpha, beta, part_v}
 use Rattle.values.specs.Announced.{gamma, announced_of, v_of}
 use Rattle.values.specs.Announced.Laws.{two-lengths, announced-front, part_v-gamma}

@@ -1,6 +1,7 @@
 -- Where the byte is not 0, the power at 255 less its logarithm gives 1 with it, and only the inverse does.
 use Rattle.std.proofs.Common.{arith, rules, sym, ◌≡◌}
-use Rattle.bytefield.specs.Inverse.Laws.{inverse-zero, log-inverse}
+use Rattle.bytefield.specs.Inverse.Laws.{inverse-zero}
+use Rattle.bytefield.proofs.Laws.Inverse.{log-inverse}
 use Rattle.bytefield.proofs.inverse.Goals as goal
 
 pub returns-then-a-eq0 : goal.returns-then-a-eq0

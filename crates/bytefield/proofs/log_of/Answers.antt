@@ -1,7 +1,8 @@
 -- The entry that is read, by the table's rule.
 use Rattle.std.proofs.Common.{List, ap, arith, get_or, rules, ℕ, ◌∙◌, ◌≡◌}
 use Rattle.bytefield.specs.Tables.{logs, tables-log}
-use Rattle.bytefield.specs.Powers.{power, logs_at, logs-small}
+use Rattle.bytefield.specs.Powers.{power}
+use Rattle.bytefield.proofs.Laws.Powers.{logs_at, logs-small}
 use Rattle.bytefield.proofs.log_of.Goals as goal
 
 pub overflow_cast-result-2 : goal.overflow_cast-result-2

@@ -1,7 +1,7 @@
 -- The entry that is read, by the table's rule.
 use Rattle.std.proofs.Common.{List, ap, get_or, ℕ, ◌+◌, ◌∙◌}
 use Rattle.bytefield.specs.Tables.{tables-power}
-use Rattle.bytefield.specs.Powers.{powers-at}
+use Rattle.bytefield.proofs.Laws.Powers.{powers-at}
 use Rattle.bytefield.proofs.power_of.Goals as goal
 
 pub returns : goal.returns

@@ -2,7 +2,7 @@
 use Rattle.std.proofs.Common.{ap, sym, ℕ, ◌∙◌}
 use Rattle.bytefield.specs.Product.{◌⊗◌}
 use Rattle.bytefield.specs.Product.Laws.{⊗-zero, zero-⊗}
-use Rattle.bytefield.specs.Powers.{log-sum}
+use Rattle.bytefield.proofs.Laws.Powers.{log-sum}
 use Rattle.bytefield.proofs.product.Goals as goal
 
 pub returns-then-a-eq0 : goal.returns-then-a-eq0

@@ -7,7 +7,7 @@ use Rattle.layout.specs.Maxima.{most_messages2}
 use Rattle.layout.specs.Runs.Laws.{messages2-most}
 use Rattle.runs.specs.Messages.{message2_at}
 use Rattle.runs.specs.Points.{distinct_in, distinct_points}
-use Rattle.runs.specs.Points.Laws.{some-fails, all_none, all_more, all_end}
+use Rattle.runs.proofs.Points.Laws.{some-fails, all_none, all_more, all_end}
 use Rattle.challenge.proofs.distinct_points.Goals as goal
 use Rattle.challenge.proofs.distinct_points.Goals.{In-loop-e}
 

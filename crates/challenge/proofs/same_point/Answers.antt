@@ -3,7 +3,7 @@ use Rattle.std.proofs.Common.{List, ap, ap₂, drop, length, mul_comm, sym, take
 use Rattle.lists.specs.Equal.{eq_list}
 use Rattle.lists.specs.Part.Laws.{lent-part}
 use Rattle.exchange.specs.Reading.{bytes_at}
-use Rattle.exchange.specs.Reading.Laws.{bytes_at-part}
+use Rattle.exchange.proofs.Reading.Laws.{bytes_at-part}
 use Rattle.runs.specs.Points.{point_bytes}
 use Rattle.challenge.proofs.same_point.Goals as goal
 

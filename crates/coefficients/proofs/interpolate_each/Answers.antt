@@ -2,7 +2,7 @@
 use Rattle.std.proofs.Common.{ap, arith, drop, length, length-drop, length-take, refl, sym, take, take_all, ◌*◌, ◌+◌, ◌-◌, ◌∙◌, ◌≡◌}
 use Rattle.points.specs.Blocks.{next-block}
 use Rattle.interpolants.specs.Complement.{complement_of}
-use Rattle.interpolants.specs.Complement.Laws.{factors-end}
+use Rattle.interpolants.proofs.Laws.Complement.{factors-end}
 use Rattle.coefficients.specs.Groups.{end-lent, rows_whole}
 use Rattle.coefficients.proofs.interpolate_each.Goals as goal
 use Rattle.coefficients.proofs.interpolate_each.Goals.{Start}

@@ -16,9 +16,9 @@ use Rattle.lists.specs.Part.Laws.{length_part, part-part, part-fits}
 use Rattle.lists.specs.Sum.{xor_list}
 use Rattle.lists.specs.Sum.Laws.{xor_list-comm, xor_list-zeros, length-xor_list}
 use Rattle.polynomial.specs.Bytes.Laws.{bytes-from, byte-at, bytes_take}
-use Rattle.exchange.specs.Sequences.Laws.{bytes_drop}
+use Rattle.exchange.proofs.Sequences.Laws.{bytes_drop}
 use Rattle.exchange.specs.Reading.{bytes_at}
-use Rattle.exchange.specs.Reading.Laws.{length-bytes_at, bytes_at-part}
+use Rattle.exchange.proofs.Reading.Laws.{length-bytes_at, bytes_at-part}
 use Rattle.packed.specs.Share.{share, placed}
 use Rattle.packed.specs.Share.Laws.{zeros-share, share-own, share-rest}
 use Rattle.coefficients.specs.Shares.{Gathered}

@@ -23,9 +23,9 @@ use Rattle.exchange.specs.Extractor as run
 use Rattle.exchange.specs.Extractor.{Finding, unequal, states}
 use Rattle.runs.specs.Messages.{leaf_at}
 use Rattle.runs.specs.Opening.{Transcript, exchange_at, lowest, verdict}
-use Rattle.runs.specs.Opening.Laws.{lowest-next, lowest-stays}
+use Rattle.runs.proofs.Opening.Laws.{lowest-next, lowest-stays}
 use Rattle.runs.specs.Extractor.{differs}
-use Rattle.runs.specs.Extractor.Laws.{FirstUnequal}
+use Rattle.runs.proofs.Extractor.Laws.{FirstUnequal}
 use Rattle.extractor.specs.declared.best.Best.{Best}
 use Rattle.extractor.specs.declared.findings.Difference.{Difference}
 use Rattle.extractor.specs.declared.run.Judgement.{Judgement}

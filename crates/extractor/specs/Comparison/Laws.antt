@@ -19,17 +19,17 @@ use Rattle.shake256.proofs.Laws.{length-SHAKE256}
 use Rattle.parameters.specs.declared.Parameters.{Parameters}
 use Rattle.parameters.specs.Limits.{Within}
 use Rattle.layout.specs.Layout.{leaves, message5_length}
-use Rattle.exchange.specs.FirstAxis.{first-trailing}
+use Rattle.exchange.proofs.FirstAxis.{first-trailing}
 use Rattle.exchange.specs.Sequences.{joined, least}
-use Rattle.exchange.specs.Sequences.Laws.{joined-ext, joined-inj, Least, least-is}
+use Rattle.exchange.proofs.Sequences.Laws.{joined-ext, joined-inj, Least, least-is}
 use Rattle.exchange.specs.Strings.{string, string4, string5, string7}
 use Rattle.exchange.specs.Values.{Key}
 use Rattle.exchange.specs.Parties.{axis_string}
-use Rattle.exchange.specs.Parties.Laws.{string-inj}
+use Rattle.exchange.proofs.Parties.Laws.{string-inj}
 use Rattle.exchange.specs.Opening.{Exchange, commitment_of, aux_of, opened_state, leaf_string, leaf_commitment, commitment_string, announced, response_string}
-use Rattle.exchange.specs.Opening.Laws.{length-commitments}
+use Rattle.exchange.proofs.Opening.Laws.{length-commitments}
 use Rattle.exchange.specs.Extractor.{opened_in_both, axis, aux_from, state_from, output, extract}
-use Rattle.exchange.specs.Extractor.Laws.{string-7, string-6, string-5, string-4, axis-is}
+use Rattle.exchange.proofs.Extractor.Laws.{string-7, string-6, string-5, string-4, axis-is}
 use Rattle.leaves.specs.Commitments.{commitments_of}
 use Rattle.leaves.specs.Commitments.Laws.{opened-commitments}
 use Rattle.extractor.specs.Head.{least-ext}

@@ -17,17 +17,17 @@ use Rattle.answers.specs.declared.Answer.TheVariants.{Done, Refused as Not}
 use Rattle.answers.specs.declared.Refusal.{Refusal}
 use Rattle.parameters.specs.declared.Parameters.{Parameters}
 use Rattle.layout.specs.Layout.{work_length}
-use Rattle.exchange.specs.FirstAxis.{first-trailing}
+use Rattle.exchange.proofs.FirstAxis.{first-trailing}
 use Rattle.exchange.specs.Sequences.{least}
 use Rattle.exchange.specs.Values.{Key}
 use Rattle.exchange.specs.Opening.{exchange}
 use Rattle.exchange.specs.Extractor as run
-use Rattle.exchange.specs.Extractor.Laws.{axis-is}
+use Rattle.exchange.proofs.Extractor.Laws.{axis-is}
 use Rattle.runs.specs.Messages.{leaf_at}
 use Rattle.runs.specs.Opening.{Transcript, exchange_at, lowest, verdict}
-use Rattle.runs.specs.Opening.Laws.{lowest-stays}
+use Rattle.runs.proofs.Opening.Laws.{lowest-stays}
 use Rattle.runs.specs.Extractor.{unequal, states, differs, lowest_run, outputs, extract}
-use Rattle.runs.specs.Extractor.Laws.{Lowest, lowest-run, extract-unequal, extract-states}
+use Rattle.runs.proofs.Extractor.Laws.{Lowest, lowest-run, extract-unequal, extract-states}
 use Rattle.calls.specs.Extractor.{early_checks, found, second, first, early, extraction}
 use Rattle.extractor.specs.declared.best.Best.{Best}
 use Rattle.extractor.specs.declared.findings.Extraction.{Extraction}

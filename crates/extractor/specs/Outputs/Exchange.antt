@@ -18,7 +18,7 @@ use Rattle.parameters.specs.declared.Parameters.{Parameters}
 use Rattle.layout.specs.Layout.{leaves, message5_length, prefix_length, output_length}
 use Rattle.layout.specs.Runs.{digest_place}
 use Rattle.exchange.specs.Sequences.{joined}
-use Rattle.exchange.specs.Sequences.Laws.{joined-ext}
+use Rattle.exchange.proofs.Sequences.Laws.{joined-ext}
 use Rattle.exchange.specs.Opening.{Exchange, exchange, path_of, aux_of, opened_state}
 use Rattle.exchange.specs.Extractor.{state_from, aux_from, output}
 use Rattle.runs.specs.Run.{run_prefix}

@@ -20,7 +20,7 @@ use Rattle.lists.specs.Part.Laws.{length-put_at, part-fits, lent-part, length-le
 use Rattle.parameters.specs.declared.Parameters.{Parameters}
 use Rattle.layout.specs.Layout.{leaves, is_last, states_length, output_length}
 use Rattle.layout.specs.Maxima.{most_opened}
-use Rattle.exchange.specs.Sequences.Laws.{joined-ext}
+use Rattle.exchange.proofs.Sequences.Laws.{joined-ext}
 use Rattle.reader.specs.Message5.{aux_in}
 use Rattle.openings.specs.Parts.{states_in}
 use Rattle.extractor.specs.declared.pairs.Pair.{Pair}

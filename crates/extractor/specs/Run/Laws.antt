@@ -23,7 +23,7 @@ use Rattle.layout.specs.Maxima.{most_opened}
 use Rattle.exchange.specs.Values.{Key}
 use Rattle.exchange.specs.Opening.{Exchange}
 use Rattle.exchange.specs.Extractor.{extract}
-use Rattle.reader.specs.Message5.Laws.{aux-inside, all-aux}
+use Rattle.reader.proofs.Laws.Message5.{aux-inside, all-aux}
 use Rattle.openings.specs.Statement.{prefix_in, exchange_in}
 use Rattle.openings.specs.Parts.{states_in}
 use Rattle.extractor.specs.declared.findings.Difference.{Difference}

@@ -1,5 +1,5 @@
 use Rattle.std.proofs.Common.{arith, refl, ◌∙◌}
-use Rattle.interpolants.specs.Division.Laws.{divided-start, divided-turn, divided-end}
+use Rattle.interpolants.proofs.Laws.Division.{divided-start, divided-turn, divided-end}
 use Rattle.interpolants.proofs.divide.Goals as goal
 
 pub loop-i-init : goal.loop-i-init

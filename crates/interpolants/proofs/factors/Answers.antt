@@ -1,7 +1,7 @@
 -- The complement is made behind the first m bytes, and these become the scales.
 use Rattle.std.proofs.Common.{ap, arith, drop, drop_at, length, length-append, length-drop, length-take, length-take-le, sym, take, ◌-◌, ◌∙◌, ◌≡◌}
 use Rattle.lists.specs.Part.Laws.{tail-back}
-use Rattle.interpolants.specs.Complement.Laws.{length-factors}
+use Rattle.interpolants.proofs.Laws.Complement.{length-factors}
 use Rattle.interpolants.proofs.factors.Goals as goal
 
 pub complement-requires : goal.complement-requires

@@ -1,9 +1,9 @@
 -- The words become the power sums of the scaled rows; divided by the complement they leave zeros and S behind them (`share-made`).
 use Rattle.std.proofs.Common.{ap, arith, drop, length, sym, take, ◌*◌, ◌-◌, ◌∙◌, ◌≡◌}
 use Rattle.interpolants.specs.Complement.{scales_of}
-use Rattle.interpolants.specs.Complement.Laws.{length-scales, scale-some, length-factors, factors-front, factors-end}
-use Rattle.interpolants.specs.Words.Laws.{length-words}
-use Rattle.interpolants.specs.Shares.{length-low, share-made}
+use Rattle.interpolants.proofs.Laws.Complement.{length-scales, scale-some, length-factors, factors-front, factors-end}
+use Rattle.interpolants.proofs.Laws.Words.{length-words}
+use Rattle.interpolants.proofs.Laws.Shares.{length-low, share-made}
 use Rattle.interpolants.proofs.interpolate.Goals as goal
 use Rattle.interpolants.proofs.interpolate.Goals.{Start}
 

@@ -3,7 +3,7 @@ use Rattle.lists.specs.Part.Laws.{tail-part}
 use Rattle.algebra.specs.Polynomial.{eval}
 use Rattle.bytefield.specs.Product.{◌⊗◌, byte_ops}
 use Rattle.interpolants.specs.Complement.{complement_of}
-use Rattle.interpolants.specs.Loops.{scales-start, scales-turn, scales-end}
+use Rattle.interpolants.proofs.Laws.Loops.{scales-start, scales-turn, scales-end}
 use Rattle.interpolants.proofs.scales.Goals as goal
 
 pub loop-i-init : goal.loop-i-init

@@ -2,7 +2,7 @@
 -- and the complement stands behind.
 use Rattle.std.proofs.Common.{drop, length, ◌-◌, ◌≡◌, ◌≤◌}
 use Rattle.interpolants.specs.Complement.{complement_of}
-use Rattle.interpolants.specs.Loops.{Weighted}
+use Rattle.interpolants.proofs.Laws.Loops.{Weighted}
 use Rattle.interpolants.proofs.scales.Given as goal
 
 abbrev pub invariant-loop-i : goal.invariant-loop-i

@@ -2,7 +2,7 @@ use Rattle.std.proofs.Common.{ap, arith, get_or, refl, ◌-◌, ◌∙◌, ◌�
 use lib.Seq.{drop-length}
 use Rattle.algebra.specs.Polynomial.{eval}
 use Rattle.lists.specs.Xor.{◌⊕◌}
-use Rattle.interpolants.specs.Loops.{horner-turn}
+use Rattle.interpolants.proofs.Laws.Loops.{horner-turn}
 use Rattle.interpolants.proofs.value.Goals as goal
 
 pub loop-i-init : goal.loop-i-init

@@ -1,7 +1,7 @@
 -- The words become X^255 + 1 less X^m·G; divided by the complement they leave F but its leading one (`vanishing-made`).
 use Rattle.std.proofs.Common.{arith, length, length-append, length-drop, length-take, rules, sym, take, ◌-◌, ◌∙◌, ◌≡◌}
-use Rattle.interpolants.specs.Shares.{length-low}
-use Rattle.interpolants.specs.Vanishing.{vanishing-made}
+use Rattle.interpolants.proofs.Laws.Shares.{length-low}
+use Rattle.interpolants.proofs.Laws.Vanishing.{vanishing-made}
 use Rattle.interpolants.proofs.vanishing.Goals as goal
 use Rattle.interpolants.proofs.vanishing.Goals.{After-add_share, Start}
 

@@ -20,7 +20,8 @@ use Rattle.algebra.specs.Polynomial.{interpolate}
 use Rattle.algebra.specs.Polynomial.Ratios.{distances, ratios}
 use Rattle.bytefield.specs.Product.{◌⊗◌, byte_ops}
 use Rattle.bytefield.specs.Product.Laws.{⊗-assoc, ⊗-lt, one-⊗, ⊗-one, zero-⊗}
-use Rattle.bytefield.specs.Powers.{power, power-lt, power-add, power-mod}
+use Rattle.bytefield.specs.Powers.{power, power-lt, power-add}
+use Rattle.bytefield.proofs.Laws.Powers.{power-mod}
 use Rattle.bytefield.specs.Inverse.{inverse}
 use Rattle.polynomial.specs.Bytes.{Bytes}
 use Rattle.relation.specs.Key.{weight_of, positions, quotient_of}

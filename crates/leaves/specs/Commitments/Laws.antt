@@ -20,7 +20,7 @@ use Rattle.parameters.specs.declared.Parameters.{Parameters}
 use Rattle.layout.specs.Layout.{leaves}
 use Rattle.exchange.specs.Run.{Run}
 use Rattle.exchange.specs.Sequences.{joined}
-use Rattle.exchange.specs.Sequences.Laws.{joined-ext}
+use Rattle.exchange.proofs.Sequences.Laws.{joined-ext}
 use Rattle.exchange.specs.Strings.{string, string5}
 use Rattle.exchange.specs.Leaf.{commitment}
 use Rattle.exchange.specs.Messages.{own_state, own_aux, own_commitment, message1}

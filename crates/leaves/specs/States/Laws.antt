@@ -14,9 +14,9 @@ use Rattle.shake256.specs.Fips.{SHAKE256}
 use Rattle.shake256.proofs.Laws.{length-SHAKE256}
 use Rattle.lists.specs.Part.{part}
 use Rattle.exchange.specs.Sequences.{joined}
-use Rattle.exchange.specs.Sequences.Laws.{length-joined, joined_at}
+use Rattle.exchange.proofs.Sequences.Laws.{length-joined, joined_at}
 use Rattle.exchange.specs.Leaf.{state}
-use Rattle.exchange.specs.Leaf.Laws.{length-state}
+use Rattle.exchange.proofs.Leaf.Laws.{length-state}
 use Rattle.leaves.specs.States.{state_at, seed_at, unless_hidden, states_of}
 
 module _ (hidden i : ℕ) (st : List ℕ) where

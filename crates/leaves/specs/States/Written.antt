@@ -15,7 +15,7 @@ use Rattle.lists.specs.Part.{part, put_at}
 use Rattle.lists.specs.Part.Laws.{put_at-whole, put_at-put_at, part-put_at-behind}
 use Rattle.exchange.specs.Sequences.{joined}
 use Rattle.exchange.specs.Leaf.{state}
-use Rattle.exchange.specs.Leaf.Laws.{length-state}
+use Rattle.exchange.proofs.Leaf.Laws.{length-state}
 use Rattle.leaves.specs.States.{seed_at, unless_hidden, states_of}
 use Rattle.leaves.specs.States.Laws.{length-unless_hidden, length-states_of}
 

@@ -20,10 +20,10 @@ use Rattle.shake256.proofs.Laws.{length-SHAKE256}
 use Rattle.parameters.specs.declared.Parameters.{Parameters}
 use Rattle.layout.specs.Layout.{levels, leaves, is_last, aux_length, share_length, at_x}
 use Rattle.exchange.specs.Run.{Run}
-use Rattle.exchange.specs.Sequences.Laws.{joined-ext, joined-parts}
+use Rattle.exchange.proofs.Sequences.Laws.{joined-ext, joined-parts}
 use Rattle.exchange.specs.Strings.{string3}
 use Rattle.exchange.specs.Tree.{leaf_seeds, sibling_seeds}
-use Rattle.exchange.specs.Tree.Laws.{length-sibling_seeds, opened-is}
+use Rattle.exchange.proofs.Tree.Laws.{length-sibling_seeds, opened-is}
 use Rattle.exchange.specs.Leaf.{state, share}
 use Rattle.exchange.specs.Messages.{own_state, own_share, own_aux}
 use Rattle.leaves.specs.States.{state_at, states_from}

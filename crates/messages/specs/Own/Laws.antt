@@ -14,8 +14,8 @@ use Rattle.parameters.specs.declared.Parameters.{Parameters}
 use Rattle.layout.specs.Layout.{leaves}
 use Rattle.exchange.specs.Run.{Run}
 use Rattle.exchange.specs.Leaf.{share}
-use Rattle.exchange.specs.Leaf.Laws.{length-state}
-use Rattle.exchange.specs.Parties.Laws.{total_ext}
+use Rattle.exchange.proofs.Leaf.Laws.{length-state}
+use Rattle.exchange.proofs.Parties.Laws.{total_ext}
 use Rattle.exchange.specs.Messages.{own_state, drawn, own_aux}
 use Rattle.messages.specs.Auxiliary.{aux_for}
 use Rattle.messages.specs.Auxiliary.Laws.{own_aux-is}

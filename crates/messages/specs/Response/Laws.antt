@@ -17,7 +17,7 @@ use Rattle.exchange.specs.Run.{Run}
 use Rattle.exchange.specs.Leaf.{share}
 use Rattle.exchange.specs.Values.{Key}
 use Rattle.exchange.specs.Parties.{total, party_of}
-use Rattle.exchange.specs.Parties.Laws.{total_ext}
+use Rattle.exchange.proofs.Parties.Laws.{total_ext}
 use Rattle.exchange.specs.Messages.{own_aux, own_share, own_party, message3}
 use Rattle.messages.specs.Auxiliary.{aux_for}
 use Rattle.leaves.specs.States.{state_at}

@@ -5,8 +5,8 @@ use Rattle.lists.specs.Part.Laws.{tail-part}
 use Rattle.layout.specs.Layout.{values_length, opened_length, work_length}
 use Rattle.layout.specs.Layout.Bounds.{siblings-fit}
 use Rattle.reader.specs.Message5.{aux_place, commitment_in, aux_in}
-use Rattle.reader.specs.Message5.Laws.{aux-inside, length-commitment_in, aux-short}
-use Rattle.reader.specs.Opening.Laws.{room-asked, siblings-taken, values-taken, rest-inside, rest-is}
+use Rattle.reader.proofs.Laws.Message5.{aux-inside, length-commitment_in, aux-short}
+use Rattle.reader.proofs.Laws.Opening.{room-asked, siblings-taken, values-taken, rest-inside, rest-is}
 use Rattle.openings.specs.Statement.Laws.{prefix-lent}
 use Rattle.openings.specs.Parts.Laws.{put-commitment, length-put-commitment}
 use Rattle.openings.specs.Checked.Laws.{checked-made}

@@ -11,16 +11,16 @@ use Rattle.shake256.specs.Fips.{SHAKE256}
 use Rattle.lists.specs.Part.{part}
 use Rattle.parameters.specs.declared.Parameters.{Parameters}
 use Rattle.layout.specs.Layout.{side, leaves, row_length, axis_length, message5_length}
-use Rattle.exchange.specs.Sequences.Laws.{joined-ext, length-joined, part-joined}
+use Rattle.exchange.proofs.Sequences.Laws.{joined-ext, length-joined, part-joined}
 use Rattle.exchange.specs.Strings.{string, string6, string7}
 use Rattle.exchange.specs.Values.{Key}
 use Rattle.exchange.specs.Parties.{announced_bytes, axis_string}
-use Rattle.exchange.specs.Parties.Laws.{length-announced_bytes}
+use Rattle.exchange.proofs.Parties.Laws.{length-announced_bytes}
 use Rattle.exchange.specs.Opening.{Exchange, opened_state, announced, response_string}
 use Rattle.leaves.specs.States.{state_at}
 use Rattle.leaves.specs.States.Seeds.{opened-states}
 use Rattle.axes.specs.RowStrings.{row_string, rows_string}
-use Rattle.reader.specs.Message5.Laws.{aux-inside}
+use Rattle.reader.proofs.Laws.Message5.{aux-inside}
 use Rattle.openings.specs.Opened.{opened_states, opened_row, opened_rows}
 
 pub opened-state : (p : Parameters) (e : Exchange) → e.leaf < leaves p → length e.message5 ≡ message5_length p e.leaf

@@ -15,11 +15,11 @@ use Rattle.lists.specs.Checks.Laws.{and_right}
 use Rattle.parameters.specs.declared.Parameters.{Parameters}
 use Rattle.parameters.specs.Limits.{Within}
 use Rattle.layout.specs.Layout.{side, leaves, values_length, siblings_length, message5_length}
-use Rattle.exchange.specs.Sequences.Laws.{joined-ext}
+use Rattle.exchange.proofs.Sequences.Laws.{joined-ext}
 use Rattle.exchange.specs.Leaf.{share}
 use Rattle.exchange.specs.Values.{Key}
 use Rattle.exchange.specs.Parties.{total, party_of}
-use Rattle.exchange.specs.Parties.Laws.{total_ext}
+use Rattle.exchange.proofs.Parties.Laws.{total_ext}
 use Rattle.exchange.specs.Opening.{Exchange, commitment_of, aux_of, opened_share, disclosed, commitment_string, response_string}
 use Rattle.leaves.specs.States.{state_at}
 use Rattle.leaves.specs.Commitments.Laws.{commitments-string}
@@ -28,7 +28,7 @@ use Rattle.parties.specs.Sums.Front.{Known, filled, party-filled}
 use Rattle.axes.specs.Announcing.{party_from, row_of}
 use Rattle.axes.specs.Announcing.Strings.{opened-row}
 use Rattle.reader.specs.Message5.{values_in, aux_in}
-use Rattle.reader.specs.Message5.Laws.{aux-short, no-aux}
+use Rattle.reader.proofs.Laws.Message5.{aux-short, no-aux}
 use Rattle.openings.specs.From.{digest_from, announced_from, response_from}
 use Rattle.openings.specs.Opened.{opened_states, opened_row, opened_rows}
 use Rattle.openings.specs.Opened.Laws.{opened-state, rows-string}

@@ -16,7 +16,7 @@ use Rattle.parameters.specs.declared.Parameters.{Parameters}
 use Rattle.layout.specs.Layout.{others, sum_count, sum_index, sums_length, digit, share_length}
 use Rattle.layout.specs.Layout.Laws.{index-lt, total-lt, sum_fits}
 use Rattle.exchange.specs.Sequences.{joined}
-use Rattle.exchange.specs.Sequences.Laws.{joined-ext, joined-parts}
+use Rattle.exchange.proofs.Sequences.Laws.{joined-ext, joined-parts}
 use Rattle.exchange.specs.Parties.{party_of}
 use Rattle.parties.specs.Blocks.{xor_at-joined}
 use Rattle.parties.specs.Sums.{axis_at, party_at, in_sum, sum_at, added_on, added_leaf}

@@ -21,7 +21,7 @@ use Rattle.parameters.specs.declared.Parameters.{Parameters}
 use Rattle.layout.specs.Layout.{side, others, sum_count, sum_index, sums_length, leaves, aux_length, share_length, at_x}
 use Rattle.layout.specs.Layout.Laws.{index-lt, side-others, total-lt, sum_fits}
 use Rattle.exchange.specs.Leaf.{share}
-use Rattle.exchange.specs.Leaf.Laws.{length-share-le}
+use Rattle.exchange.proofs.Leaf.Laws.{length-share-le}
 use Rattle.exchange.specs.Parties.{total, party_of}
 use Rattle.leaves.specs.States.{state_at}
 use Rattle.parties.specs.Blocks.{xor_at-zeros, xor_at-nil, xor_at-inner, part-added, part-kept}

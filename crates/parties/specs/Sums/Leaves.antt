@@ -14,9 +14,9 @@ use Rattle.lists.specs.Sum.{xor_list}
 use Rattle.parameters.specs.declared.Parameters.{Parameters}
 use Rattle.layout.specs.Layout.{sum_count, sums_length, leaves, share_length}
 use Rattle.exchange.specs.Sequences.{joined}
-use Rattle.exchange.specs.Sequences.Laws.{joined-ext, length-joined, part-joined, joined-zeros}
+use Rattle.exchange.proofs.Sequences.Laws.{joined-ext, length-joined, part-joined, joined-zeros}
 use Rattle.exchange.specs.Parties.{total}
-use Rattle.exchange.specs.Parties.Laws.{total-no, length-total}
+use Rattle.exchange.proofs.Parties.Laws.{total-no, length-total}
 use Rattle.parties.specs.Sums.{in_sum, disclosed_at, sum_at, added_leaf, party_sums}
 
 module _ (p : Parameters) (s : ℕ → List ℕ) (hidden : ℕ) where

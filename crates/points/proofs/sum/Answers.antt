@@ -2,7 +2,7 @@
 use Rattle.std.proofs.Common.{w8}
 use borrow.Author.Rules.{elem_Fits}
 use Rattle.tower.specs.Point.{four_sum}
-use Rattle.tower.specs.Point.Written.{four-path}
+use Rattle.tower.proofs.Point.Written.{four-path}
 use Rattle.points.specs.Written.{sum-bytes}
 use Rattle.points.specs.Multiples.Laws.{four_bytes}
 use Rattle.points.proofs.sum.Goals as goal

@@ -23,18 +23,18 @@ use Rattle.bytefield.specs.Product.Laws.{bytefield, ⊗-comm, ⊗-lt, one-⊗, z
 use Rattle.bytefield.specs.Byte.{byte, byte_ring}
 use Rattle.bytefield.specs.Byte.Laws.{byte-homomorphism}
 use Rattle.tower.specs.Point.{Quad, quad, four, lone, four_sum, four_times}
-use Rattle.tower.specs.Point.Steps.{byte-product}
-use Rattle.tower.specs.Point.Written.{plus₄, times₄, four-path}
+use Rattle.tower.proofs.Point.Steps.{byte-product}
+use Rattle.tower.proofs.Point.Written.{plus₄, times₄, four-path}
 use Rattle.tower.specs.Field.{Point, point, bytes_of, point_of}
-use Rattle.tower.specs.Field.Laws.{point-bytes_of}
-use Rattle.tower.specs.Field.Laws.{bytes_of-point, point-sum, point-times}
+use Rattle.tower.proofs.Field.Laws.{point-bytes_of}
+use Rattle.tower.proofs.Field.Laws.{bytes_of-point, point-sum, point-times}
 use Rattle.packed.specs.Word.{bytes, word, scaled}
 use Rattle.packed.specs.Word.Laws.{⊕-shl, first_byte, other-bytes}
 use Rattle.packed.specs.Table.{nibbles, multiples, picked}
 use Rattle.packed.specs.Table.Laws.{picked-multiples}
 use Rattle.polynomial.specs.Bytes.{Bytes}
 use Rattle.exchange.specs.Reading.{points, ◌⊞◌, ◌⊠◌}
-use Rattle.exchange.specs.Reading.Laws.{bytes-bytes_of}
+use Rattle.exchange.proofs.Reading.Laws.{bytes-bytes_of}
 use Rattle.points.specs.Written.{scalar, times-point, scalar-bytes}
 use Rattle.points.specs.Multiples.{word_of, by_x, by_z, multiples_of, Lower, Read, Multiplies}
 

@@ -32,7 +32,8 @@ use Rattle.algebra.specs.Polynomial.Maps.{map-eval, map-interpolate, map-product
 use Rattle.bytefield.specs.Product.{byte_ops}
 use Rattle.bytefield.specs.Product.Laws.{byte-linear, xor_list-plus}
 use Rattle.bytefield.specs.Inverse.{inverse}
-use Rattle.bytefield.specs.Byte.{Byte, byte, byte_ring, byte_field, byte_inverse}
+use Rattle.bytefield.specs.Byte.{Byte, byte, byte_ring, byte_inverse}
+use Rattle.bytefield.proofs.Laws.Field.{byte_field}
 use Rattle.bytefield.specs.Byte.Laws.{byte-zero}
 use Rattle.bytefield.specs.Byte.Laws.{byte_one, byte-inverse, byte-homomorphism}
 use Rattle.polynomial.specs.Bytes.{Bytes, in_field}

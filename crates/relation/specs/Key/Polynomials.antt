@@ -34,7 +34,8 @@ use Rattle.algebra.specs.Polynomial.Maps.{map-times, map-product, map-quotient, 
 use Rattle.bytefield.specs.Product.{byte_ops}
 use Rattle.bytefield.specs.Product.Laws.{⊗-lt}
 use Rattle.bytefield.specs.Inverse.{inverse}
-use Rattle.bytefield.specs.Byte.{Byte, byte, byte_ring, byte_field, byte_inverse}
+use Rattle.bytefield.specs.Byte.{Byte, byte, byte_ring, byte_inverse}
+use Rattle.bytefield.proofs.Laws.Field.{byte_field}
 use Rattle.bytefield.specs.Byte.Laws.{byte_one, byte-inverse, byte-homomorphism}
 use Rattle.polynomial.specs.Division.{over}
 use Rattle.polynomial.specs.Division.Exact.{over-times}

@@ -15,7 +15,7 @@ use Rattle.std.proofs.Math.Nat.{le_refl}
 use Rattle.std.proofs.Math.Decide.{ℕ_discrete}
 use native.Mathlib.Omega.{arith}
 use Rattle.exchange.specs.Sequences.{those}
-use Rattle.exchange.specs.Sequences.Laws.{those-append}
+use Rattle.exchange.proofs.Sequences.Laws.{those-append}
 use Rattle.runs.specs.Extractor.{gathered}
 
 -- ---- lists one after another

@@ -1,6 +1,6 @@
 -- All bytes of the slice are read.
 use Rattle.exchange.specs.Reading.{bytes_at}
-use Rattle.exchange.specs.Reading.Laws.{bytes_at-all}
+use Rattle.exchange.proofs.Reading.Laws.{bytes_at-all}
 use Rattle.seedtree.proofs.seed_of.Goals as goal
 
 pub returns : goal.returns

@@ -20,7 +20,7 @@ use Rattle.std.proofs.Math.ListN.{length, length-append, get_or-append}
 use Rattle.algebra.specs.Each.Laws.{each_from, each_at}
 use Rattle.lists.specs.Part.{part}
 use Rattle.exchange.specs.Tree.{children, left_seed, right_seed, leaf_seeds}
-use Rattle.exchange.specs.Tree.Laws.{length-leaf_seeds, length-left_seed, length-right_seed, length-leaf_seed}
+use Rattle.exchange.proofs.Tree.Laws.{length-leaf_seeds, length-left_seed, length-right_seed, length-leaf_seed}
 use Rattle.seedtree.specs.Laid.{slot, laid, Full}
 use Rattle.seedtree.specs.Laid.Laws.{slot-seed, full-slotted, length-laid, part-laid}
 use Rattle.seedtree.specs.Levels.{descended, grown}

@@ -10,7 +10,7 @@ use Rattle.lists.specs.Part.{part}
 use Rattle.lists.specs.Part.Laws.{part-whole}
 use Rattle.layout.specs.Maxima.{most_messages2}
 use Rattle.prover_phase.specs.Phases.{prover_phase_byte}
-use Rattle.prover_phase.specs.Phases.Laws.{phase-back}
+use Rattle.prover_phase.proofs.Laws.Phases.{phase-back}
 use Rattle.calls.specs.Prover.{Prover, fresh}
 use Rattle.parameters.specs.Set.{set_length, numbers_of, parameters_of}
 use Rattle.parameters.specs.Set.Laws.{length-numbers}

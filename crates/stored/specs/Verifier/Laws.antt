@@ -11,7 +11,7 @@ use Rattle.lists.specs.Part.{part}
 use Rattle.lists.specs.Part.Laws.{part-whole}
 use Rattle.layout.specs.Maxima.{most_runs, most_message1, most_messages2, most_messages3}
 use Rattle.verifier_phase.specs.Phases.{verifier_phase_byte}
-use Rattle.verifier_phase.specs.Phases.Laws.{phase-back}
+use Rattle.verifier_phase.proofs.Laws.Phases.{phase-back}
 use Rattle.calls.specs.Verifier.{Verifier, fresh}
 use Rattle.parameters.specs.Set.{set_length, numbers_of, parameters_of}
 use Rattle.parameters.specs.Set.Laws.{length-numbers}

@@ -23,8 +23,8 @@ use Rattle.exchange.specs.Run.{Run}
 use Rattle.exchange.specs.Strings.{string4, string5, string7}
 use Rattle.exchange.specs.Parties.{axis_string}
 use Rattle.exchange.specs.Messages.{own_state, own_aux, own_commitment, own_announced}
-use Rattle.exchange.specs.Messages.Opened.{honest, leaf_string-is, commitment_string-is}
-use Rattle.exchange.specs.Messages.Agreement.{axis_string-is, response_string-is}
+use Rattle.exchange.proofs.Messages.Opened.{honest, leaf_string-is, commitment_string-is}
+use Rattle.exchange.proofs.Messages.Agreement.{axis_string-is, response_string-is}
 use Rattle.exchange.specs.Opening.{Exchange}
 use Rattle.exchange.specs.Extractor.{string_at}
 use Rattle.runs.specs.Run.{run_at}

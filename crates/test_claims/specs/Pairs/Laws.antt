@@ -24,16 +24,16 @@ use Rattle.parameters.specs.Limits.{Within}
 use Rattle.polynomial.specs.Bytes.{Bytes}
 use Rattle.layout.specs.Layout.{leaves}
 use Rattle.layout.specs.Layout.Laws.{leaves-pos}
-use Rattle.exchange.specs.Sequences.Laws.{bytes-joined}
+use Rattle.exchange.proofs.Sequences.Laws.{bytes-joined}
 use Rattle.exchange.specs.Reading.{bytes_at, point_at}
 use Rattle.exchange.specs.Values.{point_of, multiplier_of}
-use Rattle.exchange.specs.Messages.Laws.{Secret, bytes-message5}
+use Rattle.exchange.proofs.Messages.Laws.{Secret, bytes-message5}
 use Rattle.runs.specs.Run.{run_at}
 use Rattle.runs.specs.Messages.{message2_at, leaf_at, message1, message5}
-use Rattle.runs.specs.Messages.Laws.{length-message1, length-message3, length-message5}
+use Rattle.runs.proofs.Messages.Laws.{length-message1, length-message3, length-message5}
 use Rattle.runs.specs.Opening.{Accepted}
 use Rattle.claims.specs.Words.{Sent}
-use Rattle.claims.specs.Completeness.Sample.{one-position}
+use Rattle.claims.proofs.Completeness.Sample.{one-position}
 use Rattle.claims.specs.Weight.{Pair, InBytes, In, Meets, MeetsTwice, Under}
 use Rattle.test_standin.specs.StandIn.{stand_in}
 use Rattle.test_standin.specs.Definitions.{definitions}

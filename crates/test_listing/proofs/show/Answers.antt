@@ -1,6 +1,6 @@
 -- The listing lies within the array that it was written to (`fits-room`).
 use Rattle.std.proofs.Common.{length-take-le, sym}
-use Rattle.keytext.specs.Finish.Laws.{fits-room}
+use Rattle.keytext.proofs.Laws.Finish.{fits-room}
 use Rattle.test_listing.proofs.show.Goals as goal
 
 pub slice_bounds-out-end : goal.slice_bounds-out-end

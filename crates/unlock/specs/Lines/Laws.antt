@@ -25,7 +25,7 @@ use Rattle.text.specs.Decimal.{decimal_text}
 use Rattle.keytext.specs.Form.{set_word}
 use Rattle.keytext.specs.Listing.{refused_word, result_line}
 use Rattle.keytext.specs.Listing.Laws.{Written, lines-written, length-decimal_text, written-whole}
-use Rattle.keytext.specs.Finish.Laws.{fits-room}
+use Rattle.keytext.proofs.Laws.Finish.{fits-room}
 use Rattle.unlock.specs.Lines.{runs_word, verdict_word, chance_word, power_text, chance_text, three_digits, number_text, number_field, number_fields}
 use Rattle.unlock.specs.Lines.{set_line, runs_line, message_line, verdict_line, chance_line}
 

@@ -10,11 +10,11 @@ use Rattle.algebra.specs.Ring.{Ring2}
 use Rattle.algebra.specs.Ring.Laws.{ring}
 use Rattle.bytefield.specs.Byte.{byte_ring}
 use Rattle.tower.specs.Field.{Point, point, bytes_of}
-use Rattle.tower.specs.Field.Laws.{point-bytes_of}
+use Rattle.tower.proofs.Field.Laws.{point-bytes_of}
 use Rattle.parameters.specs.declared.Parameters.{Parameters}
 use Rattle.layout.specs.Layout.{factor_length, values_length}
 use Rattle.exchange.specs.Reading.{points, point_at, encode, ◌⊞◌, ◌⊠◌, 𝟎}
-use Rattle.exchange.specs.Reading.Laws.{length-encode}
+use Rattle.exchange.proofs.Reading.Laws.{length-encode}
 use Rattle.exchange.specs.Values.{Key, a_of, b_of, alpha, beta, part_v}
 use Rattle.values.specs.Announced.{gamma, announced_of, v_of}
 

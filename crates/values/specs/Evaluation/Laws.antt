@@ -18,11 +18,11 @@ use Rattle.lists.specs.Blend.{blend}
 use Rattle.lists.specs.Blend.Laws.{blend-up, blend-late, blend-all}
 use Rattle.bytefield.specs.Byte.{byte_ring}
 use Rattle.tower.specs.Field.{Point, point, bytes_of}
-use Rattle.tower.specs.Field.Laws.{point-bytes_of}
+use Rattle.tower.proofs.Field.Laws.{point-bytes_of}
 use Rattle.packed.specs.Word.{word}
-use Rattle.exchange.specs.Sequences.Laws.{length-listed, get_d-listed, listed-ext}
+use Rattle.exchange.proofs.Sequences.Laws.{length-listed, get_d-listed, listed-ext}
 use Rattle.exchange.specs.Reading.{points, bytes_at, value, ◌⊞◌, ◌⊠◌, 𝟎}
-use Rattle.exchange.specs.Reading.Laws.{length-bytes_at, lone-homomorphism}
+use Rattle.exchange.proofs.Reading.Laws.{length-bytes_at, lone-homomorphism}
 use Rattle.points.specs.Written.{scalar, lone-bytes}
 use Rattle.points.specs.Multiples.{word_of}
 use Rattle.points.specs.Multiples.Laws.{word_of-sum}

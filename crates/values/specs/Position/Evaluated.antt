@@ -21,17 +21,17 @@ use Rattle.lists.specs.Part.Laws.{get_d_part, part-fits, part-append-left, tail-
 use Rattle.algebra.specs.Ring.{Ring2}
 use Rattle.algebra.specs.Ring.Laws.{ring}
 use Rattle.tower.specs.Field.{Point, point, bytes_of}
-use Rattle.tower.specs.Field.Laws.{point-bytes_of}
+use Rattle.tower.proofs.Field.Laws.{point-bytes_of}
 use Rattle.polynomial.specs.Interpolant.{vanishing_of}
 use Rattle.polynomial.specs.Interpolant.Laws.{length-vanishing, vanishing-monic}
 use Rattle.parameters.specs.declared.Parameters.{Parameters}
 use Rattle.layout.specs.Layout.{share_length, at_q, at_p}
 use Rattle.exchange.specs.Sequences.{joined}
-use Rattle.exchange.specs.Sequences.Laws.{get_d-listed, length-joined, part-joined}
+use Rattle.exchange.proofs.Sequences.Laws.{get_d-listed, length-joined, part-joined}
 use Rattle.exchange.specs.Reading.{points, bytes_at, value, ◌⊞◌, ◌⊠◌, 𝟎}
-use Rattle.exchange.specs.Reading.Laws.{length-bytes_at, bytes_at-ext, bytes_at-part, bytes_at-inside, lone-homomorphism}
+use Rattle.exchange.proofs.Reading.Laws.{length-bytes_at, bytes_at-ext, bytes_at-part, bytes_at-inside, lone-homomorphism}
 use Rattle.exchange.specs.Values.{Key, q_of, p_of, s_of, F, point_of}
-use Rattle.exchange.specs.Values.Laws.{length-s_of}
+use Rattle.exchange.proofs.Values.Laws.{length-s_of}
 use Rattle.coefficients.specs.Shares.{share_of}
 use Rattle.points.specs.Multiples.{word_of}
 use Rattle.points.specs.Multiples.Laws.{word_of-sum}

@@ -29,7 +29,7 @@ use Rattle.exchange.specs.Opening as run
 use Rattle.exchange.specs.Values.{Key, key_of}
 use Rattle.runs.specs.Messages.{message2_at}
 use Rattle.runs.specs.Opening.{Transcript, message1_at, message3_at, message5_at, exchange_at, lowest, verdict}
-use Rattle.runs.specs.Opening.Laws.{lowest-next, lowest-first, verdict-same}
+use Rattle.runs.proofs.Opening.Laws.{lowest-next, lowest-first, verdict-same}
 use Rattle.openings.specs.Statement.{statement_at, exchange_in}
 use Rattle.openings.specs.Statement.Laws.{exchange-in}
 use Rattle.calls.specs.Verifier as spec

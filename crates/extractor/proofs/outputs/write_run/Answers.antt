@@ -5,7 +5,7 @@ use Rattle.layout.specs.Layout.{opened_length}
 use Rattle.layout.specs.Layout.Laws.{is_last-last, is_last-false}
 use Rattle.layout.specs.Layout.Bounds.{opened-most}
 use Rattle.layout.specs.Maxima.{most_opened}
-use Rattle.reader.specs.Message5.Laws.{all-aux}
+use Rattle.reader.proofs.Laws.Message5.{all-aux}
 use Rattle.extractor.specs.Pairs.{length-message, aux-before}
 use Rattle.extractor.specs.Recall.Laws.{aux-lent}
 use Rattle.extractor.specs.Outputs.{part_from}

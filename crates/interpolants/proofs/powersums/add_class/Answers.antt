@@ -1,5 +1,5 @@
 -- The first stage leaves the sums over the class in c, which was zero, and the second takes them from there (`class_of`).
-use Rattle.interpolants.specs.Classes.Laws.{class_of}
+use Rattle.interpolants.proofs.Laws.Classes.{class_of}
 use Rattle.interpolants.proofs.powersums.add_class.Goals as goal
 
 pub returns : goal.returns

@@ -1,7 +1,7 @@
 -- Where the byte has an entry, the logarithm is that of its scale (`scaled_by-at`); past the end nothing is added (`scaled_by-none`).
 use Rattle.std.proofs.Common.{arith, ◌-◌, ◌<◌, ◌∙◌}
 use Rattle.interpolants.specs.Added.{added_none, added-ext, spaced-one}
-use Rattle.interpolants.specs.Classes.Laws.{power_pos, scaled_by-at, scaled_by-none}
+use Rattle.interpolants.proofs.Laws.Classes.{power_pos, scaled_by-at, scaled_by-none}
 use Rattle.interpolants.proofs.powersums.add_entry.Goals as goal
 use Rattle.interpolants.proofs.powersums.add_entry.Goals.{After-power_of-f}
 

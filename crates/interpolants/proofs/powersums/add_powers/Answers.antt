@@ -3,7 +3,7 @@ use Rattle.lists.specs.Xor.{◌⊕◌}
 use Rattle.bytefield.specs.Powers.{power}
 use Rattle.packed.specs.Word.{scaled}
 use Rattle.interpolants.specs.Added.{added-first, added_next, added-at}
-use Rattle.interpolants.specs.Classes.Laws.{power-next}
+use Rattle.interpolants.proofs.Laws.Classes.{power-next}
 use Rattle.interpolants.proofs.powersums.add_powers.Goals as goal
 use Rattle.interpolants.proofs.powersums.add_powers.Goals.{In-loop-j}
 

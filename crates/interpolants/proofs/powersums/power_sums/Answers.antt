@@ -1,6 +1,6 @@
 use Rattle.std.proofs.Common.{arith, rules, ◌≡◌}
 use Rattle.interpolants.specs.Added.{added-first, added_next}
-use Rattle.interpolants.specs.Classes.Laws.{power-sums-of}
+use Rattle.interpolants.proofs.Laws.Classes.{power-sums-of}
 use Rattle.interpolants.proofs.powersums.power_sums.Goals as goal
 
 pub loop-class-init : goal.loop-class-init

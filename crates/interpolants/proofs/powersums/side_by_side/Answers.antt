@@ -3,7 +3,7 @@ use Rattle.cube.specs.Sum.{sum}
 use Rattle.lists.specs.Xor.{◌⊕◌}
 use Rattle.lists.specs.Part.Laws.{part-fits}
 use Rattle.packed.specs.Share.{placed}
-use Rattle.interpolants.specs.Words.Laws.{words-at}
+use Rattle.interpolants.proofs.Laws.Words.{words-at}
 use Rattle.interpolants.proofs.powersums.side_by_side.Goals as goal
 use Rattle.interpolants.proofs.powersums.side_by_side.Goals.{In-loop-i}
 

@@ -1,5 +1,5 @@
 -- One return for each place (`byte_past` and the laws beside it).
-use Rattle.keytext.specs.Scan.Steps.{byte_past, byte_word, byte-number, byte-matrix, byte-y, byte-x_a}
+use Rattle.keytext.proofs.Laws.Scan.Steps.{byte_past, byte_word, byte-number, byte-matrix, byte-y, byte-x_a}
 use Rattle.keytext.proofs.KeyScan.byte.Goals as goal
 
 pub returns-then-self-gt3 : goal.returns-then-self-gt3

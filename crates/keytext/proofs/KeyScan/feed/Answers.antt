@@ -1,7 +1,7 @@
 use Rattle.std.proofs.Common.{List, [], ap, arith, drop, drop_of_length-le, refl, sym, ℕ, ◌∙◌, ◌≡◌}
 use Rattle.text.specs.Fold.{fold}
 use Rattle.keytext.specs.Scan.{held, step}
-use Rattle.keytext.specs.Scan.Steps.{fold_more}
+use Rattle.keytext.proofs.Laws.Scan.Steps.{fold_more}
 use Rattle.keytext.proofs.KeyScan.feed.Goals as goal
 
 pub loop-i-init : goal.loop-i-init

@@ -1,5 +1,5 @@
 -- One return for each kind of byte (`step_line`, `step_field`, `step-byte`).
-use Rattle.keytext.specs.Scan.Steps.{step_line, step_field, step-byte}
+use Rattle.keytext.proofs.Laws.Scan.Steps.{step_line, step_field, step-byte}
 use Rattle.keytext.proofs.KeyScan.step.Goals as goal
 
 pub returns-then-b-eq10 : goal.returns-then-b-eq10

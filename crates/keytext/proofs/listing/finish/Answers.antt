@@ -4,7 +4,7 @@ use Rattle.parameters.specs.Limits.{Within}
 use Rattle.relation.specs.Key.{vector_of}
 use Rattle.keytext.specs.Finish.{weighed}
 use Rattle.keytext.specs.Listing.Laws.{written-whole}
-use Rattle.keytext.specs.Finish.Laws.{Read, read_done, read-within, read_held, finish-refused, finish-weighed}
+use Rattle.keytext.proofs.Laws.Finish.{Read, read_done, read-within, read_held, finish-refused, finish-weighed}
 use Rattle.keytext.proofs.listing.finish.Goals as goal
 use Rattle.keytext.proofs.listing.finish.Goals.{After-parameters_of-p, After-y_length-rows}
 

@@ -5,7 +5,7 @@ use Rattle.layout.specs.Maxima.{most_matrix, longest_y}
 use Rattle.text.specs.Fold.{fold}
 use Rattle.keytext.specs.declared.KeyScan.{KeyScan}
 use Rattle.keytext.specs.Scan.{held, step}
-use Rattle.keytext.specs.Finish.Laws.{finished, finish-listing, room}
+use Rattle.keytext.proofs.Laws.Finish.{finished, finish-listing, room}
 use Rattle.keytext.proofs.listing.listing.Goals as goal
 
 pub returns : goal.returns

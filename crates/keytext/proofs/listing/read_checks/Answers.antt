@@ -3,7 +3,7 @@ use Rattle.std.proofs.Common.{sym, true, ◌∙◌, ◌≡◌}
 use Rattle.parameters.specs.Limits.{within_limits}
 use Rattle.parameters.specs.Limits.Laws.{test-within}
 use Rattle.keytext.specs.Scan.{complete}
-use Rattle.keytext.specs.Finish.Laws.{read-malformed, read-parameter, read_length, read-passed}
+use Rattle.keytext.proofs.Laws.Finish.{read-malformed, read-parameter, read_length, read-passed}
 use Rattle.keytext.proofs.listing.read_checks.Goals as goal
 use Rattle.keytext.proofs.listing.read_checks.Goals.{Else-not-complete, Else-not-within_limits}
 

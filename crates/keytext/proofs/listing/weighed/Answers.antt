@@ -1,6 +1,6 @@
 -- The check 3 decides between the refusal and the five lines (`weighed-heavy`, `weighed-light`).
 use Rattle.std.proofs.Common.{arith, leb-true, sym, ◌∙◌}
-use Rattle.keytext.specs.Finish.Laws.{weighed-light, weighed-heavy}
+use Rattle.keytext.proofs.Laws.Finish.{weighed-light, weighed-heavy}
 use Rattle.keytext.proofs.listing.weighed.Goals as goal
 
 pub returns-then-not-within_weight : goal.returns-then-not-within_weight

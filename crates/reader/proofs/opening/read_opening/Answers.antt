@@ -1,6 +1,6 @@
 -- The fronts of siblings and values are lent, and what the parts become is what message 5 holds (`Opening/Laws`).
 use Rattle.std.proofs.Common.{arith, sym}
-use Rattle.reader.specs.Opening.Laws.{seeds-length, points-length, siblings-read, commitment-read, values-read, left-read}
+use Rattle.reader.proofs.Laws.Opening.{seeds-length, points-length, siblings-read, commitment-read, values-read, left-read}
 use Rattle.reader.proofs.opening.read_opening.Goals as goal
 
 pub slice_bounds-read_parts-end : goal.slice_bounds-read_parts-end

@@ -2,7 +2,7 @@
 use Rattle.std.proofs.Common.{List, subst, sym, length, ℕ, ◌≤◌, ◌≡◌, Bor, arith}
 use Rattle.reader.specs.declared.Reader.{Reader}
 use Rattle.reader.specs.Taken.{behind}
-use Rattle.reader.specs.Taken.Laws.{behind-inside}
+use Rattle.reader.proofs.Laws.Taken.{behind-inside}
 use Rattle.reader.proofs.opening.read_parts.Goals as goal
 
 inside : (d e : Reader) (out : List ℕ) → d.at ≤ length d.message.now → e.message ≡ d.message → e.at ≡ behind d.message.now d.at out

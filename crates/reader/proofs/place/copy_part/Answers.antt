@@ -2,7 +2,7 @@
 use Rattle.std.proofs.Common.{ap, length, ℕ, ◌+◌, ◌∙◌}
 use Rattle.lists.specs.Part.{put_at}
 use Rattle.reader.specs.Taken.{taken}
-use Rattle.reader.specs.Taken.Laws.{part-lesser, behind-lesser}
+use Rattle.reader.proofs.Laws.Taken.{part-lesser, behind-lesser}
 use Rattle.reader.proofs.place.copy_part.Goals as goal
 
 pub returns : goal.returns

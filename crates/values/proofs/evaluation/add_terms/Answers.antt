@@ -2,7 +2,7 @@ use Rattle.std.proofs.Common.{ap, arith, inl, inr, length, length-set, refl, rul
 use Rattle.lists.specs.Xor.{◌⊕◌}
 use Rattle.lists.specs.Blend.Laws.{blend-none}
 use Rattle.tower.specs.Field.{point}
-use Rattle.tower.specs.Field.Laws.{point-bytes_of}
+use Rattle.tower.proofs.Field.Laws.{point-bytes_of}
 use Rattle.points.specs.Multiples.{word_of}
 use Rattle.values.specs.Evaluation.Laws.{place-small, place_inside, terms-turn, terms-end}
 use Rattle.values.proofs.evaluation.add_terms.Goals as goal

@@ -1,7 +1,7 @@
 -- The words have room for fifteen shares and F. They become the values at r, so that each share announces what it should.
 use Rattle.std.proofs.Common.{List, ap, arith, drop, length, replicate, rules, subst, sym, take, take_at, ℕ, ◌*◌, ◌++◌, ◌+◌, ◌∙◌, ◌≡◌, ◌≤◌}
 use Rattle.tower.specs.Field.{point, bytes_of}
-use Rattle.tower.specs.Field.Laws.{point-bytes_of}
+use Rattle.tower.proofs.Field.Laws.{point-bytes_of}
 use Rattle.exchange.specs.Reading.{point_at}
 use Rattle.exchange.specs.Values.{point_of, multiplier_of}
 use Rattle.points.specs.Multiples.{multiples_of}

@@ -1,7 +1,7 @@
 -- The table becomes that of ε, by which α and β are written and ε·F(r) is made, and then that of ε·F(r), by which γ is.
 use Rattle.std.proofs.Common.{ap, arith, ◌∙◌}
 use Rattle.tower.specs.Field.{point}
-use Rattle.tower.specs.Field.Laws.{point-bytes_of}
+use Rattle.tower.proofs.Field.Laws.{point-bytes_of}
 use Rattle.points.specs.Multiples.{multiples_of}
 use Rattle.values.specs.Position.{gamma_of}
 use Rattle.values.specs.Position.Evaluated.{factor-made}

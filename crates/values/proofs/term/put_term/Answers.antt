@@ -2,7 +2,7 @@
 use Rattle.std.proofs.Common.{ap, ◌∙◌}
 use Rattle.lists.specs.Part.{put_at}
 use Rattle.tower.specs.Field.{Point, point, bytes_of}
-use Rattle.tower.specs.Field.Laws.{point-bytes_of}
+use Rattle.tower.proofs.Field.Laws.{point-bytes_of}
 use Rattle.packed.specs.Word.{bytes}
 use Rattle.exchange.specs.Reading.{points, ◌⊠◌}
 use Rattle.points.specs.Multiples.Laws.{bytes-word_of}

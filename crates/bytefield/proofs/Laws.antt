@@ -1,0 +1,4 @@
+-- The laws that rest on the tables.
+pub mod Powers
+pub mod Inverse
+pub mod Field

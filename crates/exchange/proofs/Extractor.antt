@@ -1,0 +1,2 @@
+-- The laws about Extractor.
+pub mod Laws

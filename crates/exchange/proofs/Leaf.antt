@@ -1,0 +1,2 @@
+-- The laws about Leaf.
+pub mod Laws

@@ -1,0 +1,11 @@
+pub mod Announcing
+pub mod Extractor
+pub mod FirstAxis
+pub mod Leaf
+pub mod Messages
+pub mod Opening
+pub mod Parties
+pub mod Reading
+pub mod Sequences
+pub mod Tree
+pub mod Values

@@ -1,0 +1,3 @@
+-- The laws about Opening.
+pub mod Cube
+pub mod Laws

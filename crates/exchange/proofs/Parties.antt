@@ -1,0 +1,3 @@
+-- The laws about Parties.
+pub mod Cube
+pub mod Laws

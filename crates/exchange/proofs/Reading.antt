@@ -1,0 +1,2 @@
+-- The laws about Reading.
+pub mod Laws

@@ -1,0 +1,2 @@
+-- The laws about Sequences.
+pub mod Laws

@@ -1,0 +1,2 @@
+-- The laws about Tree.
+pub mod Laws

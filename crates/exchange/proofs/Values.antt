@@ -1,0 +1,3 @@
+-- The laws about Values.
+pub mod Laws
+pub mod Relation

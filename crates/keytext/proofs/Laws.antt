@@ -1,0 +1,3 @@
+-- The laws about the definitions of specs/.
+pub mod Finish
+pub mod Scan

@@ -1,0 +1,3 @@
+-- The laws about the definitions of specs/.
+pub mod Distance
+pub mod Phases

@@ -1,0 +1,3 @@
+-- The laws about Extractor.
+pub mod Laws
+pub mod Output

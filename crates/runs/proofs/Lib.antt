@@ -1,0 +1,4 @@
+pub mod Extractor
+pub mod Messages
+pub mod Opening
+pub mod Points

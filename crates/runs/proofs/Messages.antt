@@ -1,0 +1,2 @@
+-- The laws about Messages.
+pub mod Laws

@@ -1,0 +1,2 @@
+-- The laws about Opening.
+pub mod Laws

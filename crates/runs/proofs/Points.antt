@@ -1,0 +1,2 @@
+-- The laws about Points.
+pub mod Laws

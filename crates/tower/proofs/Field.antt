@@ -1,0 +1,2 @@
+-- The laws about Field.
+pub mod Laws
