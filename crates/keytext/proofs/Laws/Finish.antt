@@ -116,6 +116,13 @@ module _ (t m y x : List ℕ) (hm : most_matrix ≤ length m) (hy : longest_y �
           front x (field_at t 3 1) p.k x_a-fits (x_a-hex t form) (and_right (A && B) C e),
         )
 
+  read-listing : finish_of (fresh 4 0 true k).scan k.matrix k.y k.x_a ≡ listing_of t
+  unfolding finish_of listing_of key_checks complete
+  read-listing =
+      rw form
+      (same-printed p.w refl (λ e. lengths-agree (test-within p e))
+      (λ e f. let v = vector-agrees (test-within p e) f in (ap (λ (z : List ℕ). leb (weight_of z) p.w) v, v)))
+
 pub finish-malformed : (s : KeyScan) (m y x : List ℕ) → complete s ≡ false → finish_of s m y x ≡ refused_line Malformed
 unfolding finish_of
 finish-malformed s m y x e = rw e
@@ -128,20 +135,10 @@ abbrev pub finished : Held → List ℕ
 finished h = finish_of h.scan h.matrix h.y h.x_a
 
 pub finish-listing : (t m y x : List ℕ) → most_matrix ≤ length m → longest_y ≤ length y → longest_y ≤ length x → finished (fold step (held start m y x) t) ≡ listing_of t
-unfolding finish_of listing_of key_checks complete
 finish-listing t m y x hm hy hx = go (has_form key_form t) refl
   where
     go : (b : Bool) → has_form key_form t ≡ b → finished (fold step (held start m y x) t) ≡ listing_of t
-    go true f =
-        let p : Parameters = parameters_in t in
-        let k : Kept = key_read t m y x in
-        let r : finish_of (fresh 4 0 true k).scan k.matrix k.y k.x_a ≡ listing_of t =
-        rw f
-        (same-printed p.w refl (λ e. lengths-agree t m y x hm hy hx f (test-within p e))
-        (λ e g.
-        let v = vector-agrees t m y x hm hy hx f (test-within p e) g in
-        (ap (λ (z : List ℕ). leb (weight_of z) p.w) v, v))) in
-        ap finished (key-read t m y x f) ∙ r
+    go true f = ap finished (key-read t m y x f) ∙ read-listing t m y x hm hy hx f
     go false f =
         let k : Kept = record { numbers = start.numbers; lengths = start.lengths; matrix = m; y = y; x_a = x } in
         let h : Held = fold step (held start m y x) t in
