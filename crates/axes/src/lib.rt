@@ -1,4 +1,6 @@
 // What the parties of every axis announce (document 01, 'Parties'), for prover and verifier alike.
+#![tactic(auto)]
+
 mod axis;
 pub mod digests;
 mod hidden;

@@ -1,4 +1,6 @@
 // The product of bytes for a C program that times it.
+#![tactic(auto)]
+
 pub mod products;
 
 ghost use Rattle.std.specs.Prelude.{◌≡◌};

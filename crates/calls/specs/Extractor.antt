@@ -31,7 +31,6 @@ use Rattle.runs.specs.Opening.{Transcript, verdict}
 use Rattle.runs.specs.Extractor.{Finding, unequal, states, extract}
 use Rattle.calls.specs.Lengths.{key_lengths, leaves_below}
 pub mod Expected
-pub mod Told
 
 pub data Answer : Type 0 where
   refused : ℕ → Answer

@@ -12,7 +12,6 @@ use Rattle.exchange.specs.Sequences.{least}
 use Rattle.exchange.specs.Values.{Key}
 use Rattle.exchange.specs.Opening.{Exchange, commitment_string, response_string}
 use Rattle.runs.specs.Opening.{Transcript, exchange_at}
-pub mod Laws
 
 module _ (hash : List ℕ → ℕ → List ℕ) (p : Parameters) where
   unfoldable pub digest_differs : Exchange → Bool

@@ -12,7 +12,6 @@ use Rattle.parameters.specs.declared.Parameters.{Parameters}
 use Rattle.layout.specs.Layout.{leaves, work_length, y_length, matrix_length}
 use Rattle.layout.specs.Runs.{message1_length, messages2_length, messages3_length, messages5_length}
 use Rattle.exchange.specs.Values.{Key}
-pub mod Laws
 
 abbrev pub key_lengths : Parameters → Key → List ℕ → List Bool
 key_lengths p key work =

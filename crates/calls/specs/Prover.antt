@@ -39,11 +39,8 @@ use Rattle.prover_phase.specs.declared.Phase.TheVariants.{Fresh, Begun, Answered
 use Rattle.calls.specs.Lengths.{begin_lengths, points_lengths, leaf_lengths, leaves_below}
 pub use Rattle.prover_phase.specs.Phases.{is_fresh, is_begun, is_answered, is_closed}
 pub mod History
-pub mod Settled
 pub mod Checked
 pub mod AnySession
-pub mod Reached
-pub mod Told
 pub mod Runs
 
 -- ---- what a session holds

@@ -35,9 +35,7 @@ use Rattle.calls.specs.Lengths.{opening_lengths, leaves_below}
 pub use Rattle.verifier_phase.specs.Phases.{step}
 pub mod History
 pub mod Since
-pub mod Kept
 pub mod Reached
-pub mod Told
 pub mod Runs
 
 -- ---- what a session holds

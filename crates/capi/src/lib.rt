@@ -1,6 +1,8 @@
 // The C interface: functions on numbers and slices. A slice passes as its address and its length; a session lives in a buffer
 // that the caller lends, the parameters are the numbers of a set. Arguments go in the order session, set, inputs, matrix, y, work
 // area, output.
+#![tactic(auto)]
+
 mod extracting;
 mod fresh;
 mod misfit;

@@ -1,4 +1,6 @@
 // Message 2, the challenge: do the points of each run differ pairwise (document 02, request 02)?
+#![tactic(auto)]
+
 ghost use Rattle.std.specs.Prelude.{◌≡◌, ◌+◌, ◌*◌, ◌≤◌, length};
 ghost use Rattle.lists.specs.Equal.{eq_list};
 ghost use Rattle.parameters.specs.Limits.{Within};

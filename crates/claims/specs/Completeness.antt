@@ -33,9 +33,6 @@ use Rattle.calls.specs.Prover.History.{Begin, Call, after, Made, made, last_begi
 use Rattle.calls.specs.Verifier as verifier
 use Rattle.calls.specs.Verifier.{Verifier}
 use Rattle.claims.specs.Words.{Lent}
-pub mod Reached
-pub mod Sessions
-pub mod Calls
 pub mod Sample
 
 -- ---- what is given

@@ -7,12 +7,11 @@
 -- Verifier      the verifier's calls likewise
 -- Extractor     the extractor's call
 -- Demand1       all of it
--- demand1       it holds
 use Rattle.std.specs.Prelude.{◌≡◌, true, false, List, ◌++◌, ◌∷◌, ◌↔◌, ℕ, ◌≤◌, eqb}
 use Rattle.lists.specs.Zeroed.{zeroed}
 use Rattle.shake256.specs.Fips.{SHAKE256}
 use Rattle.answers.specs.Order.{Conditions, order, holds, answer_of}
-use Rattle.answers.specs.Order.Laws.{none_of, First, answer-carried, answer-first}
+use Rattle.answers.specs.Order.Laws.{none_of, First}
 use Rattle.parameters.specs.declared.Parameters.{Parameters}
 use Rattle.layout.specs.Layout.{work_length}
 use Rattle.exchange.specs.Values.{Key}
@@ -21,21 +20,14 @@ use Rattle.calls.specs.Held.{is_some}
 use Rattle.calls.specs.Judging.{judged}
 use Rattle.calls.specs.Prover as prover
 use Rattle.calls.specs.Prover.History as prover_history
-use Rattle.calls.specs.Prover.Settled as prover_settled
-use Rattle.calls.specs.Prover.Reached as prover_reached
-use Rattle.calls.specs.Prover.Told as prover_told
 use Rattle.calls.specs.Prover.Checked as prover_checked
 use Rattle.calls.specs.Prover.Runs as prover_runs
 use Rattle.calls.specs.Prover.AnySession as prover_any
 use Rattle.calls.specs.Verifier as verifier
 use Rattle.calls.specs.Verifier.History as verifier_history
 use Rattle.calls.specs.Verifier.Since.{counted}
-use Rattle.calls.specs.Verifier.Reached.Laws as verifier_reached
-use Rattle.calls.specs.Verifier.Told as verifier_told
-use Rattle.calls.specs.Verifier.Kept as verifier_kept
 use Rattle.calls.specs.Extractor as extractor
 use Rattle.calls.specs.Extractor.Expected as extractor_expected
-use Rattle.calls.specs.Extractor.Told as extractor_told
 
 pub record ByTheOrder : Type 0 where
   pub carried-out : (cs : Conditions) → answer_of cs ≡ 0 ↔ none_of order (holds cs) ≡ true
@@ -117,41 +109,3 @@ pub record Demand1 : Type 0 where
   pub prover : Prover SHAKE256
   pub verifier : Verifier SHAKE256
   pub extractor : Extractor SHAKE256
-
-module _ (hash : List ℕ → ℕ → List ℕ) where
-  prover-conduct : Prover hash
-  prover-conduct = record {
-    told = prover_told.told-by-calls hash;
-    refused = prover_settled.refused-same hash;
-    one-response-and-one-opening = prover_any.at_most_one hash;
-    points = λ cs m2 key work out. (prover_runs.points-carried hash cs m2 key work out, prover_runs.points-due-after-begin hash cs m2 key work out);
-    leaf = λ cs is key work out. (prover_runs.leaf-carried hash cs is key work out, prover_runs.leaf-due-after-points hash cs is key work out);
-    begin = λ cs b work out. (prover_runs.begin-carried hash cs b work out, prover_runs.begin-due-always hash cs b work out);
-    repeated = prover_runs.repeated-exactly hash;
-    begin-between = prover_runs.begin-between hash;
-    begin-due = prover_any.begin-due hash;
-    guard-idle = prover_reached.guard-idle hash;
-    damaged-closed = prover_any.damaged-closed hash;
-    damaged-repeats = prover_any.held-repeats hash;
-  }
-
-  verifier-conduct : Verifier hash
-  verifier-conduct = record {
-    told = verifier_told.told-by-calls hash;
-    refused = verifier_kept.refused-same hash;
-    closes = verifier_kept.judged-ended hash;
-    begin-due = verifier_kept.begin-due hash;
-    guard-idle = verifier_reached.guard-idle hash;
-    damaged-closed = verifier_kept.damaged-shut hash;
-  }
-
-  extractor-conduct : Extractor hash
-  extractor-conduct = record { told = extractor_told.told hash; number = extractor_told.number-told hash }
-
-pub demand1 : Demand1
-demand1 = record {
-  by-the-order = record { carried-out = answer-carried; first = answer-first };
-  prover = prover-conduct SHAKE256;
-  verifier = verifier-conduct SHAKE256;
-  extractor = extractor-conduct SHAKE256;
-}

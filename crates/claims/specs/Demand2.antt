@@ -8,19 +8,14 @@
 -- AcceptedExactly   after any calls from a fresh session the verifier accepts an opening exactly when since the last begin carried out points,
 --                   response and leaf were, in this order and nothing else, and document 01's three checks hold of every run of their messages
 -- Demand2           these, the checks on any session, and the clause on valid keys, whose points are distinct
--- demand2           they hold
 use Rattle.std.specs.Prelude.{◌≡◌, List, ◌↔◌, ℕ}
-use Rattle.std.proofs.Common.{ap, sym, ◌∙◌}
 use Rattle.shake256.specs.Fips.{SHAKE256}
-use Rattle.shake256.proofs.Laws.{length-SHAKE256}
 use Rattle.exchange.specs.Values.{Key}
 use Rattle.calls.specs.Prover.History as prover
-use Rattle.calls.specs.Prover.Told.{told-by-calls, number-told}
 use Rattle.calls.specs.Verifier.History as verifier
 use Rattle.calls.specs.Verifier.Runs as runs
-use Rattle.claims.specs.Acceptance.{AcceptsExactly, accepts-exactly}
+use Rattle.claims.specs.Acceptance.{AcceptsExactly}
 use Rattle.claims.specs.Completeness.{Complete}
-use Rattle.claims.specs.Completeness.Calls.{completeness}
 
 abbrev pub MessagesDefined : (List ℕ → ℕ → List ℕ) → Type 0
 MessagesDefined hash = (cs : List prover.Call) (c : prover.Call) → (prover.outcome hash (prover.after hash cs) c).answer ≡ 0
@@ -35,15 +30,3 @@ pub record Demand2 : Type 0 where
   pub accepts-exactly-after-calls : AcceptedExactly SHAKE256
   pub accepts-exactly-when-checks-hold : AcceptsExactly SHAKE256
   pub valid-key-leads-to-acceptance : Complete SHAKE256
-
-messages-defined : (hash : List ℕ → ℕ → List ℕ) → MessagesDefined hash
-unfolding prover.expected
-messages-defined hash cs c e = ap (λ (o : prover.Seen). o.out) (told-by-calls hash cs c) ∙ rw (sym (number-told hash cs c) ∙ e)
-
-pub demand2 : Demand2
-demand2 = record {
-  messages-as-defined = messages-defined SHAKE256;
-  accepts-exactly-after-calls = runs.accepted-exactly SHAKE256;
-  accepts-exactly-when-checks-hold = accepts-exactly SHAKE256;
-  valid-key-leads-to-acceptance = completeness SHAKE256 length-SHAKE256;
-}

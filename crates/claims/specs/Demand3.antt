@@ -9,25 +9,20 @@
 -- demand 3 are then about exchanges with distinct points' (request 02): both halves are, by what makes two openings comparable.
 --
 -- Demand3       the demand
--- demand-3      it holds
 use Rattle.std.specs.Prelude.{◌≡◌, List, ℕ, ◌≤◌, length}
 use Rattle.algebra.specs.Each.{Each}
 use Rattle.tower.specs.Field.{Point}
 use Rattle.shake256.specs.Fips.{SHAKE256}
-use Rattle.shake256.proofs.Laws.{length-SHAKE256, SHAKE256-byte}
 use Rattle.parameters.specs.declared.Parameters.{Parameters}
 use Rattle.parameters.specs.Limits.{Within}
 use Rattle.polynomial.specs.Bytes.{Bytes}
-use Rattle.polynomial.specs.Bytes.Laws.{bytes-from}
 use Rattle.layout.specs.Layout.{work_length}
 use Rattle.layout.specs.Runs.{outputs_length}
 use Rattle.exchange.specs.Values.{Key}
 use Rattle.runs.specs.Opening.{Transcript}
 use Rattle.claims.specs.Words.{Comparable}
 use Rattle.claims.specs.Extraction.{Extracts}
-use Rattle.claims.specs.Extraction.Proof.{extracts}
 use Rattle.claims.specs.Weight.{Pair, InBytes, Meeting, OneLightX}
-use Rattle.claims.specs.Weight.Proof.{weight-claim}
 
 pub record Demand3 : Type 0 where
   -- two openings
@@ -38,13 +33,3 @@ pub record Demand3 : Type 0 where
   pub weight : (p : Parameters) (runs : ℕ) (key : Key) (e : ℕ) (salt h : List ℕ) (qs : List Pair) (l : ℕ) (rs : List Point)
       → Within p → Bytes key.y → Each InBytes qs → Meeting SHAKE256 p runs key e salt h qs l rs
       → OneLightX SHAKE256 p runs key e qs
-
-bytes-SHAKE256 : (s : List ℕ) (n : ℕ) → Bytes (SHAKE256 s n)
-bytes-SHAKE256 s n = bytes-from (SHAKE256 s n) (SHAKE256-byte s n)
-
-pub demand-3 : Demand3
-demand-3 = record {
-  extraction = λ p runs key t t' c work out wl ol. extracts SHAKE256 length-SHAKE256 p runs key t t' work out c wl ol;
-  weight = λ p runs key e salt h qs l rs within y-bytes sent m.
-      weight-claim SHAKE256 length-SHAKE256 p runs key e salt h qs l rs within m bytes-SHAKE256 y-bytes sent;
-}

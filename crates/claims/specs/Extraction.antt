@@ -18,14 +18,6 @@ use Rattle.runs.specs.Opening.{Transcript, exchange_at}
 use Rattle.runs.specs.Extractor.{compared}
 use Rattle.calls.specs.Extractor.{refused, pair, filled, Outcome, extraction}
 use Rattle.claims.specs.Words.{Apart, run_part, At, Same, Clash, States}
-pub mod Sums
-pub mod Strings
-pub mod Leaves
-pub mod Relation
-pub mod Compared
-pub mod Output
-pub mod Runs
-pub mod Proof
 
 module _ (hash : List ℕ → ℕ → List ℕ) (p : Parameters) (runs : ℕ) (key : Key) (t t' : Transcript) where
   pub record Filled (out : List ℕ) (o : Outcome) : Type 0 where

@@ -1,4 +1,3 @@
-pub mod Verifier
 pub mod Demand1
 pub mod Words
 pub mod Extraction

@@ -33,7 +33,6 @@ use Rattle.calls.specs.Verifier.{Verifier}
 use Rattle.calls.specs.Verifier.History as history
 use Rattle.calls.specs.Verifier.Runs.{AcceptedAfter}
 use Rattle.calls.specs.Extractor.{number_of, extract_lengths, extraction}
-pub mod Proof
 
 pub record DifferPairwise (hash : List ℕ → ℕ → List ℕ) : Type 0 where
   pub at-prover : (s : Prover) (m2 : List ℕ) (key : Key) (work out : List ℕ) → (prover.points hash s m2 key work out).answer ≡ 0

@@ -44,10 +44,6 @@ use Rattle.runs.specs.Opening.{Transcript, exchange_at}
 use Rattle.runs.specs.Extractor.{differs}
 use Rattle.calls.specs.Extractor.{pair, filled, Outcome, extraction}
 use Rattle.claims.specs.Words.{Apart, Comparable, run_part, leaf_share, x_sum, States}
-pub mod Light
-pub mod Common
-pub mod Core
-pub mod Proof
 
 pub record Pair : Type 0 where
   pub one : Transcript

@@ -1,4 +1,6 @@
 // S of several shares, eight at a time, and F: the vectors x stand side by side in words (crate packed).
+#![tactic(auto)]
+
 pub mod sidebyside;
 
 ghost use Rattle.std.specs.Prelude.{◌≡◌, ◌++◌, ◌+◌, ◌*◌, ◌<◌, ◌≤◌, length, take};

@@ -1,5 +1,7 @@
 // The extractor: from two accepted openings of one commitment, two unequal strings hashed to one digest, or every leaf's state in
 // each run whose hidden leaves differ.
+#![tactic(auto)]
+
 mod axis;
 mod best;
 mod checks;

@@ -1,4 +1,6 @@
 // S of up to eight vectors side by side, by power sums and one division, and F by the same division. Complement and scales depend on m alone.
+#![tactic(auto)]
+
 pub mod powersums;
 
 ghost use Rattle.std.specs.Prelude.{◌≡◌, ◌++◌, ℕ, ◌-◌, ◌*◌, ◌<◌, ◌≤◌, length, take, drop, replicate};

@@ -1,5 +1,7 @@
 // The key: its vector x, the weight, and the polynomials Q and P (document 01, "Key and polynomials"). S and F are polynomial's.
 // The field tables are made once a call and lent down.
+#![tactic(auto)]
+
 ghost use Rattle.std.specs.Prelude.{◌≡◌, true, ◌++◌, ◌+◌, ◌-◌, ◌*◌, ◌<◌, ◌≤◌, length, take, drop, leb};
 ghost use Rattle.lists.specs.Zeroed.{zeroed};
 ghost use Rattle.algebra.specs.Each.{NotIn, Disjoint};

@@ -1,5 +1,7 @@
 // A leaf (document 01, layers 2 to 4): its state, share and commitment.
 // Each string goes on from the start of its layer, which `strings::begin` makes once for all leaves.
+#![tactic(auto)]
+
 pub mod commitments;
 pub mod states;
 

@@ -1,6 +1,8 @@
 // The prover's messages 1, 3 and 5 (document 01, Messages) from the arrays that its session holds, in the front of the work area.
 // What an exchange starts from is one slice of seeds: the salt of 32 bytes, then the root seed of 16.
 // A run is one slice: the root's seed of 16 bytes, then the prefix.
+#![tactic(auto)]
+
 pub mod auxiliary;
 pub mod every_run;
 mod filled;

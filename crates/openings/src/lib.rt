@@ -1,5 +1,7 @@
 // An opening checked, for verifier and extractor alike (document 01, 'Parties' and 'Messages'). All of it is recomputed
 // before anything is compared, so that `opened` holds what the opening gives whatever the answer is.
+#![tactic(auto)]
+
 mod commitment;
 mod response;
 pub mod statement;

@@ -1,4 +1,6 @@
 // Byte products over GF(256) on eight bytes at once: byte i of a word is the entry of share i.
+#![tactic(auto)]
+
 ghost use Rattle.std.specs.Prelude.{◌≡◌, map, ℕ, ◌≤◌, ◌<◌, length, replicate};
 ghost use Rattle.lists.specs.Sum.{xor_list};
 ghost use Rattle.bytefield.specs.Product.{◌⊗◌};

@@ -1,5 +1,7 @@
 // Sums over the leaves (document 01, 'Parties'): of all leaves, and on every axis of all parties but the last one, one sum after
 // another in the front of the work area (`layout::sum_index`). Axes and parties count from 0.
+#![tactic(auto)]
+
 mod drawn;
 pub mod total;
 

@@ -1,5 +1,7 @@
 // The points field: four bytes b0 b1 b2 b3 stand for b0 + typeof.b1.X + (b2 + typeof.b3.X)·Z, where X² = X + 20 and Z² = Z + 20·X (hexadecimal).
 // A product is read from a table of the multiples of one factor. The field tables are made once by the caller and lent.
+#![tactic(auto)]
+
 pub mod encoding;
 
 ghost use Rattle.std.specs.Prelude.{◌≡◌, ◌⊎◌, ◌+◌, ◌<◌, ◌≤◌, length};

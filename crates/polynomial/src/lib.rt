@@ -1,5 +1,7 @@
 // Polynomials over bytes, in place. A polynomial is the slice of its coefficients, lowest first.
 // The field tables are made once a call and lent down.
+#![tactic(auto)]
+
 ghost use Rattle.std.specs.Prelude.{◌≡◌, ◌∷◌, ◌++◌, ◌+◌, ◌-◌, ◌<◌, ◌≤◌, length, take, drop};
 ghost use Rattle.algebra.specs.Polynomial.{expand, slopes, interpolate, vanishing};
 ghost use Rattle.bytefield.specs.Tables.{field_tables};

@@ -35,7 +35,7 @@ use Rattle.prover.specs.Arguments.Laws.{limited, begin-sized}
 use Rattle.prover_phase.specs.declared.Phase.{Phase}
 use Rattle.prover_phase.specs.declared.Phase.TheVariants.{Fresh, Begun, Answered, Closed}
 use Rattle.calls.specs.Lengths.{key_lengths, begin_lengths, points_lengths, leaf_lengths, leaves_below}
-use Rattle.calls.specs.Lengths.Laws.{leaves-below}
+use Rattle.calls.proofs.Lengths.Laws.{leaves-below}
 use Rattle.calls.specs.Prover.{Prover, Outcome, settle, is_fresh, is_begun, is_answered, is_closed, held_x, intact, standing, closed, points_due, leaf_due, repeated, begin_checks, points_checks, leaf_checks}
 use Rattle.prover.specs.Facts.{is_done, outcome_of, Ready, Begins, Answering, Opening}
 

@@ -1,4 +1,6 @@
 // The prover's session. It holds what later calls need and nothing derived: parameters, run count, x, salt, root, message 2 and its phase.
+#![tactic(auto)]
+
 pub mod arguments;
 mod held;
 mod on_begin;

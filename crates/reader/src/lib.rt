@@ -1,4 +1,6 @@
 // Message 5 read part by part (document 01, 'Messages' and 'Sessions').
+#![tactic(auto)]
+
 pub mod opening;
 mod place;
 

@@ -1,1 +1,2 @@
 // Theory only: the definitions and laws are in specs/.
+#![tactic(auto)]

@@ -1,4 +1,6 @@
 // The seed tree (document 01, layer 1): all leaf seeds from the root, the siblings of a leaf, all leaf seeds but one.
+#![tactic(auto)]
+
 mod levels;
 mod nodes;
 

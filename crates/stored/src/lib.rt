@@ -1,4 +1,6 @@
 // Sessions as bytes, for a caller that keeps a session in a buffer of its own.
+#![tactic(auto)]
+
 pub mod buffer;
 mod parts;
 

@@ -1,5 +1,7 @@
 // The strings that are hashed (document 01, 'Strings hashed'), streamed into a sponge: their start, and the hash of the whole.
 // No string is hashed but through these functions.
+#![tactic(auto)]
+
 ghost use Rattle.std.specs.Prelude.{◌≡◌, [], ◌++◌, length};
 ghost use Rattle.shake256.specs.Stream.{absorbed};
 ghost use Rattle.strings.specs.Digest as spec;

@@ -16,7 +16,7 @@ use Rattle.runs.proofs.Opening.Laws.{accepted-then}
 use Rattle.calls.specs.Lengths.{leaves_below}
 use Rattle.calls.specs.Extractor.{pair, extract_lengths, both_distinct, same_statement, early_checks, found, second, first, early, extraction}
 use Rattle.claims.specs.Words.{Sent, Comparable}
-use Rattle.claims.specs.Completeness.Sample.{one-position}
+use Rattle.claims.proofs.Completeness.Sample.{one-position}
 use Rattle.test_standin.specs.StandIn.{weak}
 use Rattle.test_standin.specs.Definitions.{definitions}
 use Rattle.test_claims.specs.Pairs.{p as parameters, key, x, salt, root, messages2}

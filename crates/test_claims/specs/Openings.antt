@@ -24,10 +24,11 @@ use Rattle.calls.specs.Prover.History.{after, made}
 use Rattle.calls.specs.Verifier.{Verifier}
 use Rattle.claims.specs.Words.{Sent, Comparable}
 use Rattle.claims.specs.Completeness.{ValidKey, LeadsToAcceptance}
-use Rattle.claims.specs.Completeness.Calls.{completeness}
-use Rattle.claims.specs.Completeness.Sample.{fresh_start, blank, blank-fits}
+use Rattle.claims.proofs.Completeness.Calls.{completeness}
+use Rattle.claims.specs.Completeness.Sample.{blank}
+use Rattle.claims.proofs.Completeness.Sample.{fresh_start, blank-fits}
 use Rattle.claims.specs.Extraction.{Extracts}
-use Rattle.claims.specs.Extraction.Proof.{extracts}
+use Rattle.claims.proofs.Extraction.Proof.{extracts}
 use Rattle.test_standin.specs.StandIn.{stand_in}
 use Rattle.test_standin.specs.Definitions.{definitions}
 use Rattle.test_claims.specs.StandIn.{length-stand_in}

@@ -20,9 +20,9 @@ use Rattle.runs.specs.Messages.{leaf_at}
 use Rattle.runs.specs.Opening.{Transcript, verdict}
 use Rattle.runs.proofs.Opening.Laws.{accepted-then}
 use Rattle.claims.specs.Words.{Sent}
-use Rattle.claims.specs.Completeness.Sample.{one-position}
+use Rattle.claims.proofs.Completeness.Sample.{one-position}
 use Rattle.claims.specs.Weight.{Pair, In, here, later, MeetsTwice, Under, Meeting, OneX}
-use Rattle.claims.specs.Weight.Proof.{low-claim}
+use Rattle.claims.proofs.Weight.Proof.{low-claim}
 use Rattle.test_standin.specs.StandIn.{stand_in}
 use Rattle.test_standin.specs.Definitions.{definitions}
 use Rattle.test_claims.specs.StandIn.{length-stand_in}

@@ -1,1 +1,2 @@
 // Theory only: the computed trials of the exchange are in specs/.
+#![tactic(auto)]

@@ -1,4 +1,6 @@
 // SHAKE256 and its permutation for C, as the comparison and the timing under compare/ and bench/ link them.
+#![tactic(auto)]
+
 ghost use Rattle.std.specs.Prelude.{◌≡◌, ◌≤◌, length};
 ghost use Rattle.fips.specs.Permutation.{keccak_f};
 ghost use Rattle.shake256.specs.Fips.{SHAKE256};

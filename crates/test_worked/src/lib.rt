@@ -1,1 +1,2 @@
 // Theory only: the marked cases are in specs/.
+#![tactic(auto)]

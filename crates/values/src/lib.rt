@@ -1,5 +1,7 @@
 // What several shares announce at all positions: α, β and the part of v that does not depend on the sums α̂ and β̂, called γ.
 // The field tables are made once a call and lent down.
+#![tactic(auto)]
+
 pub mod evaluation;
 mod position;
 mod term;

@@ -40,7 +40,7 @@ use Rattle.layout.specs.Lent.Laws.{test-lent}
 use Rattle.verifier_phase.specs.declared.Phase.{Phase}
 use Rattle.verifier_phase.specs.declared.Phase.TheVariants.{Fresh, Begun, Pointed, Responded, Chosen, Closed}
 use Rattle.calls.specs.Lengths.{leaves_below}
-use Rattle.calls.specs.Lengths.Laws.{leaves-below}
+use Rattle.calls.proofs.Lengths.Laws.{leaves-below}
 use Rattle.calls.specs.Verifier.{Verifier, held_leaves, held_transcript, ended, judge, opening, step, intact, standing, closed, due, settle, begin_checks, points_checks, response_checks, leaf_checks, opening_checks}
 
 -- ---- what a call gives

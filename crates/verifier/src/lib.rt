@@ -1,4 +1,6 @@
 // The verifier's session. It holds the messages received so far, the hidden leaves that it chose, and its phase.
+#![tactic(auto)]
+
 mod checks;
 mod judge;
 

@@ -20,8 +20,6 @@ use Rattle.calls.specs.Held.{is_some, or_else, told}
 use Rattle.calls.specs.Verifier.{Verifier, fresh}
 use Rattle.calls.specs.Verifier.History.{Begin, Call, begin_call, points_call, response_call, leaf_call, opening_call, Made, begun, pointed, responded, chosen, opened, last_begin, points_since, response_since, leaf_since, opened_since}
 use Rattle.calls.specs.Verifier.Since.{counted, since}
-pub mod Moves
-pub mod Laws
 
 -- ---- what a history tells
 

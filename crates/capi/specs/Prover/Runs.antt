@@ -16,8 +16,9 @@ use Rattle.parameters.specs.Set.{numbers_of}
 use Rattle.shake256.specs.Fips.{SHAKE256}
 use Rattle.calls.specs.Prover.{Prover}
 use Rattle.calls.specs.Prover.History.{Call, begin_call, points_call, leaf_call, outcome, after, made, Seen, seen, expected}
-use Rattle.calls.specs.Prover.Told.{told-by-calls}
-use Rattle.calls.specs.Prover.AnySession.{is_begin, is_points, is_leaf, carried_in, at_most_one}
+use Rattle.calls.proofs.Prover.Told.{told-by-calls}
+use Rattle.calls.specs.Prover.AnySession.{is_begin, is_points, is_leaf, carried_in}
+use Rattle.calls.proofs.Prover.AnySession.{at_most_one}
 use Rattle.stored.specs.Prover.{prover_size, prover_from}
 use Rattle.capi.specs.Set.Laws.{set-named}
 use Rattle.capi.specs.Session.{prover_new}

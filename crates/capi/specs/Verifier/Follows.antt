@@ -23,7 +23,7 @@ use Rattle.shake256.specs.Fips.{SHAKE256}
 use Rattle.exchange.specs.Values.{Key}
 use Rattle.verifier_phase.specs.declared.Phase.TheVariants.{Chosen}
 use Rattle.calls.specs.Lengths.{opening_lengths}
-use Rattle.calls.specs.Judging.Laws.{verdict-judged}
+use Rattle.calls.proofs.Judging.Laws.{verdict-judged}
 use Rattle.verifier.specs.Laws.{begin-passed, points-passed, response-passed, leaf-passed}
 use Rattle.calls.specs.Verifier.{Verifier, Outcome as Called, Judged as Opened, fresh, settle, closed, due, held_leaves, held_transcript, begin, begin_checks, begun, points, points_checks, pointed, response, response_checks, responded, leaf, leaf_checks, chosen, opening, opening_checks, judge, ended}
 use Rattle.stored.specs.Verifier.{verifier_size, verifier_bytes, verifier_from}

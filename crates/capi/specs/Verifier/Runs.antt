@@ -18,8 +18,9 @@ use Rattle.exchange.specs.Values.{Key}
 use Rattle.calls.specs.Verifier as verifier
 use Rattle.calls.specs.Verifier.{Verifier}
 use Rattle.calls.specs.Verifier.History.{Call, begin_call, points_call, response_call, leaf_call, opening_call, Called, outcome, after, made, Seen, seen, expected}
-use Rattle.calls.specs.Verifier.Told.{told-by-calls}
-use Rattle.calls.specs.Verifier.Runs.{AcceptedAfter, accepted-exactly}
+use Rattle.calls.proofs.Verifier.Told.{told-by-calls}
+use Rattle.calls.specs.Verifier.Runs.{AcceptedAfter}
+use Rattle.calls.proofs.Verifier.Runs.{accepted-exactly}
 use Rattle.stored.specs.Verifier.{verifier_size, verifier_from}
 use Rattle.capi.specs.Set.Laws.{set-named}
 use Rattle.capi.specs.Session.{Kept, verifier_new}

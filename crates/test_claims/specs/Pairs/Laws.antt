@@ -33,7 +33,7 @@ use Rattle.runs.specs.Messages.{message2_at, leaf_at, message1, message5}
 use Rattle.runs.proofs.Messages.Laws.{length-message1, length-message3, length-message5}
 use Rattle.runs.specs.Opening.{Accepted}
 use Rattle.claims.specs.Words.{Sent}
-use Rattle.claims.specs.Completeness.Sample.{one-position}
+use Rattle.claims.proofs.Completeness.Sample.{one-position}
 use Rattle.claims.specs.Weight.{Pair, InBytes, In, Meets, MeetsTwice, Under}
 use Rattle.test_standin.specs.StandIn.{stand_in}
 use Rattle.test_standin.specs.Definitions.{definitions}

@@ -1,0 +1,2 @@
+-- What is shown of the extractor's call.
+pub mod Told

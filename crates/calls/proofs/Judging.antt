@@ -1,0 +1,2 @@
+-- What is shown of judging an opening.
+pub mod Laws

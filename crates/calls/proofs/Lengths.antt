@@ -1,0 +1,2 @@
+-- What is shown of lengths and leaves.
+pub mod Laws

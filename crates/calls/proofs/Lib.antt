@@ -1,0 +1,5 @@
+pub mod Lengths
+pub mod Judging
+pub mod Prover
+pub mod Verifier
+pub mod Extractor

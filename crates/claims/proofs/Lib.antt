@@ -1,0 +1,10 @@
+pub mod Verifier
+pub mod Demand1
+pub mod Extraction
+pub mod Weight
+pub mod Acceptance
+pub mod Completeness
+pub mod Demand2
+pub mod Demand3
+pub mod Request02
+pub mod Request05
