@@ -6,8 +6,8 @@ use Rattle.shake256.specs.Fips.{SHAKE256}
 use Rattle.shake256.proofs.Laws.{length-SHAKE256, SHAKE256-byte}
 use Rattle.polynomial.specs.Bytes.{Bytes}
 use Rattle.polynomial.specs.Bytes.Laws.{bytes-from}
-use Rattle.claims.proofs.Extraction.Proof.{extracts}
-use Rattle.claims.proofs.Weight.Proof.{weight-claim}
+use Rattle.claims.proofs.Extraction.Theorem.{extracts}
+use Rattle.claims.proofs.Weight.Theorem.{weight-claim}
 use Rattle.claims.specs.Demand3.{Demand3}
 
 bytes-SHAKE256 : (s : List ℕ) (n : ℕ) → Bytes (SHAKE256 s n)

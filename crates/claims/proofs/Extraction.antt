@@ -2,7 +2,7 @@
 pub mod Compared
 pub mod Leaves
 pub mod Output
-pub mod Proof
+pub mod Theorem
 pub mod Relation
 pub mod Runs
 pub mod Strings

@@ -1,2 +1,2 @@
 -- Request 02 is met.
-pub mod Proof
+pub mod Theorem

@@ -2,4 +2,4 @@
 pub mod Common
 pub mod Core
 pub mod Light
-pub mod Proof
+pub mod Theorem

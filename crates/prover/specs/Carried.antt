@@ -13,7 +13,7 @@ use Rattle.shake256.specs.Fips.{SHAKE256}
 use Rattle.answers.specs.declared.Answer.TheVariants.{Done}
 use Rattle.parameters.specs.declared.Parameters.{Parameters}
 use Rattle.relation.specs.Key.{vector_of}
-use Rattle.relation.specs.Key.Vector.{length-vector}
+use Rattle.relation.proofs.Laws.Key.Vector.{length-vector}
 use Rattle.layout.specs.Layout.{work_length}
 use Rattle.exchange.specs.Values.{Key}
 use Rattle.runs.specs.Messages.{message1, message3, message5}

@@ -17,8 +17,6 @@ use Rattle.algebra.specs.Polynomial.{times, vanishing}
 use Rattle.bytefield.specs.Product.{◌⊗◌, byte_ops}
 use Rattle.polynomial.specs.Division.{over}
 use Rattle.polynomial.specs.Interpolant.{interpolation_points, interpolant_of, vanishing_of}
-pub mod Vector
-pub mod Positions
 pub mod Polynomials
 
 -- ---- the vector

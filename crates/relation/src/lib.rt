@@ -1,2 +1,2 @@
-// Theory only: the definitions and laws are in specs/.
+// Theory only: the definitions are in specs/, their laws in proofs/.
 #![tactic(auto)]

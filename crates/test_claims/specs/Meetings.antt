@@ -11,7 +11,7 @@ use Rattle.algebra.specs.Each.{Each}
 use Rattle.tower.specs.Point.{lone}
 use Rattle.tower.specs.Field.{point}
 use Rattle.claims.specs.Weight.{Pair, InBytes, In, here, later, MeetsTwice, Under, Meeting, OneLightX}
-use Rattle.claims.proofs.Weight.Proof.{weight-claim}
+use Rattle.claims.proofs.Weight.Theorem.{weight-claim}
 use Rattle.test_standin.specs.StandIn.{stand_in}
 use Rattle.test_standin.specs.Definitions.{definitions}
 use Rattle.test_claims.specs.StandIn.{length-stand_in, bytes-stand_in}

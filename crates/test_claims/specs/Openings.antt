@@ -28,7 +28,7 @@ use Rattle.claims.proofs.Completeness.Calls.{completeness}
 use Rattle.claims.specs.Completeness.Sample.{blank}
 use Rattle.claims.proofs.Completeness.Sample.{fresh_start, blank-fits}
 use Rattle.claims.specs.Extraction.{Extracts}
-use Rattle.claims.proofs.Extraction.Proof.{extracts}
+use Rattle.claims.proofs.Extraction.Theorem.{extracts}
 use Rattle.test_standin.specs.StandIn.{stand_in}
 use Rattle.test_standin.specs.Definitions.{definitions}
 use Rattle.test_claims.specs.StandIn.{length-stand_in}

@@ -13,7 +13,7 @@ use Rattle.algebra.specs.Each.{Each}
 use Rattle.exchange.specs.Extractor.{axis}
 use Rattle.runs.specs.Opening.{exchange_at}
 use Rattle.claims.specs.Weight.{Pair, InBytes, In, here, later, Under, Meeting, OneLightX}
-use Rattle.claims.proofs.Weight.Proof.{weight-claim}
+use Rattle.claims.proofs.Weight.Theorem.{weight-claim}
 use Rattle.test_standin.specs.StandIn.{stand_in}
 use Rattle.test_standin.specs.Definitions.{definitions}
 use Rattle.test_claims.specs.StandIn.{length-stand_in, bytes-stand_in}

@@ -22,7 +22,7 @@ use Rattle.runs.proofs.Opening.Laws.{accepted-then}
 use Rattle.claims.specs.Words.{Sent}
 use Rattle.claims.proofs.Completeness.Sample.{one-position}
 use Rattle.claims.specs.Weight.{Pair, In, here, later, MeetsTwice, Under, Meeting, OneX}
-use Rattle.claims.proofs.Weight.Proof.{low-claim}
+use Rattle.claims.proofs.Weight.Theorem.{low-claim}
 use Rattle.test_standin.specs.StandIn.{stand_in}
 use Rattle.test_standin.specs.Definitions.{definitions}
 use Rattle.test_claims.specs.StandIn.{length-stand_in}

@@ -30,7 +30,7 @@ use Rattle.calls.specs.Extractor.{pair as named_pair, Outcome, found}
 use Rattle.claims.specs.Words.{Apart, Comparable, run_part, leaf_state, At, Same}
 use Rattle.claims.specs.Extraction.{Right}
 use Rattle.claims.proofs.Extraction.Compared.{at-member}
-use Rattle.claims.proofs.Extraction.Proof.{same-there}
+use Rattle.claims.proofs.Extraction.Theorem.{same-there}
 use Rattle.test_standin.specs.StandIn.{stand_in}
 use Rattle.test_standin.specs.Definitions.{definitions}
 use Rattle.test_claims.specs.StandIn.{length-stand_in}

@@ -24,7 +24,7 @@ use Rattle.lists.specs.Checks.Laws.{all-at}
 use Rattle.answers.specs.declared.Answer.TheVariants.{Done}
 use Rattle.parameters.specs.Limits.Laws.{within-test}
 use Rattle.relation.specs.Key.{weight_of}
-use Rattle.relation.specs.Key.Vector.{length-vector}
+use Rattle.relation.proofs.Laws.Key.Vector.{length-vector}
 use Rattle.layout.specs.Layout.{y_length}
 use Rattle.layout.specs.Maxima.{most_messages2}
 use Rattle.layout.specs.Runs.{messages2_length}

@@ -23,7 +23,7 @@ use Rattle.parameters.specs.declared.Parameters.{Parameters}
 use Rattle.parameters.specs.Limits.{within_limits}
 use Rattle.parameters.specs.Limits.Laws.{test-within}
 use Rattle.relation.specs.Key.{vector_of}
-use Rattle.relation.specs.Key.Vector.{length-vector}
+use Rattle.relation.proofs.Laws.Key.Vector.{length-vector}
 use Rattle.shake256.specs.Fips.{SHAKE256}
 use Rattle.layout.specs.Layout.{y_length}
 use Rattle.layout.specs.Maxima.{most_messages2}

@@ -25,7 +25,7 @@ use Rattle.parameters.specs.declared.Parameters.{Parameters}
 use Rattle.parameters.specs.Limits.{Within}
 use Rattle.parameters.specs.Limits.Laws.{within-test}
 use Rattle.relation.specs.Key.{weight_of, vector_of}
-use Rattle.relation.specs.Key.Vector.{length-vector, bytes-vector}
+use Rattle.relation.proofs.Laws.Key.Vector.{length-vector, bytes-vector}
 use Rattle.layout.specs.Layout.{work_length}
 use Rattle.layout.specs.Maxima.{most_runs, most_message1, most_messages2, most_messages3}
 use Rattle.layout.specs.Runs.{message1_length, messages2_length, messages3_length, messages5_length}

@@ -21,7 +21,7 @@ use Rattle.lists.specs.Sum.Laws.{length-xor_list, xor_list-comm, xor_list-self}
 use Rattle.polynomial.specs.Bytes.{Bytes}
 use Rattle.polynomial.specs.Interpolant.{interpolant_of}
 use Rattle.polynomial.specs.Bytes.Laws.{byte-at, bytes-append, bytes-xor_list}
-use Rattle.relation.specs.Key.Vector.{bytes-rows}
+use Rattle.relation.proofs.Laws.Key.Vector.{bytes-rows}
 use Rattle.parameters.specs.declared.Parameters.{Parameters}
 use Rattle.layout.specs.Layout.{leaves, share_length, at_x, at_q, y_length}
 use Rattle.exchange.specs.Reading.{bytes_at, value, ◌⊞◌, ◌⊠◌}

@@ -20,7 +20,7 @@ use Rattle.parameters.specs.Limits.{Within}
 use Rattle.polynomial.specs.Bytes.{Bytes}
 use Rattle.polynomial.specs.Bytes.Laws.{bytes_take, bytes-append, bytes-xor_list}
 use Rattle.relation.specs.Key.{weight_of, locator_of, quotient_of}
-use Rattle.relation.specs.Key.Polynomials.{length-locator, length-quotient, bytes-locator, bytes-quotient}
+use Rattle.relation.proofs.Laws.Key.Polynomials.{length-locator, length-quotient, bytes-locator, bytes-quotient}
 use Rattle.layout.specs.Layout.{levels, leaves, is_last, points_length, factor_length, values_length, aux_length, share_length, at_x, siblings_length, message5_length}
 use Rattle.exchange.specs.Run.{Run}
 use Rattle.exchange.proofs.Sequences.Laws.{bytes_drop}

@@ -22,7 +22,7 @@ use Rattle.tower.specs.Field.{Point}
 use Rattle.parameters.specs.declared.Parameters.{Parameters}
 use Rattle.polynomial.specs.Interpolant.{interpolant_of, vanishing_of}
 use Rattle.relation.specs.Key.{rows, vector_of, locator_of, quotient_of}
-use Rattle.relation.specs.Key.Polynomials.{locator-monic, key-relation}
+use Rattle.relation.proofs.Laws.Key.Polynomials.{locator-monic, key-relation}
 use Rattle.layout.specs.Layout.{leaves, at_b, at_x, at_q, at_p, at_c, y_length}
 use Rattle.layout.specs.Layout.Laws.{leaves-pos}
 use Rattle.exchange.specs.Run.{Run}

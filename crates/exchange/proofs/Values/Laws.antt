@@ -26,7 +26,7 @@ use Rattle.tower.specs.Field.{Point}
 use Rattle.parameters.specs.declared.Parameters.{Parameters}
 use Rattle.polynomial.specs.Interpolant.{interpolant_of}
 use Rattle.polynomial.specs.Interpolant.Laws.{length-interpolant, interpolant-xor}
-use Rattle.relation.specs.Key.Vector.{length-rows, rows-xor}
+use Rattle.relation.proofs.Laws.Key.Vector.{length-rows, rows-xor}
 use Rattle.layout.specs.Layout.{at_b, at_x, at_q, at_p, at_c, y_length}
 use Rattle.exchange.specs.Reading.{points, bytes_at, value, ◌⊞◌, ◌⊠◌}
 use Rattle.exchange.proofs.Reading.Laws.{length-bytes_at, bytes_at-xor, point_at-xor, value-xor}

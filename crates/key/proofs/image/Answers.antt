@@ -2,7 +2,7 @@ use Rattle.std.proofs.Common.{add-one, ap, arith, drop, length, length-set, refl
 use Rattle.lists.specs.Part.Laws.{part-fits}
 use Rattle.lists.specs.Blend.Laws.{blend-none, blend-all}
 use Rattle.relation.specs.Key.{dot}
-use Rattle.relation.specs.Key.Vector.{length-rows}
+use Rattle.relation.proofs.Laws.Key.Vector.{length-rows}
 use Rattle.key.specs.Loops.Image.{rows-turn}
 use Rattle.key.proofs.image.Goals as goal
 use Rattle.key.proofs.image.Goals.{At-loop-i}

@@ -1,5 +1,5 @@
 use Rattle.std.proofs.Common.{arith}
-use Rattle.relation.specs.Key.Positions.{weight-le}
+use Rattle.relation.proofs.Laws.Key.Positions.{weight-le}
 use Rattle.key.specs.Loops.Weight.{weight-zero, weight-other, weight-end}
 use Rattle.key.proofs.weight.Goals as goal
 use Rattle.key.proofs.weight.Goals.{then-x-i-ne0, else-x-i-ne0}

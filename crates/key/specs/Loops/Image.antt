@@ -11,7 +11,7 @@ use Rattle.lists.specs.Blend.{blend}
 use Rattle.lists.specs.Blend.Laws.{blend-up}
 use Rattle.bytefield.specs.Product.{◌⊗◌}
 use Rattle.relation.specs.Key.{dot, rows}
-use Rattle.relation.specs.Key.Vector.{length-rows}
+use Rattle.relation.proofs.Laws.Key.Vector.{length-rows}
 
 dot-nil : (hs xs : List ℕ) → length xs ≤ 0 → dot hs xs ≡ 0
 unfolding dot

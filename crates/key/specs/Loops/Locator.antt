@@ -13,7 +13,7 @@ use Rattle.bytefield.specs.Product.{byte_ops}
 use Rattle.polynomial.specs.Interpolant.{ascending}
 use Rattle.polynomial.specs.Loops.Roots.{roots-start, roots-turn}
 use Rattle.relation.specs.Key.{weight_of, filled, positions, locator_of}
-use Rattle.relation.specs.Key.Positions.{marked-positions}
+use Rattle.relation.proofs.Laws.Key.Positions.{marked-positions}
 use Rattle.key.specs.Loops.Positions.{chosen, spared, marks_from, points_from, marks-start, marks-step, points-step, marks-end}
 
 -- ---- one factor

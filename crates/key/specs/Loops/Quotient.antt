@@ -25,8 +25,9 @@ use Rattle.bytefield.proofs.Laws.Powers.{power-mod}
 use Rattle.bytefield.specs.Inverse.{inverse}
 use Rattle.polynomial.specs.Bytes.{Bytes}
 use Rattle.relation.specs.Key.{weight_of, positions, quotient_of}
-use Rattle.relation.specs.Key.Positions.{length-positions, marked-positions}
-use Rattle.relation.specs.Key.Polynomials.{inside, outside, apart, length-inside, quotient-ratios}
+use Rattle.relation.proofs.Laws.Key.Positions.{length-positions, marked-positions}
+use Rattle.relation.specs.Key.Polynomials.{inside, outside}
+use Rattle.relation.proofs.Laws.Key.Polynomials.{apart, length-inside, quotient-ratios}
 use Rattle.key.specs.Loops.Gather.{selected}
 
 -- ---- the distances of a point

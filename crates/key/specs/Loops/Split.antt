@@ -11,7 +11,8 @@ use Rattle.algebra.specs.Marks.{pick, leave}
 use Rattle.polynomial.specs.Interpolant.{interpolation_points}
 use Rattle.polynomial.specs.Loops.Points.{points-front, length_front}
 use Rattle.relation.specs.Key.{weight_of, positions}
-use Rattle.relation.specs.Key.Polynomials.{inside, outside, length-inside, length-outside}
+use Rattle.relation.specs.Key.Polynomials.{inside, outside}
+use Rattle.relation.proofs.Laws.Key.Polynomials.{length-inside, length-outside}
 use Rattle.key.specs.Loops.Gather.{selected}
 
 module _ (w : ℕ) (x l : List ℕ) (light : weight_of x ≤ w) (fits : w ≤ length x) (short : length x < 256) (e : l ≡ interpolation_points 255) where

@@ -2,7 +2,7 @@
 use Rattle.std.proofs.Common.{List, ap, ap₂, arith, drop, le_of_eq, length, length-take-le, replicate, sym, ℕ, ◌*◌, ◌++◌, ◌+◌, ◌∙◌, ◌≡◌, ◌≤◌}
 use lib.ListN.{length-replicate}
 use Rattle.relation.specs.Key.{vector_of}
-use Rattle.relation.specs.Key.Vector.{length-vector}
+use Rattle.relation.proofs.Laws.Key.Vector.{length-vector}
 use Rattle.prover.specs.Arguments.Laws.{padded-back}
 use Rattle.prover.proofs.vector.weigh.Goals as goal
 use Rattle.prover.proofs.vector.weigh.Goals.{Start}

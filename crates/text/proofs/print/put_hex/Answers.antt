@@ -10,7 +10,7 @@ unfolding hex_text
 loop-i-init c = (omega arith, refl, refl)
 
 pub hex_digit-requires : goal.hex_digit-requires
-hex_digit-requires c = omega (arith, c.shared_slice_known-in-loop-i-1.given c.loop-i.i)
+hex_digit-requires c = omega (arith, c.type_inv.s c.loop-i.i)
 
 pub bounds-out-place-in-loop-i : goal.bounds-out-place-in-loop-i
 bounds-out-place-in-loop-i c = simp length-set (omega arith)

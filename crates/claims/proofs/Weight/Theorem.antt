@@ -38,7 +38,7 @@ use Rattle.runs.proofs.Extractor.Laws.{differs-when, differs-then, none-when, fi
 use Rattle.calls.specs.Extractor.{filled, extraction}
 use Rattle.claims.specs.Words.{Comparable, run_part, States}
 use Rattle.claims.proofs.Extraction.Runs.{alike_of}
-use Rattle.claims.proofs.Extraction.Proof.{answer-unequal, answer-states, part-is}
+use Rattle.claims.proofs.Extraction.Theorem.{answer-unequal, answer-states, part-is}
 use Rattle.claims.specs.Weight.{Pair, Differ, low_bytes, InBytes, In, here, later, openings, MeetsTwice, Free, Under, Meeting, part_for, x_of_pair, Wrote, wrote, elsewhere, Gives, OneX, OneLightX}
 use Rattle.claims.proofs.Weight.Light.{low_bytes-bytes}
 use Rattle.claims.proofs.Weight.Common.{none-unequal, pair-states, Paired}
