@@ -5,7 +5,7 @@ use Rattle.parameters.specs.Limits.{Within}
 use Rattle.layout.specs.Maxima.{most_runs, longest_message5}
 use Rattle.layout.specs.Runs.{messages5_length}
 use Rattle.layout.specs.Runs.Laws.{messages5-most}
-use Rattle.keytext.specs.Finish.Laws.{room}
+use Rattle.keytext.proofs.Laws.Finish.{room}
 use Rattle.unlock.proofs.leaf.Goals as goal
 
 long : {n : ℕ} (p : Parameters) (leaves : List ℕ) → n ≡ messages5_length p leaves → Within p → length leaves ≤ most_runs → n ≤ most_runs * longest_message5

@@ -5,7 +5,7 @@ use Rattle.answers.specs.declared.Answer.TheVariants.{Done}
 use Rattle.layout.specs.Runs.Laws.{RunsWithin}
 use Rattle.keytext.specs.declared.KeyScan.{KeyScan}
 use Rattle.keytext.specs.Finish.{read_checks}
-use Rattle.keytext.specs.Finish.Laws.{Read, read_done, read-within, read_held}
+use Rattle.keytext.proofs.Laws.Finish.{Read, read_done, read-within, read_held}
 use Rattle.unlock.specs.Count.{with_runs}
 use Rattle.unlock.specs.Count.Laws.{runs_done}
 use Rattle.unlock.proofs.on_key_read.Goals as goal

@@ -2,7 +2,7 @@
 use Rattle.std.proofs.Common.{arith, length-take-le, sym}
 use Rattle.layout.specs.Maxima.{most_messages2}
 use Rattle.layout.specs.Runs.Laws.{messages2-most}
-use Rattle.keytext.specs.Finish.Laws.{room}
+use Rattle.keytext.proofs.Laws.Finish.{room}
 use Rattle.unlock.proofs.received.Goals as goal
 
 pub slice_bounds-points-end : goal.slice_bounds-points-end
