@@ -1,4 +1,4 @@
-// The points field: four bytes b0 b1 b2 b3 stand for b0 + typeof.b1.X + (b2 + typeof.b3.X)·Z, where X² = X + 20 and Z² = Z + 20·X (hexadecimal).
+// The points field: four bytes b0 b1 b2 b3 stand for b0 + b1·X + (b2 + b3·X)·Z, where X² = X + 20 and Z² = Z + 20·X (hexadecimal).
 // A product is read from a table of the multiples of one factor. The field tables are made once by the caller and lent.
 #![tactic(auto)]
 
@@ -110,7 +110,7 @@ pub fn product_by(a: [u8; 4], table: &[u64], made: usize) -> Counted
     counted_product(a, table, made)
 }
 
-// typeof.b.X.
+// b·X.
 fn by_x(b: [u8; 4], tables: &[u8; 512]) -> [u8; 4]
     requires { tables.now ≡ field_tables }
     ensures { result ≡ bytes_of (point b ⊠ by_x) }
@@ -123,7 +123,7 @@ fn by_x(b: [u8; 4], tables: &[u8; 512]) -> [u8; 4]
     ]
 }
 
-// typeof.b.Z; 6c is the square of 20.
+// b·Z; 6c is the square of 20.
 fn by_z(b: [u8; 4], tables: &[u8; 512]) -> [u8; 4]
     requires { tables.now ≡ field_tables }
     ensures { result ≡ bytes_of (point b ⊠ by_z) }

@@ -28,7 +28,7 @@ pub record Case : Type 0 where
   pub computed : List ℕ
   pub expected : List ℕ
 
--- X, Z and X-as-Z as points
+-- X, Z and X·Z as points
 abbrev point_x : List ℕ
 point_x = 0 ∷ 1 ∷ 0 ∷ 0 ∷ []
 

@@ -3,7 +3,7 @@
 --   product-quotient         division by roots of p, no two of them equal, is exact
 --   vanishing-elsewhere      vanishing fs is zero at no point outside fs
 --   relation                 s divided by the factors that marks leave, times all factors, is s times the factors that marks pick
---                            (document 01: P = S·Q/F, so P-as-F = S-as-Q)
+--                            (document 01: P = S·Q/F, so P·F = S·Q)
 use Rattle.std.specs.Prelude.{◌≡◌, Bool, suc, ◌≤◌}
 use Rattle.std.proofs.Math.Path.{refl, ap}
 use Rattle.std.proofs.Common.{sym, ◌∙◌}

@@ -5,7 +5,7 @@
 -- sum-front, sum_back      its a and b are those that were drawn; the rest is what was wanted
 -- x_a-is, locator-is, P-is, c-is   x_A, Q, P and c of the sum
 -- x-is                     x of the sum, with y, is the key's
--- relation-of-sum          at each position ε·(S-as-Q + P-as-F)(r) = c + a·b holds of the sum
+-- relation-of-sum          at each position ε·(S·Q + P·F)(r) = c + a·b holds of the sum
 use Rattle.std.specs.Prelude.{◌≡◌, true, get_or, take, drop}
 use Rattle.std.proofs.Math.Path.{refl, sym, ap, ap₂}
 use Rattle.std.proofs.Common.{◌∙◌, le_of_eq, drop_of_length-le, get_or-take, drop_at, take_all}
@@ -38,7 +38,7 @@ use Rattle.exchange.proofs.Parties.Laws.{total_ext}
 use Rattle.exchange.specs.Messages.{own_state, drawn, wanted, own_aux, own_share}
 use Rattle.exchange.proofs.Messages.Laws.{Secret, length-x_a, length-Q, length-P, length-drawn, length-wanted, fits}
 
--- the relation, where S-as-Q = P-as-F and c = a·b
+-- the relation, where S·Q = P·F and c = a·b
 relation-of : {K : Type 0} (R : Ring2 K) (e s q p f a b c : K) → R.mul s q ≡ R.mul p f → c ≡ R.mul a b
     → R.mul e (R.add (R.mul s q) (R.mul p f)) ≡ R.add c (R.mul a b)
 relation-of R e s q p f a b c h k = combine R e _ _ h (combine R R.one _ _ k (simp (ring, R)))

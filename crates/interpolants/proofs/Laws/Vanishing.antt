@@ -1,4 +1,4 @@
--- F from the complement G: F-as-G is X^255 + 1, so X^255 + 1 less X^m·G, divided by G, is F but its leading one.
+-- F from the complement G: F·G is X^255 + 1, so X^255 + 1 less X^m·G, divided by G, is F but its leading one.
 --
 --   one n               1 and n zeros
 --   nonzero-around      each nonzero byte to the 255 is 1

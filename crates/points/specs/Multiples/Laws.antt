@@ -129,7 +129,7 @@ scaled-word_of x c =
     scaled-bytes x.0.0.0 x.0.1.0 x.1.0.0 x.1.1.0 c (bytes-bytes_of x)
     ∙ ap word (byte-product c (bytes_of x) _ _ _ _ (⊗-comm _ c) (⊗-comm _ c) (⊗-comm _ c) (⊗-comm _ c) ∙ scalar-bytes c (bytes_of x) _ x refl refl)
 
--- ---- a point as a sum of bytes times 1, X, Z and X-as-Z
+-- ---- a point as a sum of bytes times 1, X, Z and X·Z
 
 split-quad : (a b c d : ℕ)
     → plus₄ (plus₄ (plus₄ ((a, 0), (0, 0)) (times₄ ((b, 0), (0, 0)) ((0, 1), (0, 0)))) (times₄ ((c, 0), (0, 0)) ((0, 0), (1, 0))))

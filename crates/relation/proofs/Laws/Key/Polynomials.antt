@@ -10,7 +10,7 @@
 --   quotient-ratios      P takes at each point of E the value of x there over the distances of the point from those outside E
 --   length-quotient      P has w coefficients
 --   bytes-quotient       P has bytes as coefficients
---   key-relation         S-as-Q = P-as-F
+--   key-relation         S·Q = P·F
 use Rattle.std.specs.Prelude.{◌≡◌, ℕ, suc, ◌+◌, ◌≤◌, ◌<◌, length, take, replicate}
 use Rattle.std.proofs.Common.{sym, ◌∙◌, lit<, length-append}
 use Rattle.std.proofs.Math.Path.{ap, ap₂}
@@ -144,7 +144,7 @@ module _ (w : ℕ) (x : List ℕ) where
           (zero-outside w x S points (interpolant-values x short))
           ∙ ap (times (ops byte_ring) S) (sym locator-in-field)
 
-      -- division of S-as-Q by F gives P, with zeros above it
+      -- division of S·Q by F gives P, with zeros above it
       divided : over (ops byte_ring) (times (ops byte_ring) S (in_field (locator_of w x))) (in_field (vanishing_of (length x)))
           ≡ P ++ replicate (length x) byte_ring.zero
       divided =
