@@ -2,13 +2,10 @@
 --
 --   power n                  03 to the n
 --   power-lt, power-add      a power is a byte; powers multiply by adding exponents
-use Rattle.std.specs.Prelude.{◌≡◌, refl, Bool, ℕ, zero, suc, ◌+◌, ◌-◌, ◌*◌, ◌/◌, ◌%◌, ◌≤◌, ◌<◌, T, eqb, ltb, get_or}
-use Rattle.std.proofs.Common.{sym, ap, ap₂, ◌∙◌, zero-add, suc-add, le_of_suc-le-suc, le_of_lt, arith, eqb→eq, ltb→lt, lit<}
-use Rattle.lists.specs.Xor.{◌⊕◌}
-use Rattle.lists.specs.Computed.{both, both_left, both_right, all, below}
-use Rattle.bytefield.specs.Product.{reduction, xtime, times_bits, ◌⊗◌}
+use Rattle.std.specs.Prelude.{◌≡◌, ℕ, zero, suc, ◌+◌, ◌<◌}
+use Rattle.std.proofs.Common.{sym, ap, ◌∙◌, zero-add, suc-add, lit<}
+use Rattle.bytefield.specs.Product.{◌⊗◌}
 use Rattle.bytefield.specs.Product.Laws.{⊗-assoc, ⊗-lt, one-⊗}
-use Rattle.bytefield.specs.Tables.{powers, logs}
 
 unfoldable pub power : ℕ → ℕ
 power zero = 1

@@ -3,10 +3,10 @@
 --   ⊗-inverse                   a byte other than 0 times its inverse is 1 (what FIPS 197 means by the inverse)
 --   inverse-unique              no other byte has this product
 --   log-inverse                 what the inverse by logarithms goes by
-use Rattle.std.specs.Prelude.{◌≡◌, refl, ℕ, zero, suc, ◌+◌, ◌-◌, ◌*◌, ◌%◌, ◌≤◌, ◌<◌, get_or}
+use Rattle.std.specs.Prelude.{◌≡◌, refl, ℕ, zero, suc, ◌+◌, ◌-◌, ◌*◌, ◌≤◌, ◌<◌, get_or}
 use Rattle.std.proofs.Common.{sym, ap, ◌∙◌, arith}
 use Rattle.bytefield.specs.Product.{◌⊗◌}
-use Rattle.bytefield.specs.Product.Laws.{⊗-comm, ⊗-assoc, ⊗-lt, ⊗-low, one-⊗, zero-⊗}
+use Rattle.bytefield.specs.Product.Laws.{⊗-comm, ⊗-assoc, one-⊗}
 use Rattle.bytefield.specs.Tables.{logs}
 use Rattle.bytefield.specs.Powers.{power, power-lt, power-add}
 use Rattle.bytefield.proofs.Laws.Powers.{power-cycle, log-sum, logs_at}

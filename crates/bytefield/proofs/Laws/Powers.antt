@@ -6,11 +6,11 @@
 --   power-255, -cycle, -mod     powers multiply by adding exponents, modulo 255
 --   log-sum, wrap            what the product by logarithms goes by
 use Rattle.std.specs.Prelude.{◌≡◌, refl, Bool, ℕ, zero, suc, ◌+◌, ◌-◌, ◌*◌, ◌/◌, ◌%◌, ◌≤◌, ◌<◌, T, eqb, ltb, get_or}
-use Rattle.std.proofs.Common.{sym, ap, ap₂, ◌∙◌, zero-add, suc-add, le_of_suc-le-suc, le_of_lt, arith, eqb→eq, ltb→lt, lit<}
+use Rattle.std.proofs.Common.{sym, ap, ap₂, ◌∙◌, le_of_suc-le-suc, le_of_lt, arith, eqb→eq, ltb→lt, lit<}
 use Rattle.lists.specs.Xor.{◌⊕◌}
 use Rattle.lists.specs.Computed.{both, both_left, both_right, all, below}
 use Rattle.bytefield.specs.Product.{reduction, xtime, times_bits, ◌⊗◌}
-use Rattle.bytefield.specs.Product.Laws.{⊗-assoc, ⊗-lt, one-⊗}
+use Rattle.bytefield.specs.Product.Laws.{one-⊗}
 use Rattle.bytefield.specs.Tables.{powers, logs}
 use Rattle.bytefield.specs.Powers.{power, power-lt, power-add}
 

@@ -1,10 +1,10 @@
 -- The laws of the inverse.
 --
 --   inverse-zero, -lt, -low     0 has 0; it is a byte; only the low byte counts
-use Rattle.std.specs.Prelude.{◌≡◌, refl, ℕ, zero, suc, ◌+◌, ◌-◌, ◌*◌, ◌%◌, ◌≤◌, ◌<◌, get_or}
-use Rattle.std.proofs.Common.{sym, ap, ◌∙◌, arith}
+use Rattle.std.specs.Prelude.{◌≡◌, ℕ, ◌%◌, ◌<◌}
+use Rattle.std.proofs.Common.{sym, ap, ◌∙◌}
 use Rattle.bytefield.specs.Product.{◌⊗◌}
-use Rattle.bytefield.specs.Product.Laws.{⊗-comm, ⊗-assoc, ⊗-lt, ⊗-low, one-⊗, zero-⊗}
+use Rattle.bytefield.specs.Product.Laws.{⊗-lt, ⊗-low, zero-⊗}
 use Rattle.bytefield.specs.Inverse.{squares, inverse}
 
 pub inverse-zero : inverse 0 ≡ 0

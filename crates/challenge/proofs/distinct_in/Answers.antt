@@ -1,5 +1,5 @@
-use Rattle.std.proofs.Common.{arith, sym, true, ◌∙◌}
-use Rattle.runs.specs.Points.{new_point, distinct_in}
+use Rattle.std.proofs.Common.{arith, sym, ◌∙◌}
+use Rattle.runs.specs.Points.{distinct_in}
 use Rattle.runs.proofs.Points.Laws.{some-fails, all_none, all_more, all_end}
 use Rattle.challenge.proofs.distinct_in.Goals as goal
 

@@ -1,4 +1,4 @@
-use Rattle.std.proofs.Common.{ap, arith, not, sym, true, ◌∙◌}
+use Rattle.std.proofs.Common.{ap, arith, not, sym, ◌∙◌}
 use Rattle.runs.specs.Points.{new_point}
 use Rattle.runs.proofs.Points.Laws.{some-fails, all_none, all_more, all_end}
 use Rattle.challenge.proofs.new_point.Goals as goal

@@ -8,7 +8,7 @@
 --   short-product, whole-product    the product of four bytes and a point, from one and from four tables
 --   length-multiples, own-table     the length of a table; a table that is made of the word of four bytes
 --   tables-made                     the four tables written one behind the other
-use Rattle.std.specs.Prelude.{◌≡◌, refl, List, [], ◌∷◌, ◌++◌, map, ℕ, zero, ◌+◌, ◌*◌, ◌/◌, ◌%◌, ◌≤◌, ◌<◌, length, get_or, take, drop}
+use Rattle.std.specs.Prelude.{◌≡◌, refl, List, [], ◌∷◌, ◌++◌, map, ℕ, ◌+◌, ◌*◌, ◌/◌, ◌%◌, ◌≤◌, ◌<◌, length, get_or, take, drop}
 use Rattle.std.proofs.Common.{sym, ap₂, ◌∙◌, ⊎_elim, append_assoc, arith, lit<, length-append, get_or-take}
 use Rattle.std.proofs.Math.Path.{ap}
 use Rattle.algebra.specs.Ring.{Ring2}

@@ -4,7 +4,7 @@
 --   degree-monic       its degree
 --   remainder-step, over-step
 --                      what the step makes of a ∷ p, where division of p leaves r
-use Rattle.std.specs.Prelude.{◌≡◌, refl, ℕ, zero, suc, length}
+use Rattle.std.specs.Prelude.{◌≡◌, refl, ℕ, suc, length}
 use Rattle.std.proofs.Math.Path.{ap, ap₂}
 use Rattle.std.proofs.Common.{◌∙◌, arith, length-append, take_at}
 use mathlib.Core.List.{List, [], ◌∷◌, ◌++◌}

@@ -19,7 +19,6 @@ use Rattle.std.proofs.Math.Decide.{dec_lt}
 use borrow.Author.Tests.{eq-eqb, ne_eqb, eqb-true, eqb-false, not-true, not-false}
 use Rattle.lists.specs.Equal.{eq_list}
 use Rattle.parameters.specs.declared.Parameters.{Parameters}
-use Rattle.layout.specs.Layout.{leaves}
 use Rattle.exchange.specs.Sequences.{those, least}
 use Rattle.exchange.proofs.Sequences.Laws.{Least, least-is}
 use Rattle.exchange.specs.Values.{Key}
