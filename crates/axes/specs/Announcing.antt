@@ -16,7 +16,6 @@ use Rattle.exchange.specs.Announcing.{Hidden, announced_by}
 use Rattle.coefficients.specs.Shares.{share_of}
 use Rattle.parties.specs.Sums.{with_last}
 use Rattle.axes.specs.Row.{hidden_party}
-pub mod Strings
 
 unfoldable pub party_from : Parameters → List ℕ → ℕ → ℕ → List ℕ
 party_from p sums j = with_last p (share_of p sums p.axes) (λ c. share_of p sums (sum_index p j c))

@@ -11,7 +11,6 @@ use Rattle.std.specs.Prelude.{◌≡◌, List, ℕ, ◌*◌, ◌≤◌, length}
 use Rattle.parameters.specs.declared.Parameters.{Parameters}
 use Rattle.parameters.specs.Limits.{Within}
 use Rattle.layout.specs.Layout.{sums_length, blocks_length, values_length, row_length, share_length, message2_length, rows_length, y_length, matrix_length}
-pub mod Laws
 
 pub record RowsAsked (p : Parameters) (sums m2 matrix y hidden rows : List ℕ) : Type 0 where
   pub within : Within p

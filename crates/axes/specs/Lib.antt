@@ -1,10 +1,5 @@
 pub mod Announcing
 pub mod Asked
 pub mod Axes
-pub mod Difference
-pub mod Evaluated
-pub mod Parties
 pub mod Row
 pub mod RowStrings
-pub mod Rows
-pub mod Streamed

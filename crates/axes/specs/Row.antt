@@ -20,7 +20,6 @@ use Rattle.exchange.specs.Sequences.{joined}
 use Rattle.exchange.specs.Reading.{point_at, encode}
 use Rattle.values.specs.Announced.{v_of}
 use Rattle.parties.specs.Sums.{with_last}
-pub mod Laws
 
 unfoldable pub front_by : Parameters → List ℕ → List ℕ
 front_by p block = take (values_length p) block

@@ -12,7 +12,6 @@ use Rattle.relation.specs.Key.{locator_of, quotient_of}
 use Rattle.layout.specs.Layout.{at_x}
 use Rattle.exchange.specs.Reading.{encode, ◌⊠◌}
 use Rattle.exchange.specs.Values.{a_of, b_of}
-pub mod Laws
 
 unfoldable pub products_of : Parameters → List ℕ → ℕ → Point
 products_of p drawn l = a_of p drawn l ⊠ b_of p drawn l

@@ -10,7 +10,6 @@ use Rattle.layout.specs.Layout.{leaves, work_length, y_length, matrix_length}
 use Rattle.layout.specs.Runs.{messages2_length, messages3_length, messages5_length}
 use Rattle.layout.specs.Runs.Laws.{RunsWithin}
 use Rattle.relation.specs.Key.{weight_of}
-pub mod Laws
 
 pub record Exchanging (p : Parameters) (n : ℕ) (x seeds work : List ℕ) : Type 0 where
   pub within : Within p

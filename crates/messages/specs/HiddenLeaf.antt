@@ -11,7 +11,6 @@ use Rattle.exchange.specs.Tree.{sibling_seeds}
 use Rattle.leaves.specs.States.{state_at}
 use Rattle.parties.specs.Drawn.{drawn_share}
 use Rattle.messages.specs.Own.{own_states}
-pub mod Laws
 
 abbrev pub siblings_of : Parameters → Run → ℕ → List ℕ
 siblings_of p run leaf = sibling_seeds SHAKE256 run.prefix (levels p) 1 run.root leaf

@@ -1,8 +1,6 @@
 pub mod Asked
 pub mod Auxiliary
-pub mod Commitment
 pub mod EveryRun
-pub mod Fronts
 pub mod HiddenLeaf
 pub mod Opening
 pub mod Own

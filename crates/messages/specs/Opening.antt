@@ -8,7 +8,6 @@ use Rattle.parameters.specs.declared.Parameters.{Parameters}
 use Rattle.layout.specs.Layout.{is_last}
 use Rattle.exchange.specs.Leaf.{commitment}
 use Rattle.values.specs.Leaf.{leaf_values}
-pub mod Laws
 
 unfoldable pub leaf_bytes : Parameters → List ℕ → List ℕ → ℕ → List ℕ → List ℕ → List ℕ → List ℕ
 leaf_bytes p prefix message2 leaf matrix own aux = commitment SHAKE256 p prefix leaf (take 32 own) aux ++ leaf_values p matrix message2 (drop 32 own)

@@ -12,7 +12,6 @@ use Rattle.exchange.specs.Parties.{total}
 use Rattle.seedtree.specs.Laid.{laid}
 use Rattle.leaves.specs.States.{states_of}
 use Rattle.parties.specs.Drawn.{drawn_share}
-pub mod Laws
 
 unfoldable pub own_states : Parameters → Run → List ℕ
 own_states p run = states_of run.prefix (laid (leaf_seeds SHAKE256 run.prefix (levels p) 1 run.root)) (leaves p) (leaves p)

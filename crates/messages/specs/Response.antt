@@ -14,7 +14,6 @@ use Rattle.parties.specs.Sums.Front.{filled}
 use Rattle.axes.specs.Announcing.{row_of}
 use Rattle.axes.specs.RowStrings.{rows_string}
 use Rattle.messages.specs.Own.{own_states}
-pub mod Laws
 
 pub record Filled (p : Parameters) (x : List ℕ) (run : Run) (sums : List ℕ) : Type 0 where
   pub is : sums ≡ filled p run.prefix (own_states p run) (leaves p) (own_aux SHAKE256 p x run)

@@ -23,7 +23,7 @@ use parameters::Parameters;
 use prover_phase::Phase;
 
 // A session. Of x the first m entries count, of message 2 the first 8t bytes a run.
-#[derive(Drop)]
+#[derive(Clone, Copy)]
 pub struct Prover {
     pub phase: Phase,
     pub parameters: Parameters,
@@ -35,7 +35,7 @@ pub struct Prover {
 }
 
 // A session after a call, with what the call answers.
-#[derive(Drop)]
+#[derive(Clone, Copy)]
 pub struct Called {
     pub prover: Prover,
     pub answer: Answer,

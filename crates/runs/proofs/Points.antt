@@ -1,2 +1,3 @@
 -- The laws about Points.
 pub mod Laws
+pub mod Distinct

@@ -7,7 +7,6 @@
 use Rattle.std.specs.Prelude.{cond, List, ℕ, eqb, length}
 use Rattle.answers.specs.Number.{refusal_number}
 use Rattle.answers.specs.declared.Refusal.TheVariants.{Length}
-pub mod Laws
 
 unfoldable pub fits : {A : Type 0} → List ℕ → ℕ → A → A → A
 fits b n call other = cond (eqb (length b) n) call other

@@ -1,5 +1,4 @@
 pub mod Buffer
 pub mod Parameters
-pub mod Parts
 pub mod Prover
 pub mod Verifier

@@ -9,7 +9,6 @@ use Rattle.layout.specs.Maxima.{most_messages2}
 use Rattle.prover_phase.specs.Phases.{prover_phase_byte, prover_phase_from}
 use Rattle.calls.specs.Prover.{Prover}
 use Rattle.stored.specs.Parameters.{parameter_bytes, parameters_from}
-pub mod Laws
 
 abbrev pub prover_size : ℕ
 prover_size = 2_358

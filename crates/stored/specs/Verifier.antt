@@ -10,7 +10,6 @@ use Rattle.layout.specs.Maxima.{most_runs, most_message1, most_messages2, most_m
 use Rattle.verifier_phase.specs.Phases.{verifier_phase_byte, verifier_phase_from}
 use Rattle.calls.specs.Verifier.{Verifier}
 use Rattle.stored.specs.Parameters.{parameter_bytes, parameters_from}
-pub mod Laws
 
 abbrev pub verifier_size : ℕ
 verifier_size = 4_167

@@ -18,7 +18,7 @@ use Rattle.exchange.proofs.Messages.Laws.{Secret}
 use Rattle.runs.specs.Messages.{leaf_at}
 use Rattle.runs.proofs.Messages.Laws.{length-message1, length-message3, length-message5}
 use Rattle.runs.specs.Points.{DistinctPoints}
-use Rattle.runs.proofs.Points.Laws.{points-distinct}
+use Rattle.runs.proofs.Points.Distinct.{points-distinct}
 use Rattle.runs.specs.Opening.{Transcript}
 use Rattle.calls.specs.Prover.History.{after, made}
 use Rattle.calls.specs.Verifier.{Verifier}

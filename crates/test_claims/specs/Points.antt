@@ -11,7 +11,7 @@ use Rattle.std.proofs.Common.{sym, ◌∙◌}
 use Rattle.std.proofs.lemmas.Bool.{false≢true}
 use Rattle.parameters.specs.declared.Parameters.{Parameters}
 use Rattle.runs.specs.Points.{distinct_points, DistinctPoints}
-use Rattle.runs.proofs.Points.Laws.{points-distinct, distinct-points}
+use Rattle.runs.proofs.Points.Distinct.{points-distinct, distinct-points}
 use Rattle.calls.specs.Lengths.{leaves_below}
 use Rattle.calls.specs.Verifier.{intact, standing, closed, due, begun, points_checks, pointed, points}
 use Rattle.test_standin.specs.Definitions.{definitions}

@@ -26,7 +26,7 @@ pub const MESSAGE2_PLACE: usize = 1056;
 pub const MESSAGE3_PLACE: usize = 3104;
 
 // A session. Each message stands at the front of its place; so do the leaves, one of each run.
-#[derive(Drop)]
+#[derive(Clone, Copy)]
 pub struct Verifier {
     pub phase: Phase,
     pub parameters: Parameters,
@@ -36,7 +36,7 @@ pub struct Verifier {
 }
 
 // A session after a call, with what the call answers.
-#[derive(Drop)]
+#[derive(Clone, Copy)]
 pub struct Called {
     pub verifier: Verifier,
     pub answer: Answer,

@@ -3,7 +3,8 @@ use Rattle.std.proofs.Common.{List, ap, arith, drop, length, length-take-le, tak
 use Rattle.layout.specs.Layout.Bounds.{blocks-fit}
 use Rattle.exchange.specs.Values.{key_of}
 use Rattle.points.specs.Written.{front_length, front_kept}
-use Rattle.axes.specs.Axes.{rows_by, rows_made}
+use Rattle.axes.specs.Axes.{rows_by}
+use Rattle.axes.proofs.Laws.Axes.{rows_made}
 use Rattle.axes.proofs.axis_rows.Goals as goal
 use Rattle.axes.proofs.axis_rows.Goals.{After-blocks_length-b, After-evaluate-made}
 

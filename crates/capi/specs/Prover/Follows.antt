@@ -34,9 +34,9 @@ use Rattle.calls.specs.Lengths.{begin_lengths, points_lengths}
 use Rattle.calls.specs.Prover.{Prover, Outcome as Called, fresh, settle, closed, points_due, begin, begin_checks, begun, points, points_checks, answered, leaf, leaf_checks, opened}
 use Rattle.prover.specs.Checks.{points-ready}
 use Rattle.stored.specs.Prover.{prover_size, prover_bytes, prover_from}
-use Rattle.stored.specs.Prover.Laws.{ProverLengths, length-prover_bytes, prover-back}
+use Rattle.stored.proofs.Laws.Prover.{ProverLengths, length-prover_bytes, prover-back}
 use Rattle.capi.specs.Session.{prover_new}
-use Rattle.stored.specs.Buffer.Laws.{fits-so, refused-stays}
+use Rattle.stored.proofs.Laws.Buffer.{fits-so, refused-stays}
 use Rattle.capi.specs.Prover.{Outcome, prover_after, prover_call, prover_begin, prover_points, prover_leaf}
 
 pub record Follows (r : Outcome) (o : Called) : Type 0 where

@@ -29,7 +29,7 @@ use Rattle.stored.specs.Parameters.{Small, within-small}
 use Rattle.stored.specs.Prover.{prover_size, prover_bytes, prover_from}
 use Rattle.capi.specs.Set.Laws.{set-not, set_so}
 use Rattle.capi.specs.Session.{Kept, kept, after}
-use Rattle.stored.specs.Buffer.Laws.{fits_not, fits-so}
+use Rattle.stored.proofs.Laws.Buffer.{fits_not, fits-so}
 use Rattle.capi.specs.Prover.{Outcome, given, prover_after, prover_call, prover_begin, prover_begin_set}
 
 -- ---- parameters and run count after a call that was carried out

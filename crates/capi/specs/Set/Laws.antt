@@ -8,7 +8,7 @@ use Rattle.std.proofs.Common.{sym, ap, ◌∙◌}
 use Rattle.parameters.specs.declared.Parameters.{Parameters}
 use Rattle.parameters.specs.Set.{set_length, numbers_of, parameters_of}
 use Rattle.parameters.specs.Set.Laws.{length-numbers}
-use Rattle.stored.specs.Buffer.Laws.{fits_not, fits-so}
+use Rattle.stored.proofs.Laws.Buffer.{fits_not, fits-so}
 use Rattle.capi.specs.Set.{with_set}
 
 module _ {A : Type 0} (ns : List ℕ) (call : Parameters → A) (other : A) where

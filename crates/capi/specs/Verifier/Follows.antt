@@ -27,9 +27,9 @@ use Rattle.calls.proofs.Judging.Laws.{verdict-judged}
 use Rattle.verifier.specs.Laws.{begin-passed, points-passed, response-passed, leaf-passed}
 use Rattle.calls.specs.Verifier.{Verifier, Outcome as Called, Judged as Opened, fresh, settle, closed, due, held_leaves, held_transcript, begin, begin_checks, begun, points, points_checks, pointed, response, response_checks, responded, leaf, leaf_checks, chosen, opening, opening_checks, judge, ended}
 use Rattle.stored.specs.Verifier.{verifier_size, verifier_bytes, verifier_from}
-use Rattle.stored.specs.Verifier.Laws.{VerifierLengths, length-verifier_bytes, verifier-back}
+use Rattle.stored.proofs.Laws.Verifier.{VerifierLengths, length-verifier_bytes, verifier-back}
 use Rattle.capi.specs.Session.{Kept, verifier_new}
-use Rattle.stored.specs.Buffer.Laws.{fits-so, refused-stays}
+use Rattle.stored.proofs.Laws.Buffer.{fits-so, refused-stays}
 use Rattle.capi.specs.Verifier.{verifier_after, verifier_call, verifier_begin, verifier_points, verifier_response, verifier_leaf, Judged, opening_after, verifier_opening}
 
 pub record Follows (r : Kept) (o : Called) : Type 0 where

@@ -39,7 +39,7 @@ use Rattle.stored.specs.Parameters.{Small, within-small}
 use Rattle.stored.specs.Verifier.{verifier_size, verifier_bytes, verifier_from}
 use Rattle.capi.specs.Set.Laws.{set-not, set_so}
 use Rattle.capi.specs.Session.{Kept, kept, after}
-use Rattle.stored.specs.Buffer.Laws.{fits_not, fits-so}
+use Rattle.stored.proofs.Laws.Buffer.{fits_not, fits-so}
 use Rattle.capi.specs.Verifier.{verifier_after, verifier_call, verifier_begin, verifier_begin_set, Judged, judged, judges, opening_after, verifier_opening}
 
 -- ---- parameters and run count after a call that was carried out

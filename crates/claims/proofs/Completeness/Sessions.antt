@@ -34,7 +34,7 @@ use Rattle.exchange.specs.Values.{Key}
 use Rattle.exchange.proofs.Messages.Laws.{Secret}
 use Rattle.runs.specs.Messages.{message1, message3, message5}
 use Rattle.runs.specs.Points.{distinct_points, DistinctPoints}
-use Rattle.runs.proofs.Points.Laws.{distinct-points}
+use Rattle.runs.proofs.Points.Distinct.{distinct-points}
 use Rattle.runs.specs.Opening.{transcript, verdict}
 use Rattle.prover_phase.specs.declared.Phase.{Phase}
 use Rattle.prover_phase.specs.declared.Phase.TheVariants.{Begun, Answered, Closed}

@@ -22,11 +22,12 @@ use Rattle.exchange.specs.Values.{Key}
 use Rattle.exchange.specs.Extractor.{axis, output}
 use Rattle.runs.specs.Messages.{leaf_at}
 use Rattle.runs.specs.Points.{DistinctPoints}
-use Rattle.runs.proofs.Points.Laws.{distinct-points}
+use Rattle.runs.proofs.Points.Distinct.{distinct-points}
 use Rattle.runs.specs.Opening.{Transcript, exchange_at}
 use Rattle.runs.proofs.Opening.Laws.{accepted-when}
 use Rattle.runs.specs.Extractor.{compared, differs, lowest_run, outputs, string_at, unequal_at, finding, extract}
-use Rattle.runs.proofs.Extractor.Laws.{differs-when, differs-then, differs-not, lowest-run, none_then, first_then}
+use Rattle.runs.proofs.Extractor.Laws.{differs-when, differs-then, differs-not, lowest-run}
+use Rattle.runs.proofs.Extractor.Unequal.{none_then, first_then}
 use Rattle.runs.proofs.Extractor.Output.{length-outputs, part-extracted, part-untouched}
 use Rattle.calls.proofs.Lengths.Laws.{below-leaves}
 use Rattle.calls.specs.Extractor.{pair, filled, Outcome, extract_lengths, both_distinct, same_statement, early_checks, found, second, first, early, extraction}

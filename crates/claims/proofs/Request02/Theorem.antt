@@ -39,7 +39,7 @@ use Rattle.exchange.specs.Reading.{bytes_at, point_at}
 use Rattle.exchange.specs.Values.{Key, point_of}
 use Rattle.runs.specs.Messages.{message2_at}
 use Rattle.runs.specs.Points.{point_bytes, distinct_points, DistinctPoints}
-use Rattle.runs.proofs.Points.Laws.{points-distinct, distinct-points}
+use Rattle.runs.proofs.Points.Distinct.{points-distinct, distinct-points}
 use Rattle.runs.specs.Opening.{Transcript, verdict}
 use Rattle.runs.specs.Extractor.{Finding, unequal, states, extract}
 use Rattle.verifier_phase.specs.declared.Phase.TheVariants.{Begun}

@@ -34,7 +34,8 @@ use Rattle.runs.specs.Run.{run_prefix}
 use Rattle.runs.specs.Messages.{leaf_at}
 use Rattle.runs.specs.Opening.{Transcript, message1_at, message5_at, exchange_at}
 use Rattle.runs.specs.Extractor.{differs, unequal_at}
-use Rattle.runs.proofs.Extractor.Laws.{differs-when, differs-then, none-when, first_then}
+use Rattle.runs.proofs.Extractor.Laws.{differs-when, differs-then}
+use Rattle.runs.proofs.Extractor.Unequal.{none-when, first_then}
 use Rattle.calls.specs.Extractor.{filled, extraction}
 use Rattle.claims.specs.Words.{Comparable, run_part, States}
 use Rattle.claims.proofs.Extraction.Runs.{alike_of}

@@ -25,7 +25,7 @@ use Rattle.runs.specs.Messages.{leaf_at}
 use Rattle.runs.specs.Opening.{Transcript, exchange_at, lowest, verdict}
 use Rattle.runs.proofs.Opening.Laws.{lowest-next, lowest-stays}
 use Rattle.runs.specs.Extractor.{differs}
-use Rattle.runs.proofs.Extractor.Laws.{FirstUnequal}
+use Rattle.runs.proofs.Extractor.Unequal.{FirstUnequal}
 use Rattle.extractor.specs.declared.best.Best.{Best}
 use Rattle.extractor.specs.declared.findings.Difference.{Difference}
 use Rattle.extractor.specs.declared.run.Judgement.{Judgement}

@@ -27,7 +27,8 @@ use Rattle.runs.specs.Messages.{leaf_at}
 use Rattle.runs.specs.Opening.{Transcript, exchange_at, lowest, verdict}
 use Rattle.runs.proofs.Opening.Laws.{lowest-stays}
 use Rattle.runs.specs.Extractor.{unequal, states, differs, lowest_run, outputs, extract}
-use Rattle.runs.proofs.Extractor.Laws.{Lowest, lowest-run, extract-unequal, extract-states}
+use Rattle.runs.proofs.Extractor.Laws.{Lowest, lowest-run}
+use Rattle.runs.proofs.Extractor.Unequal.{extract-unequal, extract-states}
 use Rattle.calls.specs.Extractor.{early_checks, found, second, first, early, extraction}
 use Rattle.extractor.specs.declared.best.Best.{Best}
 use Rattle.extractor.specs.declared.findings.Extraction.{Extraction}

@@ -3,8 +3,8 @@ use Rattle.std.proofs.Common.{replicate, sym, take, ◌∙◌}
 use Rattle.layout.specs.Maxima.{most_states, longest_aux}
 use Rattle.lists.specs.Part.Laws.{tail-part}
 use Rattle.points.specs.Written.{front_length}
-use Rattle.messages.specs.Commitment.{commitment-made}
-use Rattle.messages.specs.Fronts.{Rooms, rooms, Front, front-back}
+use Rattle.messages.proofs.Laws.Commitment.{commitment-made}
+use Rattle.messages.proofs.Laws.Fronts.{Rooms, rooms, Front, front-back}
 use Rattle.messages.specs.Run.{run_in, root-length}
 use Rattle.messages.proofs.commitment_digest.Goals as goal
 use Rattle.messages.proofs.commitment_digest.Goals.{After-aux_length-length, After-own_leaves}

@@ -5,9 +5,9 @@ use Rattle.lists.specs.Zeroed.{zeroed}
 use Rattle.layout.specs.Layout.Bounds.{sums-fit}
 use Rattle.points.specs.Written.{front_length}
 use Rattle.exchange.specs.Values.{key_of}
-use Rattle.messages.specs.Fronts.{x_fits, x-length, x-light, front-zeroed, Front, front-back}
+use Rattle.messages.proofs.Laws.Fronts.{x_fits, x-length, x-light, front-zeroed, Front, front-back}
 use Rattle.messages.specs.Response.{response_of}
-use Rattle.messages.specs.Response.Laws.{response-made}
+use Rattle.messages.proofs.Laws.Response.{response-made}
 use Rattle.messages.specs.Run.{run_in, root-length}
 use Rattle.messages.proofs.message3.Goals as goal
 use Rattle.messages.proofs.message3.Goals.{After-fill, After-sums_length-end}

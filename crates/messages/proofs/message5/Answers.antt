@@ -5,8 +5,8 @@ use Rattle.points.specs.Written.{front_length}
 use Rattle.layout.specs.Layout.Bounds.{leaves-most, share-most, aux-most}
 use Rattle.layout.specs.Maxima.{longest_aux, longest_share}
 use Rattle.exchange.specs.Values.{key_of}
-use Rattle.messages.specs.Fronts.{Front, front-back}
-use Rattle.messages.specs.Opening.Laws.{opening-length, opening-made}
+use Rattle.messages.proofs.Laws.Fronts.{Front, front-back}
+use Rattle.messages.proofs.Laws.Opening.{opening-length, opening-made}
 use Rattle.messages.specs.Run.{run_in}
 use Rattle.messages.proofs.message5.Goals as goal
 use Rattle.messages.proofs.message5.Goals.{After-aux_length-length, After-hidden_leaf}

@@ -26,7 +26,7 @@ use Rattle.leaves.specs.Commitments.Laws.{commitments-string}
 use Rattle.parties.specs.Totals.{disclosed_of}
 use Rattle.parties.specs.Sums.Front.{Known, filled, party-filled}
 use Rattle.axes.specs.Announcing.{party_from, row_of}
-use Rattle.axes.specs.Announcing.Strings.{opened-row}
+use Rattle.axes.proofs.Laws.Announcing.Strings.{opened-row}
 use Rattle.reader.specs.Message5.{values_in, aux_in}
 use Rattle.reader.proofs.Laws.Message5.{aux-short, no-aux}
 use Rattle.openings.specs.From.{digest_from, announced_from, response_from}

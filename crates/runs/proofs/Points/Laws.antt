@@ -4,7 +4,6 @@
 -- some-fails               where one of them fails, the row does
 -- all_none, all_more, all_end   a row starts, goes on where the next test passes, and ends
 -- new-when, new_then       no point before point l is equal to it
--- points-distinct, distinct-points   the test of n runs passes exactly where the points at two positions of one run differ
 use Rattle.std.specs.Prelude.{◌≡◌, Bool, ◌&&◌, List, [], ◌∷◌, ◌++◌}
 use Rattle.std.proofs.Math.Path.{refl, sym, ap}
 use Rattle.std.proofs.Common.{◌∙◌, not-suc-le-zero, le_refl, add-one, arith}
@@ -75,21 +74,3 @@ module _ (m2 : List ℕ) where
   unfolding new_point
   new_then l e i k q =
       false≢true (sym (ap not (eq_list-of (point_bytes m2 i) (point_bytes m2 l) q)) ∙ listed-all (λ i. not (eq_list (point_bytes m2 i) (point_bytes m2 l))) l e i k)
-
-module _ (p : Parameters) (n : ℕ) (m2 : List ℕ) where
-  pub distinct-points : DistinctPoints p n m2 → distinct_points p n m2 ≡ true
-  unfolding distinct_points distinct_in
-  distinct-points h =
-      all_listed _ n
-      (λ e k. all_listed _ p.t (λ l j. new-when (message2_at p m2 e) l (λ i b. h e i l k (omega arith) j (omega arith))))
-
-  pub points-distinct : distinct_points p n m2 ≡ true → DistinctPoints p n m2
-  unfolding distinct_points distinct_in
-  points-distinct h e i l k a b q c = go (dec_lt i l)
-    where
-      new : (j : ℕ) → j < p.t → new_point (message2_at p m2 e) j ≡ true
-      new j s = listed-all (new_point (message2_at p m2 e)) p.t (listed-all (λ e. distinct_in p.t (message2_at p m2 e)) n h e k) j s
-
-      go : Dec (i < l) → ⊥
-      go (yes s) = new_then (message2_at p m2 e) l (new l b) i s c
-      go (no s) = new_then (message2_at p m2 e) i (new i a) l (omega arith) (sym c)

@@ -4,7 +4,7 @@ use Rattle.std.proofs.Common.{ap, arith, length, sym, ◌∙◌}
 use lib.ListN.{length-map}
 use Rattle.prover.specs.Held.{held}
 use Rattle.stored.specs.Prover.{prover_bytes}
-use Rattle.stored.specs.Prover.Laws.{ProverLengths}
+use Rattle.stored.proofs.Laws.Prover.{ProverLengths}
 use Rattle.stored.proofs.write_prover.Goals as goal
 use Rattle.stored.proofs.write_prover.Goals.{Start}
 

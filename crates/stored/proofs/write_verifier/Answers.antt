@@ -6,9 +6,9 @@ use Rattle.lists.specs.Part.Laws.{put_at-whole}
 use Rattle.verifier.specs.Held.{held_length, message1_in, message2_in, message3_in}
 use Rattle.parameters.specs.declared.Parameters.{Parameters}
 use Rattle.stored.specs.Parameters.{parameter_bytes}
-use Rattle.stored.specs.Parts.{written_next}
+use Rattle.stored.proofs.Laws.Parts.{written_next}
 use Rattle.stored.specs.Verifier.{verifier_bytes}
-use Rattle.stored.specs.Verifier.Laws.{messages-whole}
+use Rattle.stored.proofs.Laws.Verifier.{messages-whole}
 use Rattle.stored.proofs.write_verifier.Goals as goal
 use Rattle.stored.proofs.write_verifier.Goals.{Start}
 

@@ -8,7 +8,7 @@ use Rattle.layout.specs.Maxima.{longest_row}
 use Rattle.points.specs.Written.{front_length, front_kept}
 use Rattle.parties.specs.Sums.{less}
 use Rattle.axes.specs.Axes.{party_row, formula_rows}
-use Rattle.axes.specs.Rows.{length-party_row, rows-joined, row-parts, put-behind, front-there, front-sized, front_fits}
+use Rattle.axes.proofs.Laws.Rows.{length-party_row, rows-joined, row-parts, put-behind, front-there, front-sized, front_fits}
 use Rattle.axes.proofs.axis.put_axis.Goals as goal
 use Rattle.axes.proofs.axis.put_axis.Goals.{After-others, After-put_last, After-put_parties}
 

@@ -7,7 +7,7 @@ use Rattle.layout.specs.Layout.Laws.{index-lt}
 use Rattle.points.specs.Blocks.{length-block}
 use Rattle.axes.specs.Row.{row_by}
 use Rattle.axes.specs.Axes.{party_row}
-use Rattle.axes.specs.Asked.Laws.{sum_fits}
+use Rattle.axes.proofs.Laws.Asked.{sum_fits}
 use Rattle.axes.proofs.axis.put_party.Goals as goal
 use Rattle.axes.proofs.axis.put_party.Goals.{After-row_length-room}
 

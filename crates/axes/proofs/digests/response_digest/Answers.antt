@@ -2,7 +2,7 @@ use Rattle.std.proofs.Common.{List, arith, length, ℕ, ◌*◌, ◌+◌, ◌<�
 use Rattle.lists.specs.Part.Laws.{part-fits}
 use Rattle.parameters.specs.declared.Parameters.{Parameters}
 use Rattle.layout.specs.Layout.{axis_length, rows_length}
-use Rattle.axes.specs.Streamed.{streamed-none, streamed-turn, streamed-end}
+use Rattle.axes.proofs.Laws.Streamed.{streamed-none, streamed-turn, streamed-end}
 use Rattle.axes.proofs.digests.response_digest.Goals as goal
 
 -- row j lies within the slice

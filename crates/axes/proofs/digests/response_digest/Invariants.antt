@@ -1,7 +1,7 @@
 -- The loop's invariant: the digests of the first j axes are absorbed, and row j starts at b (`streamed-turn`).
 use Rattle.std.proofs.Common.{◌*◌, ◌-◌, ◌≡◌, ◌≤◌}
 use Rattle.layout.specs.Layout.{axis_length}
-use Rattle.axes.specs.Streamed.{streamed}
+use Rattle.axes.proofs.Laws.Streamed.{streamed}
 use Rattle.axes.proofs.digests.response_digest.Given as goal
 
 abbrev pub invariant-loop-j : goal.invariant-loop-j

@@ -1,6 +1,6 @@
 -- A leaf below n has a party; no other number has one.
 use Rattle.std.proofs.Common.{arith, sym, ◌∙◌}
-use Rattle.axes.specs.Row.Laws.{hidden-inside, hidden-outside}
+use Rattle.axes.proofs.Laws.Row.{hidden-inside, hidden-outside}
 use Rattle.axes.proofs.hidden.hidden_party.Goals as goal
 
 pub returns-then-hidden_leaf-leaf_count : goal.returns-then-hidden_leaf-leaf_count

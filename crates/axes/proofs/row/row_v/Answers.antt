@@ -2,7 +2,7 @@
 use Rattle.std.proofs.Common.{ap, ℕ, ◌*◌, ◌+◌, ◌∙◌}
 use Rattle.tower.specs.Field.{bytes_of}
 use Rattle.exchange.specs.Reading.{point_at}
-use Rattle.axes.specs.Row.Laws.{v-read}
+use Rattle.axes.proofs.Laws.Row.{v-read}
 use Rattle.axes.proofs.row.row_v.Goals as goal
 
 pub returns : goal.returns

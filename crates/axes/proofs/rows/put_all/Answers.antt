@@ -4,7 +4,7 @@ use Rattle.layout.specs.Layout.Bounds.{blocks-fit, blocks-most}
 use Rattle.layout.specs.Maxima.{most_blocks}
 use Rattle.points.specs.Written.{front_length}
 use Rattle.axes.specs.Axes.{rows_by}
-use Rattle.axes.specs.Rows.{front-there, front-sized}
+use Rattle.axes.proofs.Laws.Rows.{front-there, front-sized}
 use Rattle.axes.proofs.rows.put_all.Goals as goal
 use Rattle.axes.proofs.rows.put_all.Goals.{After-blocks_length-b, After-copy}
 

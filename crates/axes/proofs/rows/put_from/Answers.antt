@@ -5,7 +5,7 @@ use Rattle.lists.specs.Part.{put_at}
 use Rattle.exchange.specs.Sequences.{joined}
 use Rattle.points.specs.Written.{front_length}
 use Rattle.axes.specs.Axes.{formula_rows}
-use Rattle.axes.specs.Rows.{all_made, front-there, front-sized}
+use Rattle.axes.proofs.Laws.Rows.{all_made, front-there, front-sized}
 use Rattle.axes.proofs.rows.put_from.Goals as goal
 use Rattle.axes.proofs.rows.put_from.Goals.{After-put_at, After-row_length-t, After-total_row}
 

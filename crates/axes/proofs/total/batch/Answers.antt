@@ -1,7 +1,7 @@
 -- The definition; the sums with the constants are some of all.
 use Rattle.std.proofs.Common.{ap, arith, sym, ℕ, ◌+◌, ◌-◌, ◌∙◌}
 use Rattle.axes.specs.Axes.{batch}
-use Rattle.axes.specs.Evaluated.{few-first}
+use Rattle.axes.proofs.Laws.Evaluated.{few-first}
 use Rattle.axes.proofs.total.batch.Goals as goal
 
 pub returns-then-first : goal.returns-then-first

@@ -12,7 +12,7 @@ use Rattle.values.specs.Announced.{announced_of}
 use Rattle.values.specs.Shares.{block_of, Announcements}
 use Rattle.values.specs.Products.{products_of, products-few}
 use Rattle.axes.specs.Axes.{Evaluated, rest_count}
-use Rattle.axes.specs.Evaluated.{few-first, from_front, from_back}
+use Rattle.axes.proofs.Laws.Evaluated.{few-first, from_front, from_back}
 use Rattle.axes.proofs.total.evaluate.Goals as goal
 use Rattle.axes.proofs.total.evaluate.Goals.{After-evaluate_some-made, After-row_length, After-sum_count}
 

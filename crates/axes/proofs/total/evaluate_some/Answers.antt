@@ -6,7 +6,7 @@ use Rattle.exchange.specs.Values.{key_of}
 use Rattle.points.specs.Written.{front_length}
 use Rattle.values.specs.Shares.{Announcements}
 use Rattle.values.specs.Products.{products_of}
-use Rattle.axes.specs.Rows.{front-there, front-sized}
+use Rattle.axes.proofs.Laws.Rows.{front-there, front-sized}
 use Rattle.axes.proofs.total.evaluate_some.Goals as goal
 use Rattle.axes.proofs.total.evaluate_some.Goals.{After-batch-n, After-interpolate_each}
 

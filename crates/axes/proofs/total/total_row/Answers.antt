@@ -6,7 +6,7 @@ use Rattle.layout.specs.Layout.{others, values_length}
 use Rattle.layout.specs.Layout.Laws.{others-pos}
 use Rattle.points.specs.Blocks.{length-block}
 use Rattle.axes.specs.Row.{row_by, with_hidden, front_by, hats_by}
-use Rattle.axes.specs.Asked.Laws.{sum_fits}
+use Rattle.axes.proofs.Laws.Asked.{sum_fits}
 use Rattle.axes.proofs.total.total_row.Goals as goal
 use Rattle.axes.proofs.total.total_row.Goals.{After-put_front, After-row_length-room}
 

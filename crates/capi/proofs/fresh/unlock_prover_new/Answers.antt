@@ -1,9 +1,9 @@
 -- The bytes of a fresh session.
 use Rattle.std.proofs.Common.{List, ap, ℕ, ◌∙◌}
 use Rattle.stored.specs.Prover.{prover_size, prover_bytes}
-use Rattle.stored.specs.Prover.Laws.{fresh-small}
+use Rattle.stored.proofs.Laws.Prover.{fresh-small}
 use Rattle.capi.specs.Session.{kept}
-use Rattle.stored.specs.Buffer.Laws.{fits_not, fits-so}
+use Rattle.stored.proofs.Laws.Buffer.{fits_not, fits-so}
 use Rattle.capi.proofs.fresh.unlock_prover_new.Goals as goal
 
 pub returns-then-session-ne-PROVER_SIZE : goal.returns-then-session-ne-PROVER_SIZE

@@ -1,9 +1,9 @@
 -- The bytes of a fresh session.
 use Rattle.std.proofs.Common.{List, ap, ℕ, ◌∙◌}
 use Rattle.stored.specs.Verifier.{verifier_size, verifier_bytes}
-use Rattle.stored.specs.Verifier.Laws.{fresh-small}
+use Rattle.stored.proofs.Laws.Verifier.{fresh-small}
 use Rattle.capi.specs.Session.{kept}
-use Rattle.stored.specs.Buffer.Laws.{fits_not, fits-so}
+use Rattle.stored.proofs.Laws.Buffer.{fits_not, fits-so}
 use Rattle.capi.proofs.fresh.unlock_verifier_new.Goals as goal
 
 pub returns-then-session-ne-VERIFIER_SIZE : goal.returns-then-session-ne-VERIFIER_SIZE

@@ -1,7 +1,7 @@
 -- A refusal leaves the buffer; a call that was carried out writes the session.
 use Rattle.std.proofs.Common.{ap}
 use Rattle.answers.specs.Number.{answer_number}
-use Rattle.stored.specs.Buffer.Laws.{refused-kept, done-kept}
+use Rattle.stored.proofs.Laws.Buffer.{refused-kept, done-kept}
 use Rattle.capi.proofs.proving.keep.Goals as goal
 
 pub returns-in_default : goal.returns-in_default

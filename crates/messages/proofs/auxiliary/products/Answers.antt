@@ -3,7 +3,7 @@ use Rattle.tower.specs.Field.{bytes_of}
 use Rattle.exchange.specs.Reading.{point_at}
 use Rattle.points.specs.Written.{write-none, write-turn, write-end}
 use Rattle.messages.specs.Auxiliary.{products_of}
-use Rattle.messages.specs.Auxiliary.Laws.{product-made}
+use Rattle.messages.proofs.Laws.Auxiliary.{product-made}
 use Rattle.messages.proofs.auxiliary.products.Goals as goal
 
 pub loop-l-init : goal.loop-l-init

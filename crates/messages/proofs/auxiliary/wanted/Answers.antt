@@ -5,7 +5,7 @@ use Rattle.lists.specs.Zeroed.{zeroed}
 use Rattle.layout.specs.Layout.{points_length}
 use Rattle.points.specs.Written.{front_length}
 use Rattle.messages.specs.Auxiliary.{wanted_for}
-use Rattle.messages.specs.Auxiliary.Laws.{length-q, length-u, left-q, left-u, wanted-made}
+use Rattle.messages.proofs.Laws.Auxiliary.{length-q, length-u, left-q, left-u, wanted-made}
 use Rattle.messages.proofs.auxiliary.wanted.Goals as goal
 
 pub slice_bounds-put_at-end : goal.slice_bounds-put_at-end

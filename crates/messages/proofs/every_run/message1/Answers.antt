@@ -2,7 +2,7 @@ use Rattle.std.proofs.Common.{arith, length, length-take-le, refl, sym, take, â—
 use Rattle.lists.specs.Part.Laws.{length-lent}
 use Rattle.shake256.specs.Fips.{SHAKE256}
 use Rattle.runs.specs.Messages.{digest_of}
-use Rattle.messages.specs.EveryRun.Laws.{arrays-of, cleared-none, cleared_more, placed-front, placed-behind, placed-turn, turn-kept, prefix-digest, message1-made}
+use Rattle.messages.proofs.Laws.EveryRun.{arrays-of, cleared-none, cleared_more, placed-front, placed-behind, placed-turn, turn-kept, prefix-digest, message1-made}
 use Rattle.messages.specs.Run.{salt_in, root_in}
 use Rattle.messages.proofs.every_run.message1.Goals as goal
 use Rattle.messages.proofs.every_run.message1.Goals.{In-loop-e, Start}

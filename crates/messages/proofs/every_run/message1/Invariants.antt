@@ -5,7 +5,7 @@ use Rattle.parameters.specs.declared.Parameters.{Parameters}
 use Rattle.layout.specs.Layout.{work_length}
 use Rattle.exchange.specs.Sequences.{joined}
 use Rattle.runs.specs.Messages.{digest_of}
-use Rattle.messages.specs.EveryRun.Laws.{Cleared, Placed}
+use Rattle.messages.proofs.Laws.EveryRun.{Cleared, Placed}
 use Rattle.messages.specs.Run.{salt_in, root_in}
 use Rattle.messages.proofs.every_run.message1.Given as goal
 

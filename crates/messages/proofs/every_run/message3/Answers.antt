@@ -3,7 +3,7 @@ use Rattle.lists.specs.Part.Laws.{length-lent}
 use Rattle.layout.specs.Layout.{message2_length}
 use Rattle.layout.specs.Runs.Laws.{messages2-most}
 use Rattle.exchange.specs.Values.{key_of}
-use Rattle.messages.specs.EveryRun.Laws.{arrays-of, cleared-none, cleared_more, placed-none, placed-turn, turn-kept, points-inside, points-next, response-turn, message3-made}
+use Rattle.messages.proofs.Laws.EveryRun.{arrays-of, cleared-none, cleared_more, placed-none, placed-turn, turn-kept, points-inside, points-next, response-turn, message3-made}
 use Rattle.messages.specs.Run.{salt_in, root_in}
 use Rattle.messages.proofs.every_run.message3.Invariants.{responses}
 use Rattle.messages.proofs.every_run.message3.Goals as goal

@@ -4,7 +4,7 @@ use Rattle.parameters.specs.declared.Parameters.{Parameters}
 use Rattle.layout.specs.Layout.{message2_length, work_length}
 use Rattle.exchange.specs.Sequences.{joined}
 use Rattle.exchange.specs.Values.{key_of}
-use Rattle.messages.specs.EveryRun.Laws.{Cleared, Placed, response}
+use Rattle.messages.proofs.Laws.EveryRun.{Cleared, Placed, response}
 use Rattle.messages.specs.Run.{salt_in, root_in}
 use Rattle.messages.proofs.every_run.message3.Given as goal
 

@@ -3,7 +3,7 @@ use Rattle.lists.specs.Part.Laws.{length-lent}
 use Rattle.layout.specs.Layout.{message2_length, message5_length}
 use Rattle.layout.specs.Runs.Laws.{messages2-most, messages5-most, messages5-none, messages5-turn, messages5-all, message5-inside}
 use Rattle.exchange.specs.Values.{key_of}
-use Rattle.messages.specs.EveryRun.Laws.{arrays-of, cleared-none, cleared_more, placed-none, placed-turn, turn-kept, points-inside, points-next, opening-turn, message5-made}
+use Rattle.messages.proofs.Laws.EveryRun.{arrays-of, cleared-none, cleared_more, placed-none, placed-turn, turn-kept, points-inside, points-next, opening-turn, message5-made}
 use Rattle.messages.specs.Run.{salt_in, root_in}
 use Rattle.messages.proofs.every_run.message5.Invariants.{openings}
 use Rattle.messages.proofs.every_run.message5.Goals as goal

@@ -5,7 +5,7 @@ use Rattle.layout.specs.Layout.{message2_length, work_length}
 use Rattle.layout.specs.Runs.{message5_place}
 use Rattle.exchange.specs.Sequences.{joined}
 use Rattle.exchange.specs.Values.{key_of}
-use Rattle.messages.specs.EveryRun.Laws.{Cleared, Placed, opening}
+use Rattle.messages.proofs.Laws.EveryRun.{Cleared, Placed, opening}
 use Rattle.messages.specs.Run.{salt_in, root_in}
 use Rattle.messages.proofs.every_run.message5.Given as goal
 

@@ -3,8 +3,8 @@ use Rattle.std.proofs.Common.{replicate, sym, ◌∙◌}
 use Rattle.layout.specs.Maxima.{most_states}
 use Rattle.lists.specs.Part.Laws.{tail-part}
 use Rattle.points.specs.Written.{front_length}
-use Rattle.messages.specs.Fronts.{Rooms, rooms, Front, front-back}
-use Rattle.messages.specs.Response.Laws.{fill-made}
+use Rattle.messages.proofs.Laws.Fronts.{Rooms, rooms, Front, front-back}
+use Rattle.messages.proofs.Laws.Response.{fill-made}
 use Rattle.messages.specs.Run.{run_in, root-length}
 use Rattle.messages.proofs.filled.fill.Goals as goal
 use Rattle.messages.proofs.filled.fill.Goals.{After-aux_length-length, After-own_states}

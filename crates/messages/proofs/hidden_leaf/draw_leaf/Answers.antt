@@ -5,8 +5,8 @@ use Rattle.points.specs.Written.{front_length}
 use Rattle.layout.specs.Layout.Bounds.{leaves-most}
 use Rattle.layout.specs.Maxima.{most_states}
 use Rattle.leaves.specs.States.{state_at}
-use Rattle.messages.specs.Fronts.{Front, front-back}
-use Rattle.messages.specs.HiddenLeaf.Laws.{drawn-made}
+use Rattle.messages.proofs.Laws.Fronts.{Front, front-back}
+use Rattle.messages.proofs.Laws.HiddenLeaf.{drawn-made}
 use Rattle.messages.specs.Own.{sum_of}
 use Rattle.messages.specs.Run.{run_in}
 use Rattle.messages.proofs.hidden_leaf.draw_leaf.Goals as goal

@@ -7,9 +7,9 @@ use Rattle.points.specs.Written.{front_length}
 use Rattle.layout.specs.Layout.{is_last, at_x}
 use Rattle.layout.specs.Layout.Bounds.{share-fits}
 use Rattle.messages.specs.Auxiliary.{aux_for}
-use Rattle.messages.specs.Fronts.{x_fits, x-length, x-light, front-zeroed, Front, front-back}
-use Rattle.messages.specs.HiddenLeaf.Laws.{leaf-made}
-use Rattle.messages.specs.Own.Laws.{aux-made}
+use Rattle.messages.proofs.Laws.Fronts.{x_fits, x-length, x-light, front-zeroed, Front, front-back}
+use Rattle.messages.proofs.Laws.HiddenLeaf.{leaf-made}
+use Rattle.messages.proofs.Laws.Own.{aux-made}
 use Rattle.messages.specs.Run.{run_in, root-length}
 use Rattle.messages.proofs.hidden_leaf.hidden_leaf.Goals as goal
 use Rattle.messages.proofs.hidden_leaf.hidden_leaf.Goals.{After-draw_leaf, After-work_length-all}

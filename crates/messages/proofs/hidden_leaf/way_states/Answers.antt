@@ -6,7 +6,7 @@ use Rattle.layout.specs.Layout.Bounds.{levels-most, leaves-most}
 use Rattle.seedtree.proofs.Lent.{part-back}
 use Rattle.leaves.specs.After.Laws.{length-bytes_after, state-begun}
 use Rattle.points.specs.Written.{front_length}
-use Rattle.messages.specs.HiddenLeaf.Laws.{way-states}
+use Rattle.messages.proofs.Laws.HiddenLeaf.{way-states}
 use Rattle.messages.specs.Run.{run_in, root-length}
 use Rattle.messages.proofs.hidden_leaf.way_states.Goals as goal
 use Rattle.messages.proofs.hidden_leaf.way_states.Goals.{Start}

@@ -1,7 +1,7 @@
 -- For leaf n−1 nothing is left to write; for any other aux fills the rest.
 use Rattle.std.proofs.Common.{sym, ◌∙◌}
 use Rattle.layout.specs.Layout.{is_last}
-use Rattle.messages.specs.Opening.Laws.{aux-none, aux-fits, aux-put}
+use Rattle.messages.proofs.Laws.Opening.{aux-none, aux-fits, aux-put}
 use Rattle.messages.proofs.opening.put_aux.Goals as goal
 
 pub returns-then-is_last : goal.returns-then-is_last

@@ -4,7 +4,7 @@ use Rattle.lists.specs.Part.Laws.{tail-part}
 use Rattle.points.specs.Written.{front_length}
 use Rattle.values.specs.Leaf.{leaf_values}
 use Rattle.messages.specs.Opening.{leaf_bytes}
-use Rattle.messages.specs.Opening.Laws.{left-first, two_made}
+use Rattle.messages.proofs.Laws.Opening.{left-first, two_made}
 use Rattle.messages.proofs.opening.put_leaf.Goals as goal
 use Rattle.messages.proofs.opening.put_leaf.Goals.{Start}
 

@@ -5,7 +5,7 @@ use Rattle.lists.specs.Part.Laws.{length-lent}
 use Rattle.layout.specs.Layout.{is_last, aux_length}
 use Rattle.layout.specs.Layout.Bounds.{levels-most}
 use Rattle.messages.specs.Opening.{opening_of}
-use Rattle.messages.specs.Opening.Laws.{opening-length, left-middle, pieces-made}
+use Rattle.messages.proofs.Laws.Opening.{opening-length, left-middle, pieces-made}
 use Rattle.messages.proofs.opening.put_opening.Goals as goal
 use Rattle.messages.proofs.opening.put_opening.Goals.{After-values_length}
 

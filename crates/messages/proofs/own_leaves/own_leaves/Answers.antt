@@ -7,9 +7,9 @@ use Rattle.layout.specs.Layout.{leaves}
 use Rattle.layout.specs.Layout.Bounds.{share-fits}
 use Rattle.parties.specs.Totals.{hides-none}
 use Rattle.messages.specs.Auxiliary.{aux_for}
-use Rattle.messages.specs.Fronts.{x_fits, x-length, x-light, front-zeroed, Front, front-back}
+use Rattle.messages.proofs.Laws.Fronts.{x_fits, x-length, x-light, front-zeroed, Front, front-back}
 use Rattle.messages.specs.Own.{sum_of}
-use Rattle.messages.specs.Own.Laws.{aux-made}
+use Rattle.messages.proofs.Laws.Own.{aux-made}
 use Rattle.messages.specs.Run.{run_in, root-length}
 use Rattle.messages.proofs.own_leaves.own_leaves.Goals as goal
 use Rattle.messages.proofs.own_leaves.own_leaves.Goals.{After-share_sum, After-work_length-all}

@@ -9,7 +9,7 @@ use Rattle.exchange.specs.Sequences.{joined}
 use Rattle.exchange.specs.Values.{key_of}
 use Rattle.axes.specs.Announcing.{row_of}
 use Rattle.axes.specs.RowStrings.{rows_string}
-use Rattle.messages.specs.Fronts.{zeros-front, Front, front-back}
+use Rattle.messages.proofs.Laws.Fronts.{zeros-front, Front, front-back}
 use Rattle.messages.specs.Response.{response_of}
 use Rattle.messages.proofs.response.respond.Goals as goal
 use Rattle.messages.proofs.response.respond.Goals.{After-axis_rows, After-rows_length-size}

@@ -1,6 +1,6 @@
 -- Each part is written behind the one before (`written-five`).
 use Rattle.std.proofs.Common.{length, refl, ◌+◌}
-use Rattle.stored.specs.Parts.{written-five}
+use Rattle.stored.proofs.Laws.Parts.{written-five}
 use Rattle.stored.proofs.parts.write_parts.Goals as goal
 
 pub returns : goal.returns

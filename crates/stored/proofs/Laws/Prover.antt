@@ -15,7 +15,7 @@ use Rattle.calls.specs.Prover.{Prover, fresh}
 use Rattle.parameters.specs.Set.{set_length, numbers_of, parameters_of}
 use Rattle.parameters.specs.Set.Laws.{length-numbers}
 use Rattle.stored.specs.Parameters.{Small, parameter_bytes}
-use Rattle.stored.specs.Parts.{read-front, read_behind}
+use Rattle.stored.proofs.Laws.Parts.{read-front, read_behind}
 use Rattle.stored.specs.Prover.{prover_size, prover_bytes, prover_from}
 
 pub record ProverLengths (s : Prover) : Type 0 where

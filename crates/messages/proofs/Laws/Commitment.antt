@@ -13,7 +13,7 @@ use Rattle.leaves.specs.States.{state_at}
 use Rattle.leaves.specs.Commitments.{commitments_of}
 use Rattle.leaves.specs.Commitments.Laws.{commitments-message1}
 use Rattle.messages.specs.Own.{own_states}
-use Rattle.messages.specs.Own.Laws.{own_states-at}
+use Rattle.messages.proofs.Laws.Own.{own_states-at}
 
 pub commitment-made : (p : Parameters) (x : List ℕ) (run : Run) → length run.root ≡ 16 → (prefix states aux : List ℕ) (n l : ℕ)
     → prefix ≡ run.prefix → states ≡ own_states p run → n ≡ leaves p → aux ≡ own_aux SHAKE256 p x run → l ≡ 32

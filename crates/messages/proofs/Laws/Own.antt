@@ -18,7 +18,7 @@ use Rattle.exchange.proofs.Leaf.Laws.{length-state}
 use Rattle.exchange.proofs.Parties.Laws.{total_ext}
 use Rattle.exchange.specs.Messages.{own_state, drawn, own_aux}
 use Rattle.messages.specs.Auxiliary.{aux_for}
-use Rattle.messages.specs.Auxiliary.Laws.{own_aux-is}
+use Rattle.messages.proofs.Laws.Auxiliary.{own_aux-is}
 use Rattle.leaves.specs.States.{state_at}
 use Rattle.leaves.specs.States.Seeds.{own-states}
 use Rattle.parties.specs.Drawn.{drawn_share}

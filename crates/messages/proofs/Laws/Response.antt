@@ -26,9 +26,9 @@ use Rattle.parties.specs.Totals.{disclosed_of, hides-none, party-hides-none}
 use Rattle.parties.specs.Sums.{party_sums, with_aux}
 use Rattle.parties.specs.Sums.Front.{Known, sum-total, party-filled}
 use Rattle.axes.specs.Announcing.{party_from}
-use Rattle.axes.specs.Announcing.Strings.{own-rows}
+use Rattle.axes.proofs.Laws.Announcing.Strings.{own-rows}
 use Rattle.messages.specs.Own.{own_states, sum_of}
-use Rattle.messages.specs.Own.Laws.{own_states-at, aux-made}
+use Rattle.messages.proofs.Laws.Own.{own_states-at, aux-made}
 use Rattle.messages.specs.Response.{Filled, response_of}
 
 pub total-is : (p : Parameters) (prefix states : List ℕ)

@@ -27,8 +27,8 @@ use Rattle.exchange.specs.Values.{Key, alpha, beta, part_v}
 use Rattle.exchange.specs.Parties.{sums, announced_bytes}
 use Rattle.exchange.specs.Announcing.{Hidden, party_alpha, party_beta, formula_v, party_v, announced_by}
 use Rattle.parties.specs.Sums.{less}
-use Rattle.axes.specs.Difference.{share_row, alpha-difference, beta-difference, part_v-difference, row-difference}
-use Rattle.axes.specs.Row.Laws.{hide-made}
+use Rattle.axes.proofs.Laws.Difference.{share_row, alpha-difference, beta-difference, part_v-difference, row-difference}
+use Rattle.axes.proofs.Laws.Row.{hide-made}
 
 -- ---- sums in any group
 

@@ -29,7 +29,7 @@ use Rattle.exchange.specs.Messages.{own_party, own_announced, message3}
 use Rattle.exchange.specs.Opening.{Exchange, alpha_of, beta_of, hidden_on, disclosed, announced}
 use Rattle.axes.specs.RowStrings.{rows_string}
 use Rattle.axes.specs.Row.{hidden_party}
-use Rattle.axes.specs.Row.Laws.{hidden-inside, hidden-outside}
+use Rattle.axes.proofs.Laws.Row.{hidden-inside, hidden-outside}
 use Rattle.axes.specs.Announcing.{party_from, hidden_from, row_of}
 
 -- ---- rows

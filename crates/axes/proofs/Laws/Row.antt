@@ -20,7 +20,7 @@ use Rattle.exchange.proofs.Reading.Laws.{length-encode, encode-ext, point_at-enc
 use Rattle.exchange.specs.Values.{Key, alpha, beta, part_v}
 use Rattle.values.specs.Announced.{gamma, announced_of, v_of}
 use Rattle.values.specs.Announced.Laws.{two-lengths, announced-front, part_v-gamma}
-use Rattle.axes.specs.Difference.{encode-xor, front-xor, share_row}
+use Rattle.axes.proofs.Laws.Difference.{encode-xor, front-xor, share_row}
 use Rattle.axes.specs.Row.{front_by, v_at, v_by, row_by, hidden_party}
 
 -- ---- points behind others

@@ -32,7 +32,7 @@ use Rattle.leaves.specs.States.Seeds.{state_at-states_from}
 use Rattle.parties.specs.Drawn.{drawn_share}
 use Rattle.parties.specs.Drawn.Laws.{drawn_share-short}
 use Rattle.messages.specs.Own.{own_states}
-use Rattle.messages.specs.Own.Laws.{length-own_state, own_states-at}
+use Rattle.messages.proofs.Laws.Own.{length-own_state, own_states-at}
 use Rattle.messages.specs.HiddenLeaf.{siblings_of, drawn_leaf}
 
 -- ---- all states by the way to the leaf

@@ -29,7 +29,7 @@ use Rattle.runs.specs.Run.{run_prefix, run_at}
 use Rattle.runs.specs.Messages.{message2_at, leaf_at, digest_of, message1, message3, message5}
 use Rattle.messages.specs.Asked.{Arrays}
 use Rattle.messages.specs.EveryRun.{Exchanging}
-use Rattle.messages.specs.Fronts.{front-zeroed}
+use Rattle.messages.proofs.Laws.Fronts.{front-zeroed}
 
 pub arrays-of : (p : Parameters) (n : ℕ) (x seeds work r w : List ℕ) → Exchanging p n x seeds work → length r ≡ 49 → length w ≡ length work → Arrays p x r w
 arrays-of p n x seeds work r w h lr lw =

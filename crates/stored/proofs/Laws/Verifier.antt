@@ -17,7 +17,7 @@ use Rattle.parameters.specs.Set.{set_length, numbers_of, parameters_of}
 use Rattle.parameters.specs.Set.Laws.{length-numbers}
 use Rattle.verifier.specs.Held.{held_length, message1_in, message2_in, message3_in}
 use Rattle.stored.specs.Parameters.{Small, parameter_bytes}
-use Rattle.stored.specs.Parts.{read-front, read_behind}
+use Rattle.stored.proofs.Laws.Parts.{read-front, read_behind}
 use Rattle.stored.specs.Verifier.{verifier_size, verifier_bytes, verifier_from}
 
 pub record VerifierLengths (s : Verifier) : Type 0 where

@@ -26,7 +26,7 @@ use Rattle.exchange.specs.Values.{Key, alpha}
 use Rattle.exchange.specs.Messages.{own_state, own_aux, own_share, own_commitment, message5}
 use Rattle.points.specs.Written.{front_kept, middle-kept}
 use Rattle.values.specs.Leaf.{leaf_values, leaf_values-any}
-use Rattle.messages.specs.Own.Laws.{length-own_state}
+use Rattle.messages.proofs.Laws.Own.{length-own_state}
 use Rattle.messages.specs.Opening.{leaf_bytes, opening_of}
 
 pub opening-any : (p : Parameters) (x : List ℕ) (run : Run) (key : Key) (message2 : List ℕ) (leaf : ℕ) (siblings own aux : List ℕ)

@@ -1,0 +1,2 @@
+-- The laws about Announcing.
+pub mod Strings
