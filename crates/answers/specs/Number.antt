@@ -2,11 +2,10 @@
 --
 -- refusal_number r      'Numbers caused by the input' (1 to 10), 'Numbers caused by the state' (11 to 13); 6 is unused; 14 is document 02's, request 02: 'A repeated point gets 14'
 -- answer_number a       the number of the refusal, 0 where the call was carried out
-use Rattle.std.specs.Prelude.{ℕ}
+use Rattle.std.specs.Prelude.{ℕ, Ok, Err}
 use Rattle.answers.specs.declared.Refusal.{Refusal}
 use Rattle.answers.specs.declared.Refusal.TheVariants.{Parameter, Length, Weight, Leaf, Commitment, Response, Exchange, SameLeaf, Malformed, NotDue, Closed, Repeated, SamePoint}
-use Rattle.answers.specs.declared.Answer.{Answer}
-use Rattle.answers.specs.declared.Answer.TheVariants.{Done, Refused}
+use Rattle.answers.specs.Answer.{Answer}
 pub mod Laws
 
 abbrev pub refusal_number : Refusal → ℕ
@@ -25,5 +24,5 @@ refusal_number Repeated = 13
 refusal_number SamePoint = 14
 
 abbrev pub answer_number : Answer → ℕ
-answer_number Done = 0
-answer_number (Refused r) = refusal_number r
+answer_number (Ok _) = 0
+answer_number (Err r) = refusal_number r

@@ -1,11 +1,12 @@
 // What a call answers, with document 01's numbers ('Numbers caused by the input', 'Numbers caused by the state').
 #![tactic(auto)]
 
-ghost use Rattle.std.specs.Prelude.{◌≡◌};
+ghost use Rattle.std.specs.Prelude.{◌≡◌, Ok};
 ghost use Rattle.answers.specs.Number.{refusal_number, answer_number};
+ghost use Rattle.answers.specs.Checks.{check};
 
 // Why a call is refused.
-#[derive(Clone, Copy)]
+#[derive(Clone, Copy, Debug, PartialEq, Eq)]
 pub enum Refusal {
     // 1: a parameter outside its limits
     Parameter,
@@ -36,31 +37,31 @@ pub enum Refusal {
     SamePoint,
 }
 
-// What a session call answers. `Done`: it was carried out, and where it judges an opening, the opening is accepted.
-#[derive(Clone, Copy)]
-pub enum Answer {
-    Done,
-    Refused(Refusal),
-}
+// What a session call answers. `Ok`: it was carried out, and where it judges an opening, the opening is accepted.
+pub type Answer = Result<(), Refusal>;
 
 // Document 01's number of a refusal.
-pub fn refusal_number(r: Refusal) -> u8
-    ensures { result ≡ refusal_number r }
-{
-    match r {
-        Refusal::Parameter => 1,
-        Refusal::Length => 2,
-        Refusal::Weight => 3,
-        Refusal::Leaf => 4,
-        Refusal::Commitment => 5,
-        Refusal::Response => 7,
-        Refusal::Exchange => 8,
-        Refusal::SameLeaf => 9,
-        Refusal::Malformed => 10,
-        Refusal::NotDue => 11,
-        Refusal::Closed => 12,
-        Refusal::Repeated => 13,
-        Refusal::SamePoint => 14,
+impl From<Refusal> for u8 {
+    ghost from_gives = { λ r n. n ≡ refusal_number r };
+
+    fn from(r: Refusal) -> u8
+        ensures { result ≡ refusal_number r }
+    {
+        match r {
+            Refusal::Parameter => 1,
+            Refusal::Length => 2,
+            Refusal::Weight => 3,
+            Refusal::Leaf => 4,
+            Refusal::Commitment => 5,
+            Refusal::Response => 7,
+            Refusal::Exchange => 8,
+            Refusal::SameLeaf => 9,
+            Refusal::Malformed => 10,
+            Refusal::NotDue => 11,
+            Refusal::Closed => 12,
+            Refusal::Repeated => 13,
+            Refusal::SamePoint => 14,
+        }
     }
 }
 
@@ -69,7 +70,14 @@ pub fn answer_number(a: Answer) -> u8
     ensures { result ≡ answer_number a }
 {
     match a {
-        Answer::Done => 0,
-        Answer::Refused(r) => refusal_number(r),
+        Ok(()) => 0,
+        Err(r) => u8::from(r),
     }
+}
+
+// One check of a call: `otherwise` is the refusal where it does not hold.
+pub fn require(holds: bool, otherwise: Refusal) -> Answer
+    ensures { result ≡ check holds otherwise (Ok tt) }
+{
+    if holds { Ok(()) } else { Err(otherwise) }
 }

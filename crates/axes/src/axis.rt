@@ -1,6 +1,5 @@
 // The rows of an axis's parties: of all but the last one from their sums, of the last one what these leave of the row of all leaves.
 ghost use Rattle.std.specs.Prelude.{◌≡◌, ◌*◌, ◌<◌, length};
-ghost use Rattle.bytefield.specs.Tables.{field_tables};
 ghost use Rattle.lists.specs.Part.{part};
 ghost use Rattle.parameters.specs.Limits.{Within};
 ghost use Rattle.layout.specs.Layout as layout;
@@ -11,6 +10,7 @@ ghost use Rattle.axes.specs.Asked.{SumsAsked};
 ghost use Rattle.axes.specs.Axes.{party_row, formula_rows};
 
 use crate::row::put_row;
+use bytefield::FieldTables;
 use layout::{LONGEST_ROW, others, row_length, share_length, side, sum_index};
 use parameters::Parameters;
 
@@ -23,10 +23,10 @@ fn put_party(
     blocks: &[u8],
     hats: &[u8],
     out: &mut [u8],
-    tables: &[u8; 512],
+    tables: &FieldTables,
 )
     requires { SumsAsked p sums.now blocks.now hats.now × (axis < p.axes) × (party < layout.others p)
-        × (length out.old ≡ layout.row_length p) × (tables.now ≡ field_tables) }
+        × (length out.old ≡ layout.row_length p) }
     ensures { out.new ≡ party_row p sums.now blocks.now hats.now axis party }
 {
     let i = sum_index(p, axis, party);
@@ -47,21 +47,17 @@ fn put_parties(
     blocks: &[u8],
     hats: &[u8],
     rows: &mut [u8],
-    tables: &[u8; 512],
+    tables: &FieldTables,
 )
-    requires { SumsAsked p sums.now blocks.now hats.now × (axis < p.axes) × (length rows.old ≡ layout.others p * layout.row_length p)
-        × (tables.now ≡ field_tables) }
+    requires { SumsAsked p sums.now blocks.now hats.now × (axis < p.axes) × (length rows.old ≡ layout.others p * layout.row_length p) }
     ensures { rows.new ≡ joined (party_row p sums.now blocks.now hats.now axis) (layout.others p) }
 {
     let n = others(p);
     let room = row_length(p);
-    let mut b = 0;
-    let mut c = 0;
-    while c < n {
+    for c in 0..n {
+        let b = c * room;
         let e = b + room;
         put_party(p, axis, c, sums, blocks, hats, &mut rows[b..e], tables);
-        b = e;
-        c += 1;
     }
 }
 
@@ -75,13 +71,10 @@ fn put_last(p: Parameters, total: &[u8], rows: &[u8], last: &mut [u8])
     let n = others(p);
     let room = row_length(p);
     lists::copy(last, total);
-    let mut b = 0;
-    let mut c = 0;
-    while c < n {
+    for c in 0..n {
+        let b = c * room;
         let e = b + room;
         lists::xor_into(last, &rows[b..e]);
-        b = e;
-        c += 1;
     }
 }
 
@@ -104,10 +97,10 @@ pub fn put_axis(
     hats: &[u8],
     total: &[u8],
     row: &mut [u8],
-    tables: &[u8; 512],
+    tables: &FieldTables,
 )
     requires { SumsAsked p sums.now blocks.now hats.now × (axis < p.axes) × (length total.now ≡ layout.row_length p)
-        × (length row.old ≡ layout.axis_length p) × (tables.now ≡ field_tables) }
+        × (length row.old ≡ layout.axis_length p) }
     ensures { row.new ≡ formula_rows p sums.now blocks.now hats.now total.now axis }
 {
     let mut last = [0u8; LONGEST_ROW];

@@ -54,14 +54,10 @@ pub fn response_digest(p: Parameters, prefix: &[u8], rows: &[u8], out: &mut [u8]
     let axes = begin(AXES, prefix);
     let mut all = begin(RESPONSE, prefix);
     let width = axis_length(p);
-    let mut b = 0;
-    let mut j = 0;
-    while j < p.axes {
+    for j in 0..p.axes {
+        let b = j * width;
         let e = b + width;
-        let next = add_axis(all, axes, j, &rows[b..e]);
-        all = next;
-        b = e;
-        j += 1;
+        all = add_axis(all, axes, j, &rows[b..e]);
     }
     digest(all, out);
 }

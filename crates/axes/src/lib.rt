@@ -17,7 +17,7 @@ ghost use Rattle.axes.specs.Axes.{products_made};
 
 use crate::rows::put_all;
 use crate::total::evaluate;
-use bytefield::field_tables;
+use bytefield::FieldTables;
 use layout::blocks_length;
 use parameters::Parameters;
 
@@ -38,7 +38,7 @@ pub fn axis_rows(
     ensures { (rows.new ≡ joined (row_of p (key_of matrix.now y.now) message2.now sums.now
         hidden_leaf hidden_values.now) p.axes) × (result ≡ products_made p) }
 {
-    let tables = field_tables();
+    let tables = FieldTables::new();
     let b = blocks_length(p);
     let made = evaluate(p, sums, message2, matrix, y, &mut rows[..b], &tables);
     put_all(p, sums, hidden_leaf, hidden_values, rows, &tables);

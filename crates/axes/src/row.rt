@@ -1,12 +1,12 @@
 // The row of a share: α, β and v at all positions. A block is α, β and γ of the share; the constants are in both or in none.
 ghost use Rattle.std.specs.Prelude.{◌≡◌, ◌<◌, length};
-ghost use Rattle.bytefield.specs.Tables.{field_tables};
 ghost use Rattle.tower.specs.Field.{bytes_of};
 ghost use Rattle.parameters.specs.Limits.{Within};
 ghost use Rattle.layout.specs.Layout.{points_length, values_length, row_length};
 ghost use Rattle.axes.specs.Row.{front_by, v_at, v_by, row_by};
 ghost use Rattle.axes.specs.Asked.{RowAsked};
 
+use bytefield::FieldTables;
 use layout::{factor_length, values_length};
 use parameters::Parameters;
 
@@ -27,9 +27,9 @@ fn row_v(
     block: &[u8],
     hats: &[u8],
     l: usize,
-    tables: &[u8; 512],
+    tables: &FieldTables,
 ) -> [u8; 4]
-    requires { RowAsked p s.now block.now hats.now × (l < p.t) × (tables.now ≡ field_tables) }
+    requires { RowAsked p s.now block.now hats.now × (l < p.t) }
     ensures { result ≡ bytes_of (v_at p first s.now block.now hats.now l) }
 {
     let gamma = points::encoding::point_at(block, values_length(p) + 4 * l);
@@ -46,16 +46,14 @@ fn put_v(
     block: &[u8],
     hats: &[u8],
     out: &mut [u8],
-    tables: &[u8; 512],
+    tables: &FieldTables,
 )
-    requires { RowAsked p s.now block.now hats.now × (length out.old ≡ points_length p) × (tables.now ≡ field_tables) }
+    requires { RowAsked p s.now block.now hats.now × (length out.old ≡ points_length p) }
     ensures { out.new ≡ v_by p first s.now block.now hats.now }
 {
-    let mut l = 0;
-    while l < p.t {
+    for l in 0..p.t {
         let v = row_v(p, first, s, block, hats, l, tables);
         points::encoding::put_point(out, 4 * l, v);
-        l += 1;
     }
 }
 
@@ -67,9 +65,9 @@ pub fn put_row(
     block: &[u8],
     hats: &[u8],
     out: &mut [u8],
-    tables: &[u8; 512],
+    tables: &FieldTables,
 )
-    requires { RowAsked p s.now block.now hats.now × (length out.old ≡ row_length p) × (tables.now ≡ field_tables) }
+    requires { RowAsked p s.now block.now hats.now × (length out.old ≡ row_length p) }
     ensures { out.new ≡ row_by p first s.now block.now hats.now }
 {
     let a = values_length(p);

@@ -1,6 +1,5 @@
 // The rows of all axes, one after another.
 ghost use Rattle.std.specs.Prelude.{◌≡◌, ◌*◌, length, take};
-ghost use Rattle.bytefield.specs.Tables.{field_tables};
 ghost use Rattle.lists.specs.Part.{part};
 ghost use Rattle.parameters.specs.Limits.{Within};
 ghost use Rattle.layout.specs.Layout.{blocks_length, row_length, axis_length, rows_length};
@@ -12,6 +11,7 @@ ghost use Rattle.axes.specs.Axes.{formula_rows, rows_by};
 use crate::axis::{hide, put_axis};
 use crate::hidden::hidden_party;
 use crate::total::total_row;
+use bytefield::FieldTables;
 use layout::{
     LONGEST_ROW, MOST_BLOCKS, MOST_VALUES, axis_length, blocks_length, row_length, values_length,
 };
@@ -25,21 +25,18 @@ fn put_rows(
     hats: &[u8],
     total: &[u8],
     rows: &mut [u8],
-    tables: &[u8; 512],
+    tables: &FieldTables,
 )
     requires { SumsAsked p sums.now blocks.now hats.now × (length total.now ≡ row_length p)
-        × (length rows.old ≡ rows_length p) × (tables.now ≡ field_tables) }
+        × (length rows.old ≡ rows_length p) }
     ensures { rows.new
         ≡ joined (formula_rows p sums.now blocks.now hats.now total.now) p.axes }
 {
     let width = axis_length(p);
-    let mut b = 0;
-    let mut j = 0;
-    while j < p.axes {
+    for j in 0..p.axes {
+        let b = j * width;
         let e = b + width;
         put_axis(p, j, sums, blocks, hats, total, &mut rows[b..e], tables);
-        b = e;
-        j += 1;
     }
 }
 
@@ -50,13 +47,10 @@ fn hide_rows(p: Parameters, hidden_leaf: usize, hiding: &[u8], rows: &mut [u8])
         (part rows.old (j * axis_length p) (axis_length p))) p.axes }
 {
     let width = axis_length(p);
-    let mut b = 0;
-    let mut j = 0;
-    while j < p.axes {
+    for j in 0..p.axes {
+        let b = j * width;
         let e = b + width;
         hide(p, hidden_party(p, j, hidden_leaf), hiding, &mut rows[b..e]);
-        b = e;
-        j += 1;
     }
 }
 
@@ -68,10 +62,9 @@ fn put_from(
     hidden_leaf: usize,
     hidden_values: &[u8],
     rows: &mut [u8],
-    tables: &[u8; 512],
+    tables: &FieldTables,
 )
-    requires { AllAsked p sums.now hidden_values.now rows.old × (length blocks.now ≡ blocks_length p)
-        × (tables.now ≡ field_tables) }
+    requires { AllAsked p sums.now hidden_values.now rows.old × (length blocks.now ≡ blocks_length p) }
     ensures { rows.new ≡ rows_by p sums.now blocks.now hidden_leaf hidden_values.now }
 {
     let mut hats = [0u8; MOST_VALUES];
@@ -101,9 +94,9 @@ pub fn put_all(
     hidden_leaf: usize,
     hidden_values: &[u8],
     rows: &mut [u8],
-    tables: &[u8; 512],
+    tables: &FieldTables,
 )
-    requires { AllAsked p sums.now hidden_values.now rows.old × (tables.now ≡ field_tables) }
+    requires { AllAsked p sums.now hidden_values.now rows.old }
     ensures { rows.new
         ≡ rows_by p sums.now (take (blocks_length p) rows.old) hidden_leaf hidden_values.now }
 {

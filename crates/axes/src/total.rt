@@ -1,6 +1,5 @@
 // What is made once for all axes: the blocks of all sums, α̂ and β̂, and the row of the sum of all disclosed leaves.
 ghost use Rattle.std.specs.Prelude.{◌≡◌, true};
-ghost use Rattle.bytefield.specs.Tables.{field_tables};
 ghost use Rattle.parameters.specs.Limits.{Within};
 ghost use Rattle.exchange.specs.Values.{key_of};
 ghost use Rattle.coefficients.specs.Shares.{share_of};
@@ -13,6 +12,7 @@ ghost use Rattle.axes.specs.Asked.{EvaluateAsked, SomeAsked, TotalAsked};
 
 use crate::hidden::add_hidden;
 use crate::row::{put_front, put_row};
+use bytefield::FieldTables;
 use layout::{MOST_COEFFICIENTS, row_length, share_length, sum_count};
 use parameters::Parameters;
 
@@ -37,9 +37,9 @@ fn evaluate_some(
     matrix: &[u8],
     y: &[u8],
     blocks: &mut [u8],
-    tables: &[u8; 512],
+    tables: &FieldTables,
 ) -> usize
-    requires { SomeAsked p (spec.batch p first) sums.now message2.now matrix.now y.now blocks.old × (tables.now ≡ field_tables) }
+    requires { SomeAsked p (spec.batch p first) sums.now message2.now matrix.now y.now blocks.old }
     ensures { Announcements p (key_of matrix.now y.now) message2.now first sums.now (spec.batch p first)
         blocks.new × (result ≡ products_of p (spec.batch p first)) }
 {
@@ -59,9 +59,9 @@ pub fn evaluate(
     matrix: &[u8],
     y: &[u8],
     blocks: &mut [u8],
-    tables: &[u8; 512],
+    tables: &FieldTables,
 ) -> usize
-    requires { EvaluateAsked p sums.now message2.now matrix.now y.now blocks.old × (tables.now ≡ field_tables) }
+    requires { EvaluateAsked p sums.now message2.now matrix.now y.now blocks.old }
     ensures { Evaluated p (key_of matrix.now y.now) message2.now sums.now blocks.new
         × (result ≡ products_made p) }
 {
@@ -103,9 +103,9 @@ pub fn total_row(
     hidden_values: &[u8],
     hats: &mut [u8],
     total: &mut [u8],
-    tables: &[u8; 512],
+    tables: &FieldTables,
 )
-    requires { TotalAsked p sums.now blocks.now hidden_values.now hats.old total.old × (tables.now ≡ field_tables) }
+    requires { TotalAsked p sums.now blocks.now hidden_values.now hats.old total.old }
     ensures { (hats.new ≡ hats_by p hidden_leaf (block_of p blocks.now p.axes) hidden_values.now)
         × (total.new ≡ row_by p true (share_of p sums.now p.axes) (block_of p blocks.now p.axes) hats.new) }
 {

@@ -5,6 +5,7 @@ ghost use Rattle.parameters.specs.Limits.{Within};
 ghost use Rattle.values.specs.Products.{products_of};
 ghost use Rattle.bench_c.specs.Counted.{counted_for};
 
+use bytefield::FieldTables;
 use layout::{LONGEST_MESSAGE2, LONGEST_SUMS, MOST_BLOCKS, MOST_COEFFICIENTS};
 use parameters::Parameters;
 
@@ -13,7 +14,7 @@ fn count(p: Parameters, n: usize) -> usize
     requires { Within p × (n ≤ 9) }
     ensures { result ≡ products_of p n }
 {
-    let tables = bytefield::field_tables();
+    let tables = FieldTables::new();
     let shares = [0u8; LONGEST_SUMS];
     let rows = [0u8; MOST_COEFFICIENTS];
     let message2 = [0u8; LONGEST_MESSAGE2];

@@ -37,13 +37,6 @@ const FIELD_TABLES: [u8; 512] = [
     242, 13, 23, 57, 75, 221, 124, 132, 151, 162, 253, 28, 36, 108, 180, 199, 82, 246, 1,
 ];
 
-// The logarithms, and behind them the powers of 03. A caller makes the tables once and lends them: every read of a constant table copies the table.
-pub fn field_tables() -> [u8; 512]
-    ensures { result ≡ field_tables }
-{
-    FIELD_TABLES
-}
-
 // The sum of two bytes.
 pub fn sum(a: u8, b: u8) -> u8
     ensures { result ≡ a ⊕ b }
@@ -51,24 +44,8 @@ pub fn sum(a: u8, b: u8) -> u8
     a ^ b
 }
 
-// 03 to the i.
-pub fn power_of(i: usize, tables: &[u8; 512]) -> u8
-    requires { (tables.now ≡ field_tables) × (i < 256) }
-    ensures { result ≡ power i }
-{
-    tables[256 + i]
-}
-
-// The logarithm of a, which is not 0.
-pub fn log_of(a: u8, tables: &[u8; 512]) -> usize
-    requires { (tables.now ≡ field_tables) × (0 < a) }
-    ensures { (result < 255) × (power result ≡ a) }
-{
-    tables[a as usize] as usize
-}
-
-// A sum of two logarithms modulo 255. It picks the index and not the entry, which compiles to no jump.
-fn wrapped(i: usize) -> usize
+// A sum of two exponents of 03, or logarithms, modulo 255. It picks the index and not the entry, which compiles to no jump.
+pub fn wrapped(i: usize) -> usize
     requires { i < 510 }
     ensures { (result < 255) × (power result ≡ power i) }
 {
@@ -78,27 +55,54 @@ fn wrapped(i: usize) -> usize
     i - 255
 }
 
-// The product of two bytes.
-pub fn product(a: u8, b: u8, tables: &[u8; 512]) -> u8
-    requires { tables.now ≡ field_tables }
-    ensures { result ≡ a ⊗ b }
-{
-    if a == 0 {
-        return 0;
-    }
-    if b == 0 {
-        return 0;
-    }
-    power_of(wrapped(log_of(a, tables) + log_of(b, tables)), tables)
+// The logarithms, and behind them the powers of 03. A caller makes the tables once and lends them: every read of a constant table copies the table.
+#[derive(Drop)]
+pub struct FieldTables {
+    entries: [u8; 512],
+    ghost as_defined: { entries ≡ field_tables },
 }
 
-// The inverse of a byte, and 0 of 0.
-pub fn inverse(a: u8, tables: &[u8; 512]) -> u8
-    requires { tables.now ≡ field_tables }
-    ensures { result ≡ inverse a }
-{
-    if a == 0 {
-        return 0;
+impl FieldTables {
+    pub fn new() -> Self {
+        FieldTables {
+            entries: FIELD_TABLES,
+        }
     }
-    power_of(255 - log_of(a, tables), tables)
+
+    // 03 to the i.
+    pub fn power_of(&self, i: usize) -> u8
+        requires { i < 256 }
+        ensures { result ≡ power i }
+    {
+        self.entries[256 + i]
+    }
+
+    // The logarithm of a, which is not 0.
+    pub fn log_of(&self, a: u8) -> usize
+        requires { 0 < a }
+        ensures { (result < 255) × (power result ≡ a) }
+    {
+        self.entries[a as usize] as usize
+    }
+
+    // The product of two bytes.
+    pub fn product(&self, a: u8, b: u8) -> u8
+        ensures { result ≡ a ⊗ b }
+    {
+        if a == 0 || b == 0 {
+            0
+        } else {
+            self.power_of(wrapped(self.log_of(a) + self.log_of(b)))
+        }
+    }
+
+    // The inverse of a byte, and 0 of 0.
+    pub fn inverse(&self, a: u8) -> u8
+        ensures { result ≡ inverse a }
+    {
+        if a == 0 {
+            return 0;
+        }
+        self.power_of(255 - self.log_of(a))
+    }
 }

@@ -12,12 +12,11 @@
 -- number_of a              the number, 0 where the call was carried out
 -- Outcome                 answer, output and work area
 -- extraction              the call
-use Rattle.std.specs.Prelude.{Bool, ◌&&◌, not, List, [], ◌∷◌, ◌++◌, ℕ, eqb, length}
+use Rattle.std.specs.Prelude.{Bool, ◌&&◌, not, List, [], ◌∷◌, ◌++◌, ℕ, eqb, length, Ok, Err}
 use Rattle.lists.specs.Zeroed.{zeroed}
 use Rattle.lists.specs.Equal.{eq_list}
 use Rattle.lists.specs.Checks.{all_true}
-use Rattle.answers.specs.declared.Answer.{Answer as Checked}
-use Rattle.answers.specs.declared.Answer.TheVariants.{Done, Refused}
+use Rattle.answers.specs.Answer.{Answer as Checked}
 use Rattle.answers.specs.Number.{refusal_number}
 use Rattle.answers.specs.declared.Refusal.TheVariants.{Parameter, Length, Leaf, Exchange as Differs, SameLeaf, SamePoint}
 use Rattle.answers.specs.Checks.{checks}
@@ -82,16 +81,16 @@ module _ (hash : List ℕ → ℕ → List ℕ) (p : Parameters) (runs : ℕ) (t
   found (states run axis s) = record { answer = filled run axis; out = s; work = zeroed (work_length p) work }
 
   unfoldable pub second : Checked → Outcome
-  second Done = found (extract hash p runs key t t' out)
-  second (Refused r) = record { answer = refused (refusal_number r); out = out; work = zeroed (work_length p) work }
+  second (Ok _) = found (extract hash p runs key t t' out)
+  second (Err r) = record { answer = refused (refusal_number r); out = out; work = zeroed (work_length p) work }
 
   unfoldable pub first : Checked → Outcome
-  first Done = second (verdict hash p runs t' key)
-  first (Refused r) = record { answer = refused (refusal_number r); out = out; work = zeroed (work_length p) work }
+  first (Ok _) = second (verdict hash p runs t' key)
+  first (Err r) = record { answer = refused (refusal_number r); out = out; work = zeroed (work_length p) work }
 
   unfoldable pub early : Checked → Outcome
-  early Done = first (verdict hash p runs t key)
-  early (Refused r) = record { answer = refused (refusal_number r); out = out; work = work }
+  early (Ok _) = first (verdict hash p runs t key)
+  early (Err r) = record { answer = refused (refusal_number r); out = out; work = work }
 
   unfoldable pub extraction : Outcome
   extraction = early early_checks

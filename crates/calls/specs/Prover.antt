@@ -15,13 +15,12 @@
 -- begin                 'begin (key, salt, root seed; gives 1)'; 'drops the exchange held'
 -- points                'points (gives 3)'
 -- leaf                  'leaf (gives 5, closes)': takes the hidden leaf of each run
-use Rattle.std.specs.Prelude.{Bool, ◌&&◌, ◌||◌, not, cond, List, [], ◌∷◌, ℕ, leb, replicate, take}
+use Rattle.std.specs.Prelude.{Bool, ◌&&◌, ◌||◌, not, cond, List, [], ◌∷◌, ℕ, leb, replicate, take, Ok, Err}
 use Rattle.lists.specs.Part.{put_at}
 use Rattle.lists.specs.Zeroed.{zeroed}
 use Rattle.lists.specs.Equal.{eq_list}
 use Rattle.lists.specs.Checks.{all_true}
-use Rattle.answers.specs.declared.Answer.{Answer}
-use Rattle.answers.specs.declared.Answer.TheVariants.{Done, Refused}
+use Rattle.answers.specs.Answer.{Answer}
 use Rattle.answers.specs.declared.Refusal.TheVariants.{Parameter, Length, Weight, Leaf, NotDue, Closed as ExchangeClosed, Repeated, SamePoint}
 use Rattle.answers.specs.Number.{refusal_number}
 use Rattle.answers.specs.Checks.{checks}
@@ -98,8 +97,8 @@ pub record Outcome : Type 0 where
   pub work : List ℕ
 
 abbrev pub settle : Answer → Prover → List ℕ → List ℕ → Outcome → Outcome
-settle Done s out work done = done
-settle (Refused r) s out work done = record { answer = refusal_number r; prover = s; out = out; work = work }
+settle (Ok _) s out work done = done
+settle (Err r) s out work done = record { answer = refusal_number r; prover = s; out = out; work = work }
 
 -- a list at the front of an array of n bytes
 abbrev pub padded : ℕ → List ℕ → List ℕ

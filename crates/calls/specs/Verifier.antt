@@ -11,12 +11,11 @@
 -- settle               a refusal leaves 'the session unchanged'
 -- begin, points, response, leaf   'begin (parameters, message 1), points, response, leaf': each takes its message
 -- opening              'opening (closes with accepted, 5, 6 or 7)'; 'Closing changes nothing else that a session holds'
-use Rattle.std.specs.Prelude.{Bool, ◌&&◌, ◌||◌, not, cond, List, [], ◌∷◌, ℕ, eqb, length, replicate, take}
+use Rattle.std.specs.Prelude.{Bool, ◌&&◌, ◌||◌, not, cond, List, [], ◌∷◌, ℕ, eqb, length, replicate, take, Ok, Err}
 use Rattle.lists.specs.Part.{put_at}
 use Rattle.lists.specs.Zeroed.{zeroed}
 use Rattle.lists.specs.Checks.{all_true}
-use Rattle.answers.specs.declared.Answer.{Answer}
-use Rattle.answers.specs.declared.Answer.TheVariants.{Done, Refused}
+use Rattle.answers.specs.Answer.{Answer}
 use Rattle.answers.specs.declared.Refusal.{Refusal}
 use Rattle.answers.specs.declared.Refusal.TheVariants.{Parameter, Length, Leaf, NotDue, Closed as ExchangeClosed, SamePoint}
 use Rattle.answers.specs.Number.{refusal_number, answer_number}
@@ -101,8 +100,8 @@ pub record Judged : Type 0 where
   pub work : List ℕ
 
 abbrev pub settle : Answer → Verifier → Verifier → Outcome
-settle Done s next = record { answer = 0; verifier = next }
-settle (Refused r) s next = record { answer = refusal_number r; verifier = s }
+settle (Ok _) s next = record { answer = 0; verifier = next }
+settle (Err r) s next = record { answer = refusal_number r; verifier = s }
 
 -- the calls after begin: 12 and 11 come first
 abbrev pub after_begin : Verifier → Phase → List (Bool × Refusal) → Answer
@@ -202,8 +201,8 @@ module _ (hash : List ℕ → ℕ → List ℕ) (s : Verifier) (m5 : List ℕ) (
   opening_checks = after_begin s Chosen ((all_true (opening_lengths p (held_leaves s) m5 key work), Length) ∷ [])
 
   unfoldable pub judge : Answer → Judged
-  judge Done = record { answer = answer_number (verdict hash p s.runs (held_transcript s m5) key); verifier = ended s; work = zeroed (work_length p) work }
-  judge (Refused r) = record { answer = refusal_number r; verifier = s; work = work }
+  judge (Ok _) = record { answer = answer_number (verdict hash p s.runs (held_transcript s m5) key); verifier = ended s; work = zeroed (work_length p) work }
+  judge (Err r) = record { answer = refusal_number r; verifier = s; work = work }
 
   unfoldable pub opening : Judged
   opening = judge opening_checks

@@ -5,25 +5,21 @@ ghost use Rattle.runs.specs.Opening.{transcript};
 ghost use Rattle.extractor.specs.Answer.{extraction_answer};
 ghost use Rattle.capi.specs.Extract.{extract_number, given, extract_set};
 
+use answers::Refusal;
+use extractor::Transcript;
 use extractor::findings::Extraction;
 use parameters::set::parameters_of;
 
-fn wide(b: u8) -> u32
-    ensures { result ≡ b }
-{
-    b as u32
-}
-
 // The number of the extractor's answer.
-fn number(e: Extraction) -> u32
-    ensures { result ≡ extract_number (extraction_answer e) }
+fn number(answer: Result<Extraction, Refusal>) -> u32
+    ensures { result ≡ extract_number (extraction_answer answer) }
 {
-    match e {
-        Extraction::Refused(r) => wide(answers::refusal_number(r)),
-        Extraction::Unequal { run, layer, number } => {
-            65536 * wide(layer) + 256 * wide(run) + wide(number)
+    match answer {
+        Err(r) => u32::from(u8::from(r)),
+        Ok(Extraction::Unequal { run, layer, number }) => {
+            65536 * u32::from(layer) + 256 * u32::from(run) + u32::from(number)
         }
-        Extraction::Extracted { run, axis } => 256 * (wide(run) + 1) + wide(axis),
+        Ok(Extraction::Extracted { run, axis }) => 256 * (u32::from(run) + 1) + u32::from(axis),
     }
 }
 
@@ -59,9 +55,20 @@ pub extern "C" fn unlock_extract(
         return 2;
     }
     let p = parameters_of(set);
-    let e = extractor::extract(
-        p, runs, first1, first2, first3, first4, first5, second1, second2, second3, second4,
-        second5, matrix, y, work, out,
-    );
+    let first = Transcript {
+        message1: first1,
+        message2: first2,
+        message3: first3,
+        leaves: first4,
+        message5: first5,
+    };
+    let second = Transcript {
+        message1: second1,
+        message2: second2,
+        message3: second3,
+        leaves: second4,
+        message5: second5,
+    };
+    let e = extractor::extract(p, runs, first, second, matrix, y, work, out);
     number(e)
 }

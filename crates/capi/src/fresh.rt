@@ -11,7 +11,7 @@ pub extern "C" fn unlock_prover_new(session: &mut [u8]) -> u8
         return 2;
     }
     let s = prover::fresh();
-    stored::write_prover(s, session);
+    stored::write_prover(&s, session);
     0
 }
 
@@ -24,6 +24,6 @@ pub extern "C" fn unlock_verifier_new(session: &mut [u8]) -> u8
         return 2;
     }
     let s = verifier::fresh();
-    stored::write_verifier(s, session);
+    stored::write_verifier(&s, session);
     0
 }

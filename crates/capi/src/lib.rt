@@ -5,6 +5,7 @@
 
 mod extracting;
 mod fresh;
+mod keeping;
 mod misfit;
 mod proving;
 mod sizes;

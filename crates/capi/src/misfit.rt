@@ -8,11 +8,5 @@ use parameters::Parameters;
 pub fn misfit_number(p: Parameters, runs: usize) -> u8
     ensures { result ≡ misfit_number p runs }
 {
-    if !parameters::within_limits(p) {
-        return 1;
-    }
-    if !layout::runs::runs_within(runs) {
-        return 1;
-    }
-    2
+    if layout::runs::within(p, runs) { 2 } else { 1 }
 }

@@ -1,32 +1,11 @@
 // The prover's calls.
-ghost use Rattle.std.specs.Prelude.{◌≡◌, length};
-ghost use Rattle.answers.specs.Number.{answer_number};
+ghost use Rattle.std.specs.Prelude.{◌≡◌};
 ghost use Rattle.exchange.specs.Values.{key_of};
-ghost use Rattle.prover.specs.Held.{held};
-ghost use Rattle.stored.specs.Parameters.{Small};
-ghost use Rattle.stored.specs.Prover.{prover_size, prover_bytes};
-ghost use Rattle.capi.specs.Session.{kept, after};
 ghost use Rattle.capi.specs.Prover.{given, prover_begin_set, prover_points, prover_leaf};
 
+use crate::keeping::keep;
 use crate::misfit::misfit_number;
-use answers::Answer;
 use parameters::set::parameters_of;
-use prover::Called;
-
-// Writes the session of a call that was carried out; the number of its answer.
-fn keep(called: Called, session: &mut [u8]) -> u8
-    requires { (length session.old ≡ prover_size) × (answer_number called.answer ≡ 0 → Small called.prover.parameters called.prover.runs) }
-    ensures { kept result session.new ≡ kept (answer_number called.answer)
-        (after (answer_number called.answer) session.old (prover_bytes (held called.prover))) }
-{
-    let answer = called.answer;
-    let Answer::Done = answer else {
-        return answers::answer_number(answer);
-    };
-    let next = called.prover;
-    stored::write_prover(next, session);
-    0
-}
 
 // Begins an exchange of so many runs and gives message 1. A set of another length gives 2 before everything else.
 #[unsafe(no_mangle)]
@@ -53,9 +32,9 @@ pub extern "C" fn unlock_prover_begin(
     if session.len() != stored::PROVER_SIZE {
         return misfit_number(p, runs);
     }
-    let s = stored::read_prover(session);
-    let called = s.begin(p, runs, x_a, salt, root, matrix, y, work, out);
-    keep(called, session)
+    let mut s = stored::read_prover(session);
+    let answer = s.start(p, runs, x_a, salt, root, matrix, y, work, out);
+    keep(answer, &s, session)
 }
 
 // Takes message 2, points and multipliers, and gives message 3.
@@ -74,9 +53,9 @@ pub extern "C" fn unlock_prover_points(
     if session.len() != stored::PROVER_SIZE {
         return 2;
     }
-    let s = stored::read_prover(session);
-    let called = s.points(message2, matrix, y, work, out);
-    keep(called, session)
+    let mut s = stored::read_prover(session);
+    let answer = s.take_points(message2, matrix, y, work, out);
+    keep(answer, &s, session)
 }
 
 // Takes message 4, the leaf that stays hidden in each run, gives message 5 and closes the exchange.
@@ -95,7 +74,7 @@ pub extern "C" fn unlock_prover_leaf(
     if session.len() != stored::PROVER_SIZE {
         return 2;
     }
-    let s = stored::read_prover(session);
-    let called = s.leaf(leaves, matrix, y, work, out);
-    keep(called, session)
+    let mut s = stored::read_prover(session);
+    let answer = s.take_leaf(leaves, matrix, y, work, out);
+    keep(answer, &s, session)
 }

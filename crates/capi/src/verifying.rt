@@ -5,29 +5,15 @@ ghost use Rattle.exchange.specs.Values.{key_of};
 ghost use Rattle.verifier.specs.Held.{held};
 ghost use Rattle.stored.specs.Parameters.{Small};
 ghost use Rattle.stored.specs.Verifier.{verifier_size, verifier_bytes};
-ghost use Rattle.capi.specs.Session.{kept, after};
+ghost use Rattle.capi.specs.Session.{kept};
 ghost use Rattle.capi.specs.Verifier.{verifier_begin_set, verifier_points, verifier_response, verifier_leaf, judged, judges, verifier_opening};
 
+use crate::keeping::keep;
 use crate::misfit::misfit_number;
 use answers::Answer;
 use parameters::set::parameters_of;
 use stored::buffer::is_judged;
-use verifier::Called;
-
-// Writes the session of a call that was carried out; the number of its answer.
-fn keep(called: Called, session: &mut [u8]) -> u8
-    requires { (length session.old ≡ verifier_size) × (answer_number called.answer ≡ 0 → Small called.verifier.parameters called.verifier.runs) }
-    ensures { kept result session.new ≡ kept (answer_number called.answer)
-        (after (answer_number called.answer) session.old (verifier_bytes (held called.verifier))) }
-{
-    let answer = called.answer;
-    let Answer::Done = answer else {
-        return answers::answer_number(answer);
-    };
-    let next = called.verifier;
-    stored::write_verifier(next, session);
-    0
-}
+use verifier::Verifier;
 
 // Begins an exchange of so many runs with its parameters and message 1. A set of another length gives 2 before everything else.
 #[unsafe(no_mangle)]
@@ -46,9 +32,9 @@ pub extern "C" fn unlock_verifier_begin(
     if session.len() != stored::VERIFIER_SIZE {
         return misfit_number(p, runs);
     }
-    let s = stored::read_verifier(session);
-    let called = s.begin(p, runs, message1);
-    keep(called, session)
+    let mut s = stored::read_verifier(session);
+    let answer = s.start(p, runs, message1);
+    keep(answer, &s, session)
 }
 
 // Takes message 2, points and multipliers, which the verifier sends.
@@ -59,9 +45,9 @@ pub extern "C" fn unlock_verifier_points(session: &mut [u8], message2: &[u8]) ->
     if session.len() != stored::VERIFIER_SIZE {
         return 2;
     }
-    let s = stored::read_verifier(session);
-    let called = s.points(message2);
-    keep(called, session)
+    let mut s = stored::read_verifier(session);
+    let answer = s.take_points(message2);
+    keep(answer, &s, session)
 }
 
 // Takes message 3, the response digests.
@@ -72,9 +58,9 @@ pub extern "C" fn unlock_verifier_response(session: &mut [u8], message3: &[u8]) 
     if session.len() != stored::VERIFIER_SIZE {
         return 2;
     }
-    let s = stored::read_verifier(session);
-    let called = s.response(message3);
-    keep(called, session)
+    let mut s = stored::read_verifier(session);
+    let answer = s.take_response(message3);
+    keep(answer, &s, session)
 }
 
 // Takes message 4, the leaf that is to stay hidden in each run.
@@ -85,24 +71,21 @@ pub extern "C" fn unlock_verifier_leaf(session: &mut [u8], leaves: &[u8]) -> u8
     if session.len() != stored::VERIFIER_SIZE {
         return 2;
     }
-    let s = stored::read_verifier(session);
-    let called = s.leaf(leaves);
-    keep(called, session)
+    let mut s = stored::read_verifier(session);
+    let answer = s.take_leaf(leaves);
+    keep(answer, &s, session)
 }
 
 // Writes the session of an opening that was judged; the number of its answer.
-fn keep_opening(called: Called, session: &mut [u8]) -> u8
-    requires { (length session.old ≡ verifier_size) × (judges (answer_number called.answer) ≡ true → Small called.verifier.parameters called.verifier.runs) }
-    ensures { kept result session.new ≡ kept (answer_number called.answer)
-        (cond (judges (answer_number called.answer)) (verifier_bytes (held called.verifier)) session.old) }
+fn keep_opening(answer: Answer, s: &Verifier, session: &mut [u8]) -> u8
+    requires { (length session.old ≡ verifier_size) × (judges (answer_number answer) ≡ true → Small s.now.parameters s.now.runs) }
+    ensures { kept result session.new ≡ kept (answer_number answer)
+        (cond (judges (answer_number answer)) (verifier_bytes (held s.now)) session.old) }
 {
-    let answer = called.answer;
     let n = answers::answer_number(answer);
-    if !is_judged(n) {
-        return n;
+    if is_judged(n) {
+        stored::write_verifier(s, session);
     }
-    let next = called.verifier;
-    stored::write_verifier(next, session);
     n
 }
 
@@ -121,7 +104,7 @@ pub extern "C" fn unlock_verifier_opening(
     if session.len() != stored::VERIFIER_SIZE {
         return 2;
     }
-    let s = stored::read_verifier(session);
-    let called = s.opening(message5, matrix, y, work);
-    keep_opening(called, session)
+    let mut s = stored::read_verifier(session);
+    let answer = s.take_opening(message5, matrix, y, work);
+    keep_opening(answer, &s, session)
 }

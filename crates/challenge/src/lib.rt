@@ -26,12 +26,10 @@ fn new_point(message2: &[u8], l: usize) -> bool
     requires { l * 4 + 4 ≤ length message2.now }
     ensures { result ≡ new_point message2.now l }
 {
-    let mut i = 0;
-    while i < l {
+    for i in 0..l {
         if same_point(message2, i, l) {
             return false;
         }
-        i += 1;
     }
     true
 }
@@ -41,12 +39,10 @@ fn distinct_in(t: usize, message2: &[u8]) -> bool
     requires { t * 4 ≤ length message2.now }
     ensures { result ≡ distinct_in t message2.now }
 {
-    let mut l = 0;
-    while l < t {
+    for l in 0..t {
         if !new_point(message2, l) {
             return false;
         }
-        l += 1;
     }
     true
 }
@@ -57,13 +53,11 @@ pub fn distinct_points(p: Parameters, runs: usize, message2: &[u8]) -> bool
     ensures { result ≡ distinct_points p runs message2.now }
 {
     let size = message2_length(p);
-    let mut e = 0;
-    while e < runs {
+    for e in 0..runs {
         let at = e * size;
         if !distinct_in(p.t, &message2[at..at + size]) {
             return false;
         }
-        e += 1;
     }
     true
 }

@@ -2,7 +2,7 @@
 --
 -- as-document-01         the order with 6 is document 01's, with 14 'straight after 2'
 -- request05              it holds
-use Rattle.std.specs.Prelude.{◌≡◌, Bool, true, false, ◌&&◌, cond, eqb, ltb}
+use Rattle.std.specs.Prelude.{◌≡◌, Bool, true, false, ◌&&◌, cond, eqb, ltb, Ok, Err}
 use Rattle.std.proofs.Math.Path.{refl, ap, ap₂}
 use Rattle.std.proofs.Common.{sym, ◌∙◌}
 use Rattle.std.proofs.Math.Bool.{not, and-false}
@@ -11,8 +11,7 @@ use Rattle.std.proofs.Math.Option.{Option, none, some}
 use Prim.Native.Nat.{ℕ, zero, suc}
 use Rattle.lists.specs.Equal.Laws.{eq_list-of}
 use Rattle.shake256.specs.Fips.{SHAKE256}
-use Rattle.answers.specs.declared.Answer.{Answer}
-use Rattle.answers.specs.declared.Answer.TheVariants.{Done, Refused}
+use Rattle.answers.specs.Answer.{Answer}
 use Rattle.answers.specs.Number.Laws.{six-unused}
 use Rattle.answers.specs.Order.{Conditions, holds, first_of, answer_of}
 use Rattle.answers.specs.Order.Laws.{six-unanswered}
@@ -118,13 +117,13 @@ module _ (hash : List ℕ → ℕ → List ℕ) where
       go false = f
 
   settle-not : (a : Answer) (s next : Verifier) → (settle a s next).answer ≡ 6 → ⊥
-  settle-not Done s next = six-unused Done
-  settle-not (Refused r) s next = six-unused (Refused r)
+  settle-not (Ok _) s next = six-unused (Ok tt)
+  settle-not (Err r) s next = six-unused (Err r)
 
   judge-not : (s : Verifier) (m5 : List ℕ) (key : Key) (work : List ℕ) (a : Answer) → (judge hash s m5 key work a).answer ≡ 6 → ⊥
   unfolding judge
-  judge-not s m5 key work Done = six-unused (verdict hash s.parameters s.runs (held_transcript s m5) key)
-  judge-not s m5 key work (Refused r) = six-unused (Refused r)
+  judge-not s m5 key work (Ok _) = six-unused (verdict hash s.parameters s.runs (held_transcript s m5) key)
+  judge-not s m5 key work (Err r) = six-unused (Err r)
 
   verifier-not : (s : Verifier) (c : Call) → (outcome hash s c).answer ≡ 6 → ⊥
   unfolding outcome begin points response leaf opening

@@ -22,7 +22,7 @@ use Prim.Native.Nat.{ℕ, zero, suc, ◌<◌}
 use Rattle.lists.specs.Checks.{all_true}
 use Rattle.lists.specs.Equal.{eq_list}
 use Rattle.shake256.specs.Fips.{SHAKE256}
-use Rattle.answers.specs.declared.Answer.{Answer}
+use Rattle.answers.specs.Answer.{Answer}
 use Rattle.answers.specs.Number.{answer_number}
 use Rattle.answers.specs.Order.{Conditions, order, holds, first_of}
 use Rattle.parameters.specs.declared.Parameters.{Parameters}

@@ -4,7 +4,6 @@
 pub mod sidebyside;
 
 ghost use Rattle.std.specs.Prelude.{◌≡◌, ◌++◌, ◌+◌, ◌*◌, ◌<◌, ◌≤◌, length, take};
-ghost use Rattle.bytefield.specs.Tables.{field_tables};
 ghost use Rattle.packed.specs.Share.{share};
 ghost use Rattle.interpolants.specs.Complement.{factors_of};
 ghost use Rattle.exchange.specs.Sequences.{joined};
@@ -12,6 +11,7 @@ ghost use Rattle.exchange.specs.Values.{key_of, s_of, F};
 ghost use Rattle.coefficients.specs.Shares.{share_of};
 ghost use Rattle.coefficients.specs.Asked.{RowsAsked};
 
+use bytefield::FieldTables;
 use layout::share_length;
 use parameters::Parameters;
 
@@ -28,13 +28,9 @@ fn unpack(words: &[u64], n: usize, rows: &mut [u8])
     ensures { rows.new ≡ joined (λ i. share i words.now) n }
 {
     let m = words.len();
-    let mut at = 0;
-    let mut i = 0;
-    while i < n {
-        let end = at + m;
-        packed::share(words, i, &mut rows[at..end]);
-        at = end;
-        i += 1;
+    for i in 0..n {
+        let at = i * m;
+        packed::share(words, i, &mut rows[at..at + m]);
     }
 }
 
@@ -47,10 +43,10 @@ fn interpolate_group(
     y: &[u8],
     factors: &[u8],
     rows: &mut [u8],
-    tables: &[u8; 512],
+    tables: &FieldTables,
 )
     requires { RowsAsked p group.n group.n shares.now matrix.now y.now rows.old × (group.n ≤ 8)
-        × (factors.now ≡ factors_of p.m) × (tables.now ≡ field_tables) }
+        × (factors.now ≡ factors_of p.m) }
     ensures { rows.new
         ≡ joined (λ i. s_of p (key_of matrix.now y.now) group.first (share_of p shares.now i)) group.n }
 {
@@ -64,17 +60,6 @@ fn interpolate_group(
     unpack(&a[d..], n, rows);
 }
 
-// How many shares the next group has, of those that are left.
-fn group_size(left: usize) -> usize
-    requires { 0 < left }
-    ensures { (0 < result) × (result ≤ 8) × (result ≤ left) }
-{
-    if left < 8 {
-        return left;
-    }
-    8
-}
-
 // rows becomes S of each share of a group of any size, from the scales and the complement.
 fn interpolate_with(
     p: Parameters,
@@ -84,38 +69,34 @@ fn interpolate_with(
     y: &[u8],
     factors: &[u8],
     rows: &mut [u8],
-    tables: &[u8; 512],
+    tables: &FieldTables,
 )
     requires { RowsAsked p group.n group.n shares.now matrix.now y.now rows.old
-        × (factors.now ≡ factors_of p.m) × (tables.now ≡ field_tables) }
+        × (factors.now ≡ factors_of p.m) }
     ensures { rows.new
         ≡ joined (λ i. s_of p (key_of matrix.now y.now) group.first (share_of p shares.now i)) group.n }
 {
     let size = share_length(p);
     let m = p.m;
     let n = group.n;
-    let first = group.first;
-    let mut from = 0;
-    let mut to = 0;
-    let mut i = 0;
-    while i < n {
-        let c = group_size(n - i);
-        let e = from + c * size;
-        let f = to + c * m;
-        let next = Group { n: c, first };
+    for i in (0..n).step_by(8) {
+        let count = (n - i).min(8);
+        let from = i * size;
+        let to = i * m;
+        let next = Group {
+            n: count,
+            first: group.first,
+        };
         interpolate_group(
             p,
             next,
-            &shares[from..e],
+            &shares[from..from + count * size],
             matrix,
             y,
             factors,
-            &mut rows[to..f],
+            &mut rows[to..to + count * m],
             tables,
         );
-        from = e;
-        to = f;
-        i += c;
     }
 }
 
@@ -128,9 +109,9 @@ pub fn interpolate_each(
     y: &[u8],
     first: bool,
     rows: &mut [u8],
-    tables: &[u8; 512],
+    tables: &FieldTables,
 )
-    requires { RowsAsked p n (n + 1) shares.now matrix.now y.now rows.old × (tables.now ≡ field_tables) }
+    requires { RowsAsked p n (n + 1) shares.now matrix.now y.now rows.old }
     ensures { rows.new
         ≡ joined (λ i. s_of p (key_of matrix.now y.now) first (share_of p shares.now i)) n ++ take p.m (F p) }
 {

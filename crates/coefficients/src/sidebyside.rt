@@ -23,12 +23,9 @@ fn gather(p: Parameters, n: usize, shares: &[u8], from: usize, words: &mut [u64]
     let count = words.len();
     let size = share_length(p);
     packed::clear(words);
-    let mut i = 0;
-    while i < n {
+    for i in 0..n {
         let a = i * size + from;
-        let e = a + count;
-        packed::add_share(words, &shares[a..e], i);
-        i += 1;
+        packed::add_share(words, &shares[a..a + count], i);
     }
 }
 
@@ -38,11 +35,8 @@ fn add_column(out: &mut [u64], matrix: &[u8], k: usize, i: usize, table: &[u64; 
     ensures { (v : ℕ) → table.now ≡ multiples v
         → out.new ≡ xor_list out.old (map (scaled v) (column (length out.old) k i matrix.now)) }
 {
-    let n = out.len();
-    let mut j = 0;
-    while j < n {
-        out[j] = out[j] ^ packed::times(table, matrix[j * k + i]);
-        j += 1;
+    for (j, word) in out.iter_mut().enumerate() {
+        *word ^= packed::times(table, matrix[j * k + i]);
     }
 }
 
@@ -54,11 +48,9 @@ fn image(words: &mut [u64], k: usize, matrix: &[u8])
         × ((s : ℕ) → s < 8 → share s (drop k words.new)
         ≡ rows (length words.old - k) matrix.now (share s (take k words.old))) }
 {
-    let mut i = 0;
-    while i < k {
+    for i in 0..k {
         let table = packed::multiples(words[i]);
         add_column(&mut words[k..], matrix, k, i, &table);
-        i += 1;
     }
 }
 
@@ -66,7 +58,7 @@ fn image(words: &mut [u64], k: usize, matrix: &[u8])
 fn spread(b: u8) -> u64
     ensures { result ≡ spread b }
 {
-    (b as u64) * 0x0101010101010101
+    u64::from(b) * 0x0101010101010101
 }
 
 // The entries y are added to each share.
@@ -74,10 +66,8 @@ fn add_to_all(words: &mut [u64], y: &[u8])
     requires { length y.now ≤ length words.old }
     ensures { words.new ≡ xor_list words.old (map spread y.now) }
 {
-    let mut j = 0;
-    while j < y.len() {
-        words[j] = words[j] ^ spread(y[j]);
-        j += 1;
+    for (j, b) in y.iter().enumerate() {
+        words[j] ^= spread(*b);
     }
 }
 

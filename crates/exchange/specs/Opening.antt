@@ -13,13 +13,13 @@
 -- hidden_on j           the party that holds the hidden leaf on axis j, with that leaf's α and β
 -- announced j          what the parties of axis j announce
 -- response_string       layer 7's string
--- verdict              `Done` where the opening is accepted; else 5 or 7, in this order. The sums agree on all axes of every opening (`sums-agree`)
+-- verdict              `Ok` where the opening is accepted; else 5 or 7, in this order. The sums agree on all axes of every opening (`sums-agree`)
 -- Accepted             'An opening is accepted exactly when the recomputed h is message 1's, the sums of α, β and v agree on all
 --                      axes, and the recomputed h' is message 3's'
 use Rattle.std.specs.Prelude.{◌≡◌, ◌&&◌, not, cond, List, [], ◌∷◌, ℕ, ◌+◌, ◌*◌, ◌<◌, eqb, get_or, take, drop}
 use Rattle.lists.specs.Equal.{eq_list}
 use Rattle.tower.specs.Field.{Point}
-use Rattle.answers.specs.declared.Answer.{Answer}
+use Rattle.answers.specs.Answer.{Answer}
 use Rattle.answers.specs.declared.Refusal.TheVariants.{Commitment, Response}
 use Rattle.answers.specs.Checks.{checks}
 use Rattle.parameters.specs.declared.Parameters.{Parameters}

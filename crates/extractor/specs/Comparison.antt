@@ -9,7 +9,8 @@
 -- leaf_at                 what layer 4's string has behind the number of leaf i
 -- apart f g i            f i and g i differ
 -- first_apart f g n       the first number below n at which f and g differ, or n
--- first_opened u u' f g n   the same among the leaves opened in both
+-- both_apart u u' f g i   leaf i is opened in both, and f i and g i differ
+-- first_opened u u' f g n   the first such leaf below n, or n
 -- state_of u, output_of u  the state of leaf i, and the output, from the opening that discloses them; the first one hides leaf u
 -- axis_of u u'            'the lowest set bit of their xor, counted from 1'
 -- leaf_comparison         the answer at layers 5 and 4
@@ -63,8 +64,11 @@ apart f g i = not (eq_list (f i) (g i))
 unfoldable pub first_apart : (ℕ → List ℕ) → (ℕ → List ℕ) → ℕ → ℕ
 first_apart f g n = least (apart f g) n
 
+abbrev pub both_apart : ℕ → ℕ → (ℕ → List ℕ) → (ℕ → List ℕ) → ℕ → Bool
+both_apart u u' f g i = opened_in_both u u' i && apart f g i
+
 unfoldable pub first_opened : ℕ → ℕ → (ℕ → List ℕ) → (ℕ → List ℕ) → ℕ → ℕ
-first_opened u u' f g n = least (λ i. opened_in_both u u' i && apart f g i) n
+first_opened u u' f g n = least (both_apart u u' f g) n
 
 -- ---- the answer
 

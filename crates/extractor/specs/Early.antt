@@ -1,17 +1,13 @@
--- The checks before 5, over the lengths of what is lent.
+-- The checks before 5.
 --
--- lengths_of t             the lengths of messages 1, 3 and 5 of an exchange
--- lent_of l l' key work out   those of both exchanges, and of what is lent besides
--- length_tests p runs l m2 is  the lengths of an exchange's messages are right, one test each; m2 is message 2, is is message 4
 -- all_lengths              all lengths are right
 -- sized2                  they are: messages 2 have theirs
 -- below p is              all hidden leaves are below n
--- early_of                 the checks before 5, from the lengths, from messages 2 and 4, and from whether messages 1, 2 and 3 of both exchanges agree
--- early-is                they are the call's
+-- early-is                the call's checks before 5, over these
 -- Sent p runs t           the messages of an exchange have their lengths
 -- Early                   what is known where the checks before 5 pass
 -- early-passed            they pass: it is known
-use Rattle.std.specs.Prelude.{◌≡◌, refl, true, false, ◌&&◌, ℕ, zero, suc, ◌<◌, length}
+use Rattle.std.specs.Prelude.{◌≡◌, refl, true, false, ◌&&◌, ℕ, zero, suc, ◌<◌, length, Ok}
 use Rattle.std.proofs.Math.Path.{sym, ap}
 use Rattle.std.proofs.Common.{◌∙◌, arith}
 use Rattle.std.proofs.Math.Bool.{Bool, not, and-true}
@@ -22,8 +18,6 @@ use Rattle.lists.specs.Checks.{all_true}
 use Rattle.lists.specs.Checks.Laws.{all-at, and_left, and_right}
 use Rattle.lists.specs.Equal.{eq_list}
 use Rattle.lists.specs.Equal.Laws.{eq_list-true, eq_list-false}
-use Rattle.answers.specs.declared.Answer.{Answer}
-use Rattle.answers.specs.declared.Answer.TheVariants.{Done}
 use Rattle.answers.specs.declared.Refusal.TheVariants.{Parameter, Length, Leaf, Exchange as Differs, SameLeaf, SamePoint}
 use Rattle.answers.specs.Checks.{checks}
 use Rattle.answers.specs.Checks.Laws.{check-true, check-rest}
@@ -42,56 +36,25 @@ use Rattle.runs.specs.Opening.{Transcript}
 use Rattle.runs.specs.Points.{distinct_points}
 use Rattle.calls.specs.Lengths.{leaves_below}
 use Rattle.calls.specs.Extractor.{message_lengths, extract_lengths, both_distinct, same_statement, early_checks}
-use Rattle.extractor.specs.declared.checks.Lengths.{Lengths}
-use Rattle.extractor.specs.declared.checks.Lent.{Lent}
 
-abbrev pub lengths_of : Transcript → Lengths
-lengths_of t = record { message1 = length t.message1; message3 = length t.message3; message5 = length t.message5 }
-
-abbrev pub lent_of : Lengths → Lengths → Key → List ℕ → List ℕ → Lent
-lent_of l l' key work out = record {
-  first = l;
-  second = l';
-  matrix = length key.matrix;
-  y = length key.y;
-  work = length work;
-  out = length out;
-}
-
-abbrev pub length_tests : Parameters → ℕ → Lengths → List ℕ → List ℕ → List Bool
-length_tests p runs l m2 is =
-    eqb l.message1 (message1_length runs) ∷ eqb (length m2) (messages2_length p runs) ∷ eqb l.message3 (messages3_length runs)
-    ∷ eqb (length is) runs ∷ eqb l.message5 (messages5_length p is) ∷ []
-
-unfoldable pub all_lengths : Parameters → ℕ → Lent → List ℕ → List ℕ → List ℕ → List ℕ → Bool
-all_lengths p runs rest m2 is m2' js =
-    all_true (length_tests p runs rest.first m2 is)
-    && (all_true (length_tests p runs rest.second m2' js) && (lent p rest.matrix rest.y rest.work && eqb rest.out (outputs_length p runs)))
+unfoldable pub all_lengths : Parameters → ℕ → Transcript → Transcript → Key → List ℕ → List ℕ → Bool
+all_lengths p runs t t' key work out =
+    all_true (message_lengths p runs t)
+    && (all_true (message_lengths p runs t')
+    && (lent p (length key.matrix) (length key.y) (length work) && eqb (length out) (outputs_length p runs)))
 
 abbrev pub below : Parameters → List ℕ → Bool
 below p is = all_true (map (λ i. ltb i (leaves p)) is)
 
-unfoldable pub early_of : Parameters → ℕ → Lent → List ℕ → List ℕ → List ℕ → List ℕ → Bool → Answer
-early_of p runs rest m2 is m2' js same =
-    checks (
-    (within_limits p && runs_within runs, Parameter)
-    ∷ (all_lengths p runs rest m2 is m2' js, Length)
-    ∷ (distinct_points p runs m2 && distinct_points p runs m2', SamePoint)
-    ∷ (below p is && below p js, Leaf)
-    ∷ (same, Differs)
-    ∷ (not (eq_list is js), SameLeaf)
-    ∷ []
-    )
-
-pub sized2 : (p : Parameters) (runs : ℕ) (rest : Lent) (m2 is m2' js : List ℕ) → all_lengths p runs rest m2 is m2' js ≡ true
-    → (length m2 ≡ messages2_length p runs) × (length m2' ≡ messages2_length p runs)
+pub sized2 : (p : Parameters) (runs : ℕ) (t t' : Transcript) (key : Key) (work out : List ℕ) → all_lengths p runs t t' key work out ≡ true
+    → (length t.message2 ≡ messages2_length p runs) × (length t'.message2 ≡ messages2_length p runs)
 unfolding all_lengths
-sized2 p runs rest m2 is m2' js h =
-    let ts : List Bool = length_tests p runs rest.first m2 is in
-    let ts' : List Bool = length_tests p runs rest.second m2' js in
+sized2 p runs t t' key work out h =
+    let ts : List Bool = message_lengths p runs t in
+    let ts' : List Bool = message_lengths p runs t' in
     let both = and_right (all_true ts) _ h in (
-      eqb-true (length m2) (messages2_length p runs) (all-at ts (and_left (all_true ts) _ h) 1),
-      eqb-true (length m2') (messages2_length p runs) (all-at ts' (and_left (all_true ts') _ both) 1),
+      eqb-true (length t.message2) (messages2_length p runs) (all-at ts (and_left (all_true ts) _ h) 1),
+      eqb-true (length t'.message2) (messages2_length p runs) (all-at ts' (and_left (all_true ts') _ both) 1),
     )
 
 -- ---- the call's checks
@@ -113,9 +76,9 @@ pub record Sent (p : Parameters) (runs : ℕ) (t : Transcript) : Type 0 where
   pub size4 : length t.leaves ≡ runs
   pub size5 : length t.message5 ≡ messages5_length p t.leaves
 
-sent : (p : Parameters) (runs : ℕ) (t : Transcript) → all_true (length_tests p runs (lengths_of t) t.message2 t.leaves) ≡ true → Sent p runs t
+sent : (p : Parameters) (runs : ℕ) (t : Transcript) → all_true (message_lengths p runs t) ≡ true → Sent p runs t
 sent p runs t e =
-    let so = all-at (length_tests p runs (lengths_of t) t.message2 t.leaves) e in
+    let so = all-at (message_lengths p runs t) e in
     record {
       size1 = eqb-true (length t.message1) (message1_length runs) (so 0);
       size2 = eqb-true (length t.message2) (messages2_length p runs) (so 1);
@@ -125,8 +88,7 @@ sent p runs t e =
     }
 
 module _ (hash : List ℕ → ℕ → List ℕ) (p : Parameters) (runs : ℕ) (t t' : Transcript) (key : Key) (work out : List ℕ) where
-  lengths-are : all_true (extract_lengths hash p runs t t' key work out)
-      ≡ all_lengths p runs (lent_of (lengths_of t) (lengths_of t') key work out) t.message2 t.leaves t'.message2 t'.leaves
+  lengths-are : all_true (extract_lengths hash p runs t t' key work out) ≡ all_lengths p runs t t' key work out
   unfolding extract_lengths all_lengths lent
   lengths-are =
       let ls : List Bool = lent_tests p (length key.matrix) (length key.y) (length work) in
@@ -136,15 +98,24 @@ module _ (hash : List ℕ → ℕ → List ℕ) (p : Parameters) (runs : ℕ) (t
       (all_append (message_lengths p runs t') (ls ++ (o ∷ []))
       ∙ ap (λ (b : Bool). all_true (message_lengths p runs t') && b) (all_append ls (o ∷ []) ∙ ap (λ (b : Bool). all_true ls && b) (and-true o)))
 
-  pub early-is : early_of p runs (lent_of (lengths_of t) (lengths_of t') key work out) t.message2 t.leaves t'.message2 t'.leaves
-      (eq_list t.message1 t'.message1 && (eq_list t.message2 t'.message2 && eq_list t.message3 t'.message3))
-      ≡ early_checks hash p runs t t' key work out
-  unfolding early_checks both_distinct same_statement early_of leaves_below
+  -- the call's checks, over what the code tests
+  pub early-is : early_checks hash p runs t t' key work out
+      ≡ checks (
+      (within_limits p && runs_within runs, Parameter)
+      ∷ (all_lengths p runs t t' key work out, Length)
+      ∷ (distinct_points p runs t.message2 && distinct_points p runs t'.message2, SamePoint)
+      ∷ (below p t.leaves && below p t'.leaves, Leaf)
+      ∷ (eq_list t.message1 t'.message1 && (eq_list t.message2 t'.message2 && eq_list t.message3 t'.message3), Differs)
+      ∷ (not (eq_list t.leaves t'.leaves), SameLeaf)
+      ∷ []
+      )
+  unfolding early_checks both_distinct same_statement leaves_below
   early-is = rw lengths-are
 
   -- ---- what passed checks say
 
   pub record Early : Type 0 where
+    pub passed : early_checks hash p runs t t' key work out ≡ Ok tt
     pub within : Within p
     pub count : RunsWithin runs
     pub first : Sent p runs t
@@ -158,7 +129,7 @@ module _ (hash : List ℕ → ℕ → List ℕ) (p : Parameters) (runs : ℕ) (t
     pub message3 : t.message3 ≡ t'.message3
     pub other : t.leaves ≡ t'.leaves → ⊥
 
-  pub early-passed : early_checks hash p runs t t' key work out ≡ Done → Early
+  pub early-passed : early_checks hash p runs t t' key work out ≡ Ok tt → Early
   unfolding early_checks same_statement all_lengths leaves_below
   early-passed e =
       let limits : Bool = within_limits p && runs_within runs in
@@ -171,8 +142,8 @@ module _ (hash : List ℕ → ℕ → List ℕ) (p : Parameters) (runs : ℕ) (t
       let inside : Bool = low && low' in
       let same : Bool = same1 && (same2 && eq_list t.message3 t'.message3) in
       let apart : Bool = not (eq_list t.leaves t'.leaves) in
-      let ts : Bool = all_true (length_tests p runs (lengths_of t) t.message2 t.leaves) in
-      let ts' : Bool = all_true (length_tests p runs (lengths_of t') t'.message2 t'.leaves) in
+      let ts : Bool = all_true (message_lengths p runs t) in
+      let ts' : Bool = all_true (message_lengths p runs t') in
       let lents : Bool = lent p (length key.matrix) (length key.y) (length work) in
       let e2 = check-rest limits Parameter _ e in
       let e3 = check-rest lengths Length _ e2 in
@@ -188,6 +159,7 @@ module _ (hash : List ℕ → ℕ → List ℕ) (p : Parameters) (runs : ℕ) (t
       let one = sent p runs t (and_left ts _ sizes) in
       let two = sent p runs t' (and_left ts' _ sizes') in
       record {
+        passed = e;
         within = test-within p (and_left (within_limits p) _ in-limits);
         count = runs-within runs (and_right (within_limits p) _ in-limits);
         first = one;
@@ -199,5 +171,5 @@ module _ (hash : List ℕ → ℕ → List ℕ) (p : Parameters) (runs : ℕ) (t
         message1 = eq_list-true t.message1 t'.message1 (and_left same1 _ agree);
         message2 = eq_list-true t.message2 t'.message2 (and_left same2 _ agree');
         message3 = eq_list-true t.message3 t'.message3 (and_right same2 _ agree');
-        other = eq_list-false t.leaves t'.leaves (not-true (eq_list t.leaves t'.leaves) (check-true apart SameLeaf Done (check-rest same Differs _ e5)));
+        other = eq_list-false t.leaves t'.leaves (not-true (eq_list t.leaves t'.leaves) (check-true apart SameLeaf (Ok tt) (check-rest same Differs _ e5)));
       }

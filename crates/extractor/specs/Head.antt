@@ -5,11 +5,16 @@
 -- head_or-those        of those that pass: the first element decides, or the rest
 -- head_or-listed       of those of f 0 to f (n − 1) that pass: the least number decides
 -- those-those         those that pass one test and then another
+-- none≢some, some-inj    None is not Some; what Some holds
+-- first_below f n       the least number below n that passes the test f, if one does
+-- first_below-some, first_below-none, first_below-is, first_below-inside   what it says of the least number
+-- first_below-found, first_below-never   what a search from 0 on has found, or not
 -- least-ext           tests that agree below n have the same least number
 -- least-found, least-none   what a search from 0 on has found is the least number
-use Rattle.std.specs.Prelude.{◌≡◌, Bool, ◌&&◌, ltb}
-use Rattle.std.proofs.Math.Path.{refl, ap}
-use Rattle.std.proofs.Common.{◌∙◌, le_refl, arith, lt-ltb, le-ltb}
+use Rattle.std.specs.Prelude.{◌≡◌, Bool, ◌&&◌, ltb, ◌≤◌, Option, Some, None, is_some}
+use Rattle.std.specs.Option.{unwrap_or}
+use Rattle.std.proofs.Math.Path.{refl, ap, sym}
+use Rattle.std.proofs.Common.{◌∙◌, le_refl, arith, lt-ltb, le-ltb, true≢false}
 use Rattle.std.proofs.Math.Bool.{true, false, cond}
 use mathlib.Core.List.{List, [], ◌∷◌, ◌++◌}
 use Prim.Native.Nat.{ℕ, zero, suc, ◌<◌}
@@ -49,6 +54,54 @@ pub least-ext : (f g : ℕ → Bool) (n : ℕ) → ((i : ℕ) → i < n → f i 
 unfolding least
 least-ext f g zero h = refl
 least-ext f g (suc n) h = rw (least-ext f g n (λ i l. h i (omega arith)), h n (le_refl (suc n)))
+
+pub none≢some : {A : Type 0} (a : A) → ◌≡◌ {A = Option A} None (Some a) → ⊥
+none≢some {A} a e = let b : ◌≡◌ {A = Bool} false true = ap (is_some {T = A}) e in true≢false (sym b)
+
+pub some-inj : {A : Type 0} (a b : A) → ◌≡◌ {A = Option A} (Some a) (Some b) → a ≡ b
+some-inj a b e = ap (λ o. unwrap_or o a) e
+
+unfoldable pub first_below : (ℕ → Bool) → ℕ → Option ℕ
+first_below f n = cond (ltb (least f n) n) (Some (least f n)) None
+
+module _ (f : ℕ → Bool) (n : ℕ) where
+  pub first_below-is : is_some (first_below f n) ≡ ltb (least f n) n
+  unfolding first_below
+  first_below-is = go (ltb (least f n) n)
+    where
+      go : (b : Bool) → is_some (cond b (Some (least f n)) None) ≡ b
+      go true = refl
+      go false = refl
+
+  pub first_below-some : (i : ℕ) → Some i ≡ first_below f n → (i ≡ least f n) × (i < n)
+  unfolding first_below
+  first_below-some i e = go (dec_lt (least f n) n)
+    where
+      go : Dec (least f n < n) → (i ≡ least f n) × (i < n)
+      go (yes l) =
+          let q = some-inj i (least f n) (e ∙ ap (λ (b : Bool). cond b (Some (least f n)) None) (lt-ltb (least f n) n l)) in (q, omega (arith, q))
+      go (no l) =
+          absurd (none≢some i (sym (e ∙ ap (λ (b : Bool). cond b (Some (least f n)) None) (le-ltb (least f n) n (omega arith)))))
+
+  pub first_below-none : None ≡ first_below f n → n ≤ least f n
+  unfolding first_below
+  first_below-none e = go (dec_lt (least f n) n)
+    where
+      go : Dec (least f n < n) → n ≤ least f n
+      go (yes l) = absurd (none≢some (least f n) (e ∙ ap (λ (b : Bool). cond b (Some (least f n)) None) (lt-ltb (least f n) n l)))
+      go (no l) = omega arith
+
+  pub first_below-inside : least f n < n → first_below f n ≡ Some (least f n)
+  unfolding first_below
+  first_below-inside l = rw (lt-ltb (least f n) n l)
+
+  pub first_below-found : (i : ℕ) → i < n → f i ≡ true → ((j : ℕ) → j < i → f j ≡ false) → Some i ≡ first_below f n
+  unfolding first_below
+  first_below-found i l t h = rw (← least-found f n i l t h, lt-ltb i n l)
+
+  pub first_below-never : ((j : ℕ) → j < n → f j ≡ false) → None ≡ first_below f n
+  unfolding first_below
+  first_below-never h = rw (← least-none f n h, le-ltb n n (le_refl n))
 
 -- ---- the first element
 

@@ -1,7 +1,6 @@
 pub mod Answer
 pub mod Best
 pub mod Chain
-pub mod Compared
 pub mod Comparison
 pub mod Difference
 pub mod Early
@@ -10,6 +9,7 @@ pub mod Head
 pub mod Judged
 pub mod Loop
 pub mod Lowest
+pub mod Messages
 pub mod Opened
 pub mod Output
 pub mod Outputs

@@ -1,18 +1,17 @@
 -- The loop over the runs.
 --
--- checked-at       what the check of run e gives, said of the exchanges' runs
 -- Loop e           what holds before run e
--- loop-starts, loop-turns   before the first run, and after one more
--- asked-at         what the check of run e asks
+-- statement-asked, statement_fits, statement-front, statement-whole, statement-lent   the statement of a run, made in the front of a list
+-- loop-starts, loop-turns, loop-ends   before the first run, after one more, and after the last
+-- turn-asked, turn-checked   what the check of run e asks, and what it gives, said of the exchanges' runs
 -- outputs-asked    what the writing of the output asks, after the last
-use Rattle.std.specs.Prelude.{◌≡◌, refl, true, List, ℕ, ◌+◌, ◌*◌, ◌-◌, ◌≤◌, ◌<◌, length, drop}
-use Rattle.std.proofs.Common.{sym, ap₂, ◌∙◌, subst₂, true≢false, not-suc-le-zero, arith}
+use Rattle.std.specs.Prelude.{◌≡◌, refl, List, ◌++◌, take, ℕ, ◌+◌, ◌*◌, ◌-◌, ◌≤◌, ◌<◌, length, drop, Result, Ok}
+use Rattle.std.proofs.Common.{sym, ap₂, ◌∙◌, subst₂, not-suc-le-zero, arith, length-append, length-drop, length-take-le, take_at}
 use Rattle.std.proofs.Math.Path.{ap, subst}
 use Rattle.lists.specs.Part.Laws.{part-fits}
 use Rattle.lists.specs.Zeroed.{zeroed}
 use Rattle.shake256.specs.Fips.{SHAKE256}
-use Rattle.answers.specs.declared.Answer.{Answer}
-use Rattle.answers.specs.declared.Answer.TheVariants.{Done, Refused as Not}
+use Rattle.answers.specs.declared.Refusal.{Refusal}
 use Rattle.parameters.specs.declared.Parameters.{Parameters}
 use Rattle.layout.specs.Layout.{message2_length, statement_length, work_length, output_length}
 use Rattle.layout.specs.Maxima.{most_opened, most_statement}
@@ -26,8 +25,9 @@ use Rattle.openings.specs.Statement.Laws.{exchange-in, length-statement_at}
 use Rattle.openings.specs.Parts.{states_in}
 use Rattle.openings.specs.Opened.{opened_states}
 use Rattle.extractor.specs.declared.best.Best.{Best}
+use Rattle.extractor.specs.declared.pairs.Pair.{Pair}
 use Rattle.extractor.specs.declared.run.Judgement.{Judgement}
-use Rattle.extractor.specs.Best.{nothing, or_next, better_of, is_done}
+use Rattle.extractor.specs.Best.{nothing, better_of}
 use Rattle.extractor.specs.Best.Laws.{Progress, progress-none, progress-more}
 use Rattle.extractor.specs.Early.{Early}
 use Rattle.extractor.specs.Pairs.{place_at, pair_at, PlaceAsked, message_in, Lies, lies_at, message-at}
@@ -35,11 +35,6 @@ use Rattle.extractor.specs.Run.{most_openings, RunAsked, RunChecked, Checked}
 use Rattle.extractor.specs.Run.Laws.{zeroed-twice}
 use Rattle.extractor.specs.Outputs.{OutputsAsked}
 use Rattle.extractor.specs.Outputs.Exchange.{recalled-at, recalled-other}
-
-done_next : (a x : Answer) → is_done (or_next a x) ≡ true → x ≡ Done
-done_next Done Done h = refl
-done_next Done (Not r) h = absurd (true≢false (sym h))
-done_next (Not r) x h = absurd (true≢false (sym h))
 
 module _ (p : Parameters) (runs : ℕ) (t t' : Transcript) (key : Key) (work out : List ℕ) (known : Early SHAKE256 p runs t t' key work out) where
   pub reaches1 : (e : ℕ) → e < runs → digest_place e + 32 ≤ length t.message1
@@ -63,6 +58,21 @@ module _ (p : Parameters) (runs : ℕ) (t t' : Transcript) (key : Key) (work out
     reaches-message3 = reaches3 e l;
     room = room;
   }
+
+  -- the statement, lent: n bytes in the front of s, in which `made` came back
+  module _ (n : ℕ) (s : List ℕ) (is : n ≡ statement_length p) (sized : length s ≡ most_statement) where
+    pub statement_fits : n ≤ length s
+    statement_fits = omega (arith, is, sized, known.within.t-most)
+
+    pub statement-front : length (take n s) ≡ n
+    statement-front = length-take-le n s statement_fits
+
+    module _ (made : List ℕ) (long : length made ≡ length (take n s)) where
+      pub statement-whole : length (made ++ drop n s) ≡ most_statement
+      statement-whole = omega (arith, length-append made (drop n s), long, statement-front, length-drop n s, statement_fits, sized)
+
+      pub statement-lent : take n (made ++ drop n s) ≡ made
+      statement-lent = take_at made (drop n s) n (long ∙ statement-front)
 
   pub places : (e : ℕ) → e < runs → PlaceAsked p t.leaves e × PlaceAsked p t'.leaves e
   places e l = (
@@ -95,12 +105,12 @@ module _ (p : Parameters) (runs : ℕ) (t t' : Transcript) (key : Key) (work out
       ∙ exchange-in p t' e (omega (arith, reaches1 e l, ap length known.message1)) (omega (arith, reaches2 e l, ap length known.message2))
       (omega (arith, reaches3 e l, ap length known.message3))
 
-  pub checked-at : (e : ℕ) (w : List ℕ) (r : Judgement) (w' o : List ℕ) → e < runs
+  checked-at : (e : ℕ) (w : List ℕ) (r : Result Judgement Refusal) (w' o : List ℕ) → e < runs
       → RunChecked (pair_at p t.leaves t'.leaves e) (stated e) t.message5 t'.message5 key w r w' o
       → Checked p key (exchange_at p t e) (exchange_at p t' e) w r w' o
   checked-at e w r w' o l h = subst₂ (λ (x y : Exchange). Checked p key x y w r w' o) (first-is e l) (second_is e l) h
 
-  pub asked-at : (e : ℕ) (w o : List ℕ) → e < runs → length w ≡ length work → length o ≡ most_openings
+  asked-at : (e : ℕ) (w o : List ℕ) → e < runs → length w ≡ length work → length o ≡ most_openings
       → RunAsked (pair_at p t.leaves t'.leaves e) (stated e) t.message5 t'.message5 key.matrix key.y w o
   asked-at e w o l q room = record {
     compared = record {
@@ -117,8 +127,18 @@ module _ (p : Parameters) (runs : ℕ) (t t' : Transcript) (key : Key) (work out
     };
   }
 
+  -- the check of run e, of which the statement was made in the front of s
+  module _ (n : ℕ) (s : List ℕ) (is : n ≡ statement_length p) (sized : length s ≡ most_statement) (made : List ℕ) (long : length made ≡ length (take n s))
+      (e : ℕ) (l : e < runs) (made-is : made ≡ stated e) (pair : Pair) (pair-is : pair ≡ pair_at p t.leaves t'.leaves e) where
+    pub turn-asked : (w o : List ℕ) → length w ≡ length work → length o ≡ most_openings
+        → RunAsked pair (take n (made ++ drop n s)) t.message5 t'.message5 key.matrix key.y w o
+    turn-asked w o q room = rw (pair-is, statement-lent n s is sized made long, made-is) (asked-at e w o l q room)
+
+    pub turn-checked : (w : List ℕ) (r : Result Judgement Refusal) (w' o : List ℕ)
+        → RunChecked pair (take n (made ++ drop n s)) t.message5 t'.message5 key w r w' o → Checked p key (exchange_at p t e) (exchange_at p t' e) w r w' o
+    turn-checked w r w' o h = checked-at e w r w' o l (rw (pair-is, statement-lent n s is sized made long, made-is) at h)
+
   pub record Loop (w s o : List ℕ) (b : Best) (e : ℕ) : Type 0 where
-    pub most : e ≤ runs
     pub progress : Progress p runs t t' key e b
     pub cleared : zeroed (work_length p) w ≡ zeroed (work_length p) work
     pub zeros : 1 ≤ e → w ≡ zeroed (work_length p) work
@@ -130,7 +150,6 @@ module _ (p : Parameters) (runs : ℕ) (t t' : Transcript) (key : Key) (work out
 
   pub loop-starts : (s o : List ℕ) → length s ≡ most_statement → length o ≡ most_openings → Loop work s o nothing 0
   loop-starts s o l l' = record {
-    most = omega arith;
     progress = progress-none p runs t t' key;
     cleared = refl;
     zeros = λ h. absurd (not-suc-le-zero h);
@@ -141,21 +160,19 @@ module _ (p : Parameters) (runs : ℕ) (t t' : Transcript) (key : Key) (work out
     others = λ k h. absurd (omega arith);
   }
 
-  module _ (w s o : List ℕ) (b : Best) (e : ℕ) (l : e < runs) (before : Loop w s o b e) (j : Judgement) (w' s' o' : List ℕ)
-      (checked : Checked p key (exchange_at p t e) (exchange_at p t' e) w j w' o') where
-    pub zeros-now : w' ≡ zeroed (work_length p) work
-    zeros-now = checked.zeros ∙ before.cleared
+  module _ (w s o : List ℕ) (b : Best) (e : ℕ) (l : e < runs) (before : Loop w s o b e) (w' s' o' : List ℕ) where
+    pub zeros-now : (r : Result Judgement Refusal) → Checked p key (exchange_at p t e) (exchange_at p t' e) w r w' o' → w' ≡ zeroed (work_length p) work
+    zeros-now r checked = checked.zeros ∙ before.cleared
 
-    pub loop-turns : is_done (better_of b e j).first ≡ true → length w' ≡ length w → length s' ≡ most_statement → length o' ≡ most_openings
-        → Loop w' s' o' (better_of b e j) (e + 1)
-    unfolding better_of
-    loop-turns h q q' q'' =
-        let f = checked.found (done_next b.first j.first h) in
+    pub loop-turns : (j : Judgement) → Checked p key (exchange_at p t e) (exchange_at p t' e) w (Ok j) w' o' → length w' ≡ length w
+        → length s' ≡ most_statement → length o' ≡ most_openings → Loop w' s' o' (better_of b e j) (e + 1)
+    loop-turns j checked q q' q'' =
+        let f = checked.found in
+        let z = zeros-now (Ok j) checked in
         record {
-          most = omega arith;
-          progress = progress-more p runs t t' key e b j o' l before.progress checked.first f;
-          cleared = ap (zeroed (work_length p)) zeros-now ∙ zeroed-twice (work_length p) work;
-          zeros = λ z. zeros-now;
+          progress = progress-more p runs t t' key e b j o' l before.progress f;
+          cleared = ap (zeroed (work_length p)) z ∙ zeroed-twice (work_length p) work;
+          zeros = λ _. z;
           sized-work = q ∙ before.sized-work;
           sized-statement = q';
           sized-openings = q'';
@@ -163,12 +180,15 @@ module _ (p : Parameters) (runs : ℕ) (t t' : Transcript) (key : Key) (work out
           others = λ k x. subst (λ (i : ℕ). states_in p (drop most_opened o') ≡ opened_states p (exchange_at p t' i)) (omega arith) f.others;
         }
 
-  pub outputs-asked : (w s o : List ℕ) (b : Best) (e : ℕ) → runs ≤ e → Loop w s o b e
+  pub loop-ends : (w s o : List ℕ) (b : Best) (e : ℕ) → e ≤ runs → runs ≤ e → Loop w s o b e → Loop w s o b runs
+  loop-ends w s o b e l l' x = subst (λ (n : ℕ). Loop w s o b n) (omega arith) x
+
+  pub outputs-asked : (w s o : List ℕ) (b : Best) → Loop w s o b runs
       → OutputsAsked p t.message1 t.leaves t.message5 t'.leaves t'.message5 o out
-  outputs-asked w s o b e l x =
+  outputs-asked w s o b x =
       let some = known.count.least in
       let size = known.first.size4 in
-      let last : e ≡ (length t.leaves - 1) + 1 = omega (arith, x.most, some, size) in
+      let last : runs ≡ (length t.leaves - 1) + 1 = omega (arith, some, size) in
       record {
         asked = record {
           within = known.within;

@@ -5,13 +5,13 @@
 -- Committed                leaf i is one of the leaves; what an opening gives, and room for a commitment
 -- Placed                   what two openings give, the leaf u is one of the leaves, and room for the states
 -- Output                   what two openings give, aux where leaf n−1 is disclosed, and room for the output
--- Opening p leaf aux opened   an opening that hides a leaf below n
+-- Opening p o              an opening that hides a leaf below n
 -- Openings                 two openings with different hidden leaves
-use Rattle.std.specs.Prelude.{◌≡◌, true, false, List, ℕ, ◌≤◌, ◌<◌, length}
+use Rattle.std.specs.Prelude.{◌≡◌, false, List, ℕ, ◌≤◌, ◌<◌, length}
 use Rattle.parameters.specs.declared.Parameters.{Parameters}
 use Rattle.parameters.specs.Limits.{Within}
 use Rattle.layout.specs.Layout.{leaves, is_last, aux_length, output_length, rows_length, states_length, opened_length}
-use Rattle.extractor.specs.declared.Hidden.{Hidden}
+use Rattle.extractor.specs.declared.opened.Opened.{Opened}
 
 pub record Rows (p : Parameters) (rows others : List ℕ) : Type 0 where
   pub within : Within p
@@ -34,20 +34,17 @@ pub record Placed (p : Parameters) (u : ℕ) (opened others out : List ℕ) : Ty
   pub below : u < leaves p
   pub room : states_length p ≤ length out
 
-pub record Output (p : Parameters) (u : ℕ) (aux opened other-aux others out : List ℕ) : Type 0 where
-  pub both : Both p opened others
-  pub below : u < leaves p
-  pub last : is_last p u ≡ true → length other-aux ≡ aux_length p
-  pub other : is_last p u ≡ false → length aux ≡ aux_length p
-  pub room : length out ≡ output_length p
+pub record Opening (p : Parameters) (o : Opened) : Type 0 where
+  pub below : o.hidden < leaves p
+  pub aux-size : is_last p o.hidden ≡ false → length o.aux.now ≡ aux_length p
+  pub size : length o.made.now ≡ opened_length p
 
-pub record Opening (p : Parameters) (leaf : ℕ) (aux opened : List ℕ) : Type 0 where
-  pub below : leaf < leaves p
-  pub aux-size : is_last p leaf ≡ false → length aux ≡ aux_length p
-  pub size : length opened ≡ opened_length p
-
-pub record Openings (p : Parameters) (hidden : Hidden) (aux opened other-aux other-opened : List ℕ) : Type 0 where
+pub record Openings (p : Parameters) (first second : Opened) : Type 0 where
   pub within : Within p
-  pub first : Opening p hidden.first aux opened
-  pub second : Opening p hidden.second other-aux other-opened
-  pub other : hidden.first ≡ hidden.second → ⊥
+  pub one : Opening p first
+  pub two : Opening p second
+  pub other : first.hidden ≡ second.hidden → ⊥
+
+pub record Output (p : Parameters) (first second : Opened) (out : List ℕ) : Type 0 where
+  pub openings : Openings p first second
+  pub room : length out ≡ output_length p

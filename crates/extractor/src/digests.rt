@@ -1,7 +1,8 @@
 // The digests of the axes compared (layer 7): only rows that differ are hashed.
 ghost use Rattle.std.specs.Prelude.{◌≡◌, ◌<◌};
 ghost use Rattle.lists.specs.Equal.{eq_list};
-ghost use Rattle.extractor.specs.Comparison.{digest_at, first_apart};
+ghost use Rattle.extractor.specs.Comparison.{digest_at, apart};
+ghost use Rattle.extractor.specs.Head.{first_below};
 ghost use Rattle.extractor.specs.Shapes.{Rows};
 
 use crate::rows::same_row;
@@ -29,19 +30,16 @@ fn same_digest(p: Parameters, prefix: &[u8], rows: &[u8], others: &[u8], axis: u
     equal(&a, &b)
 }
 
-// The first axis, from 0, whose digests differ, or D where none does.
-pub fn first_digest(p: Parameters, prefix: &[u8], rows: &[u8], others: &[u8]) -> usize
+// The first axis, from 0, whose digests differ.
+pub fn first_digest(p: Parameters, prefix: &[u8], rows: &[u8], others: &[u8]) -> Option<u8>
     requires { Rows p rows.now others.now }
-    ensures { result ≡ first_apart (digest_at p prefix.now rows.now)
-        (digest_at p prefix.now others.now) p.axes }
+    ensures { result ≡ first_below (apart (digest_at p prefix.now rows.now)
+        (digest_at p prefix.now others.now)) p.axes }
 {
-    let d = p.axes;
-    let mut axis = 0;
-    while axis < d {
+    for axis in 0..p.axes {
         if !same_digest(p, prefix, rows, others, axis) {
-            return axis;
+            return Some(axis as u8);
         }
-        axis += 1;
     }
-    axis
+    None
 }

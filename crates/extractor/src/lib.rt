@@ -6,7 +6,6 @@ mod axis;
 mod best;
 mod checks;
 mod commitments;
-mod compare;
 mod digests;
 pub mod findings;
 mod judge;
@@ -22,16 +21,17 @@ mod run;
 ghost use Rattle.std.specs.Prelude.{◌≡◌};
 ghost use Rattle.shake256.specs.Fips.{SHAKE256};
 ghost use Rattle.exchange.specs.Values.{key_of};
-ghost use Rattle.runs.specs.Opening.{transcript};
 ghost use Rattle.calls.specs.Extractor as spec;
 ghost use Rattle.extractor.specs.Given.{given};
+ghost use Rattle.extractor.specs.Messages.{messages};
 
 use crate::findings::Extraction;
-use answers::Answer;
-use best::{all_equal, answer_of, better, first_accepted, nothing_yet};
-use checks::{early_checks, exchange_lengths, lent_lengths, same_statement};
+use answers::Refusal;
+use best::{better, nothing_yet};
+use checks::early_checks;
 use layout::{MOST_STATEMENT, statement_length};
 use lowest::extracted;
+pub use opened::Opened;
 use openings::statement::put_statement;
 use outputs::write_outputs;
 use pairs::pair_at;
@@ -41,11 +41,14 @@ use run::check_run;
 // Twice what an opening gives: one half for each of two openings.
 pub const MOST_OPENINGS: usize = 19520;
 
-// The hidden leaves of two openings.
+// Messages 1 to 5 of an exchange; message 4 is its runs' hidden leaves.
 #[derive(Clone, Copy)]
-pub struct Hidden {
-    pub first: usize,
-    pub second: usize,
+pub struct Transcript<'a> {
+    pub message1: &'a [u8],
+    pub message2: &'a [u8],
+    pub message3: &'a [u8],
+    pub leaves: &'a [u8],
+    pub message5: &'a [u8],
 }
 
 // Compares two openings of one commitment in the runs whose hidden leaves differ: names the first unequal pair of strings hashed
@@ -53,72 +56,51 @@ pub struct Hidden {
 pub fn extract(
     p: Parameters,
     runs: usize,
-    first1: &[u8],
-    first2: &[u8],
-    first3: &[u8],
-    first4: &[u8],
-    first5: &[u8],
-    second1: &[u8],
-    second2: &[u8],
-    second3: &[u8],
-    second4: &[u8],
-    second5: &[u8],
+    first: Transcript,
+    second: Transcript,
     matrix: &[u8],
     y: &[u8],
     work: &mut [u8],
     out: &mut [u8],
-) -> Extraction
-    ensures { given result out.new work.new ≡ spec.extraction SHAKE256 p runs
-        (transcript first1.now first2.now first3.now first4.now first5.now)
-        (transcript second1.now second2.now second3.now second4.now second5.now)
+) -> Result<Extraction, Refusal>
+    ensures { given result out.new work.new ≡ spec.extraction SHAKE256 p runs (messages first.entry) (messages second.entry)
         (key_of matrix.now y.now) work.old out.old }
 {
-    let same = same_statement(first1, first2, first3, second1, second2, second3);
-    let first = exchange_lengths(first1, first3, first5);
-    let second = exchange_lengths(second1, second3, second5);
-    let rest = lent_lengths(first, second, matrix, y, work, out);
-    let early = early_checks(p, runs, rest, first2, first4, second2, second4, same);
-    match early {
-        Answer::Done => {}
-        Answer::Refused(r) => return Extraction::Refused(r),
-    }
+    early_checks(p, runs, first, second, matrix, y, work, out)?;
     let size = statement_length(p);
     let mut statement = [0u8; MOST_STATEMENT];
     let mut openings = [0u8; MOST_OPENINGS];
     let mut best = nothing_yet();
-    let mut run = 0;
-    while run < runs {
-        put_statement(p, run as u8, first1, first2, first3, &mut statement[..size]);
-        let pair = pair_at(p, first4, second4, run);
+    for run in 0..runs {
+        put_statement(
+            p,
+            run as u8,
+            first.message1,
+            first.message2,
+            first.message3,
+            &mut statement[..size],
+        );
+        let pair = pair_at(p, first.leaves, second.leaves, run);
         let found = check_run(
             pair,
             &statement[..size],
-            first5,
-            second5,
+            first.message5,
+            second.message5,
             matrix,
             y,
             work,
             &mut openings,
-        );
-        let next = better(best, run as u8, found);
-        if !first_accepted(next) {
-            return answer_of(next);
-        }
-        best = next;
-        run += 1;
+        )?;
+        best = better(best, run as u8, found);
     }
-    if !all_equal(best) {
-        return answer_of(best);
+    best.second?;
+    if let Some((run, difference)) = best.unequal {
+        return Ok(Extraction::Unequal {
+            run,
+            layer: difference.layer(),
+            number: difference.number(),
+        });
     }
-    write_outputs(
-        p,
-        first1,
-        first4,
-        first5,
-        second4,
-        second5,
-        &mut openings,
-        out,
-    );
-    extracted(first4, second4)
+    write_outputs(p, first, second, &mut openings, out);
+    extracted(first.leaves, second.leaves).ok_or(Refusal::SameLeaf)
 }

@@ -22,25 +22,15 @@ pub struct Pair {
     pub second: Place,
 }
 
-fn wide(leaf: u8) -> usize
-    ensures { result ≡ leaf }
-{
-    leaf as usize
-}
-
 // The place of a run, from the hidden leaves of all.
 fn place_at(p: Parameters, leaves: &[u8], run: usize) -> Place
     requires { spec.PlaceAsked p leaves.now run }
     ensures { result ≡ spec.place_at p leaves.now run }
 {
-    let leaf = wide(leaves[run]);
+    let leaf = usize::from(leaves[run]);
     let start = messages5_length(p, &leaves[..run]);
-    let size = message5_length(p, leaf);
-    Place {
-        leaf: leaf,
-        start: start,
-        end: start + size,
-    }
+    let end = start + message5_length(p, leaf);
+    Place { leaf, start, end }
 }
 
 // A run of two exchanges, from their hidden leaves.
@@ -50,9 +40,5 @@ pub fn pair_at(p: Parameters, first4: &[u8], second4: &[u8], run: usize) -> Pair
 {
     let first = place_at(p, first4, run);
     let second = place_at(p, second4, run);
-    Pair {
-        p: p,
-        first: first,
-        second: second,
-    }
+    Pair { p, first, second }
 }

@@ -1,7 +1,8 @@
 // The rows of the axes compared: what the parties announce, and its digests.
 ghost use Rattle.std.specs.Prelude.{◌≡◌, ◌<◌};
 ghost use Rattle.lists.specs.Equal.{eq_list};
-ghost use Rattle.extractor.specs.Comparison.{row_at, first_apart};
+ghost use Rattle.extractor.specs.Comparison.{row_at, apart};
+ghost use Rattle.extractor.specs.Head.{first_below};
 ghost use Rattle.extractor.specs.Shapes.{Rows};
 
 use layout::axis_length;
@@ -19,18 +20,15 @@ pub fn same_row(p: Parameters, rows: &[u8], others: &[u8], axis: usize) -> bool
     equal(&rows[at..end], &others[at..end])
 }
 
-// The first axis, from 0, whose rows differ, or D where none does.
-pub fn first_row(p: Parameters, rows: &[u8], others: &[u8]) -> usize
+// The first axis, from 0, whose rows differ.
+pub fn first_row(p: Parameters, rows: &[u8], others: &[u8]) -> Option<u8>
     requires { Rows p rows.now others.now }
-    ensures { result ≡ first_apart (row_at p rows.now) (row_at p others.now) p.axes }
+    ensures { result ≡ first_below (apart (row_at p rows.now) (row_at p others.now)) p.axes }
 {
-    let d = p.axes;
-    let mut axis = 0;
-    while axis < d {
+    for axis in 0..p.axes {
         if !same_row(p, rows, others, axis) {
-            return axis;
+            return Some(axis as u8);
         }
-        axis += 1;
     }
-    axis
+    None
 }

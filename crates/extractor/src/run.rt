@@ -1,67 +1,46 @@
 // One run of two exchanges: both openings checked, and where the hidden leaves differ what they gave is compared.
 ghost use Rattle.std.specs.Prelude.{◌≡◌};
 ghost use Rattle.exchange.specs.Values.{key_of};
+ghost use Rattle.extractor.specs.Difference.{named};
 ghost use Rattle.extractor.specs.Run as spec;
 
-use crate::Hidden;
-use crate::compare::compare_openings;
-use crate::findings::Difference;
+use crate::findings::{Difference, compare};
 use crate::judge::judge;
+use crate::opened::opened_at;
 use crate::pairs::Pair;
-use answers::Answer;
+use answers::{Answer, Refusal};
 use layout::{MOST_OPENED, prefix_place};
 
-// What a run gives: the verdict on either opening, and the first unequal pair of strings. Where the first opening is refused the
-// rest is not looked at.
+// What a run gives whose first opening is accepted: the verdict on the second, and the first unequal pair of strings.
 #[derive(Clone, Copy)]
 pub struct Judgement {
-    pub first: Answer,
     pub second: Answer,
-    pub layer: u8,
-    pub number: u8,
+    pub difference: Option<Difference>,
 }
 
-// The first unequal pair of strings of a run; layer 0 where there is none, or where the hidden leaves agree.
+// The first unequal pair of strings of a run; none where the hidden leaves agree.
 fn compare_run(
     pair: Pair,
     statement: &[u8],
     first5: &[u8],
     second5: &[u8],
     openings: &[u8],
-) -> Difference
+) -> Option<Difference>
     requires { spec.Compared pair statement.now first5.now second5.now openings.now }
-    ensures { result ≡ spec.difference_in pair statement.now first5.now second5.now openings.now }
+    ensures { named result ≡ spec.difference_in pair statement.now first5.now second5.now openings.now }
 {
-    let p = pair.p;
-    let first = pair.first;
-    let second = pair.second;
+    let Pair { p, first, second } = pair;
     if first.leaf == second.leaf {
-        return Difference {
-            layer: 0,
-            number: 0,
-        };
+        return None;
     }
-    let a = first.start;
-    let b = first.end;
-    let c = second.start;
-    let d = second.end;
     let at = prefix_place(p);
-    let hidden = Hidden {
-        first: first.leaf,
-        second: second.leaf,
-    };
-    compare_openings(
-        p,
-        &statement[at..],
-        hidden,
-        &first5[a..b],
-        &openings[..MOST_OPENED],
-        &second5[c..d],
-        &openings[MOST_OPENED..],
-    )
+    let one = opened_at(p, first, first5, &openings[..MOST_OPENED]);
+    let two = opened_at(p, second, second5, &openings[MOST_OPENED..]);
+    compare(p, &statement[at..], one, two)
 }
 
-// Checks both openings of a run against its statement, each in one half of `openings`, and compares them.
+// Checks both openings of a run against its statement, each in one half of `openings`, and compares them. Where the first is
+// refused the rest is not looked at.
 pub fn check_run(
     pair: Pair,
     statement: &[u8],
@@ -71,54 +50,35 @@ pub fn check_run(
     y: &[u8],
     work: &mut [u8],
     openings: &mut [u8],
-) -> Judgement
+) -> Result<Judgement, Refusal>
     requires { spec.RunAsked pair statement.now first5.now second5.now matrix.now y.now work.old openings.old }
     ensures { spec.RunChecked pair statement.now first5.now second5.now
         (key_of matrix.now y.now) work.old result work.new openings.new }
 {
-    let p = pair.p;
-    let first = pair.first;
-    let second = pair.second;
-    let a = first.start;
-    let b = first.end;
-    let c = second.start;
-    let d = second.end;
-    let one = judge(
+    let Pair { p, first, second } = pair;
+    judge(
         p,
         statement,
         first.leaf,
-        &first5[a..b],
+        &first5[first.start..first.end],
         matrix,
         y,
         work,
         &mut openings[..MOST_OPENED],
-    );
-    match one {
-        Answer::Done => {}
-        Answer::Refused(r) => {
-            return Judgement {
-                first: Answer::Refused(r),
-                second: Answer::Done,
-                layer: 0,
-                number: 0,
-            };
-        }
-    }
-    let two = judge(
+    )?;
+    let verdict = judge(
         p,
         statement,
         second.leaf,
-        &second5[c..d],
+        &second5[second.start..second.end],
         matrix,
         y,
         work,
         &mut openings[MOST_OPENED..],
     );
     let difference = compare_run(pair, statement, first5, second5, openings);
-    Judgement {
-        first: Answer::Done,
-        second: two,
-        layer: difference.layer,
-        number: difference.number,
-    }
+    Ok(Judgement {
+        second: verdict,
+        difference,
+    })
 }

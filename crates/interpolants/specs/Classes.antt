@@ -1,7 +1,7 @@
 -- The power sums in two stages. The exponents e below 255 fall into 15 classes, e = κ + 15·q, and an exponent o of the sums is
 -- 17·o₁ + o₂: then e·o and 17·κ·o₁ + e·o₂ agree modulo 255.
 --
---   Asked            what the power sums are asked for: n rows, each as long as the scales, the scales, and the field tables
+--   Asked            what the power sums are asked for: n rows, each as long as the scales, and the scales
 --   scaled_by rows n w e
 --                    the entries of the rows at the byte 03 to the e, side by side, times the scale of that byte
 --   progression      the word v times 03 to the s, s + e, s + 2·e and so on
@@ -9,19 +9,17 @@
 --   class_term x κ o  the second stage: what the class adds to the sum of exponent o
 --   class_sums x n o  what the first n classes add to it
 use Rattle.std.specs.Prelude.{◌≡◌, List, ℕ, ◌+◌, ◌*◌, ◌/◌, ◌%◌, ◌≤◌, ◌<◌, length, get_or}
-use Rattle.bytefield.specs.Tables.{field_tables}
 use Rattle.bytefield.specs.Powers.{power}
 use Rattle.packed.specs.Word.{scaled}
 use Rattle.interpolants.specs.PowerSum.{entry_of}
 use Rattle.interpolants.specs.Sums.{total}
 use Rattle.interpolants.specs.Words.{words_of}
 
-pub record Asked (rows : List ℕ) (n : ℕ) (w tables : List ℕ) : Type 0 where
+pub record Asked (rows : List ℕ) (n : ℕ) (w : List ℕ) : Type 0 where
   pub few : n ≤ 8
   pub sized : length rows ≡ n * length w
   pub fits : length w < 256
   pub nonzero : (i : ℕ) → i < length w → 0 < get_or w i 0
-  pub field-tables : tables ≡ field_tables
 
 unfoldable pub scaled_by : List ℕ → ℕ → List ℕ → ℕ → ℕ
 scaled_by rows n w e = scaled (entry_of (words_of rows n (length w)) (power e)) (entry_of w (power e))

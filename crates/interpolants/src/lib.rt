@@ -6,53 +6,48 @@ pub mod powersums;
 ghost use Rattle.std.specs.Prelude.{◌≡◌, ◌++◌, ℕ, ◌-◌, ◌*◌, ◌<◌, ◌≤◌, length, take, drop, replicate};
 ghost use Rattle.algebra.specs.Polynomial.{eval};
 ghost use Rattle.bytefield.specs.Product.{byte_ops};
-ghost use Rattle.bytefield.specs.Tables.{field_tables};
 ghost use Rattle.polynomial.specs.Interpolant.{interpolant_of, vanishing_of};
 ghost use Rattle.packed.specs.Share.{share};
 ghost use Rattle.interpolants.specs.Complement.{complement_of, factors_of};
 ghost use Rattle.interpolants.specs.Words.{words_of};
 ghost use Rattle.interpolants.specs.Division.{Divided};
 
+use bytefield::FieldTables;
+
 // out, of 256 - m bytes, becomes the complement: the product of X + g over the nonzero bytes g above m.
-fn complement(out: &mut [u8], m: usize, tables: &[u8; 512])
-    requires { (m < 256) × (length out.old ≡ 256 - m) × (tables.now ≡ field_tables) }
+fn complement(out: &mut [u8], m: usize, tables: &FieldTables)
+    requires { (m < 256) × (length out.old ≡ 256 - m) }
     ensures { out.new ≡ complement_of m }
 {
     polynomial::vanishing_above(out, m as u8, tables);
 }
 
 // The value at f of the polynomial g over bytes, by Horner's rule.
-fn value(g: &[u8], f: u8, tables: &[u8; 512]) -> u8
-    requires { tables.now ≡ field_tables }
+fn value(g: &[u8], f: u8, tables: &FieldTables) -> u8
     ensures { result ≡ eval byte_ops g.now f }
 {
     let mut v: u8 = 0;
-    let mut i = g.len();
-    while 0 < i {
-        i -= 1;
-        v = bytefield::sum(g[i], bytefield::product(f, v, tables));
+    for i in (0..g.len()).rev() {
+        v = bytefield::sum(g[i], tables.product(f, v));
     }
     v
 }
 
 // The first m bytes of out become the scales of the m interpolation points, where the complement stands behind them.
-fn scales(out: &mut [u8], m: usize, tables: &[u8; 512])
-    requires { (m < 256) × (m ≤ length out.old) × (drop m out.old ≡ complement_of m) × (tables.now ≡ field_tables) }
+fn scales(out: &mut [u8], m: usize, tables: &FieldTables)
+    requires { (m < 256) × (m ≤ length out.old) × (drop m out.old ≡ complement_of m) }
     ensures { out.new ≡ factors_of m }
 {
-    let mut f: u8 = 0;
-    let mut i = 0;
-    while i < m {
-        f += 1;
+    for i in 0..m {
+        let f = i as u8 + 1;
         let v = value(&out[m..], f, tables);
-        out[i] = bytefield::product(f, v, tables);
-        i += 1;
+        out[i] = tables.product(f, v);
     }
 }
 
 // out becomes the scales of the m interpolation points, and behind them the complement.
-pub fn factors(out: &mut [u8], m: usize, tables: &[u8; 512])
-    requires { (m < 256) × (length out.old ≡ 256) × (tables.now ≡ field_tables) }
+pub fn factors(out: &mut [u8], m: usize, tables: &FieldTables)
+    requires { (m < 256) × (length out.old ≡ 256) }
     ensures { out.new ≡ factors_of m }
 {
     complement(&mut out[m..], m, tables);
@@ -65,12 +60,9 @@ fn divide(t: &mut [u64], g: &[u8])
     ensures { Divided g.now t.old t.new }
 {
     let d = g.len();
-    let mut i = t.len();
-    while d < i {
-        i -= 1;
-        let low = i - d;
+    for i in (d..t.len()).rev() {
         let table = packed::multiples(t[i]);
-        packed::add_multiples(&mut t[low..i], g, &table);
+        packed::add_multiples(&mut t[i - d..i], g, &table);
     }
 }
 
@@ -95,9 +87,9 @@ pub fn interpolate(
     n: usize,
     m: usize,
     factors: &[u8],
-    tables: &[u8; 512],
+    tables: &FieldTables,
 )
-    requires { (length a.old ≡ 255) × (n ≤ 8) × (length rows.now ≡ n * m) × (m < 256) × (factors.now ≡ factors_of m) × (tables.now ≡ field_tables) }
+    requires { (length a.old ≡ 255) × (n ≤ 8) × (length rows.now ≡ n * m) × (m < 256) × (factors.now ≡ factors_of m) }
     ensures { (i : ℕ) → i < 8 → share i a.new ≡ replicate (255 - m) 0 ++ interpolant_of (share i (words_of rows.now n m)) }
 {
     crate::powersums::power_sums(a, rows, n, &factors[..m], tables);

@@ -23,11 +23,9 @@ pub fn permute(a: [u64; 25]) -> [u64; 25]
 {
     let constants = ROUND_CONSTANTS;
     let mut b = a;
-    let mut k: usize = 0;
-    while k < 24 {
-        let next = round(b, constants[k]);
+    for c in constants {
+        let next = round(b, c);
         b = next;
-        k += 1;
     }
     b
 }

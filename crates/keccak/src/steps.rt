@@ -6,7 +6,7 @@ ghost use Rattle.keccak.specs.Planes.{chi_iota};
 
 use crate::tables::OFFSETS;
 
-// The bits of x moved up by r places, those past the top coming in below.
+// The bits of x moved up by r places, those past the top coming in below: a helper of shifts, as the form of document 01 is.
 fn rotated(x: u64, r: u32) -> u64
     requires { r < 64 }
     ensures { result ≡ spec.rotl x r }

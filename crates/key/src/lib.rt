@@ -7,7 +7,6 @@ ghost use Rattle.lists.specs.Zeroed.{zeroed};
 ghost use Rattle.algebra.specs.Each.{NotIn, Disjoint};
 ghost use Rattle.algebra.specs.Polynomial.{interpolate};
 ghost use Rattle.algebra.specs.Polynomial.Ratios.{distances, ratios};
-ghost use Rattle.bytefield.specs.Tables.{field_tables};
 ghost use Rattle.bytefield.specs.Product.{◌⊗◌, byte_ops};
 ghost use Rattle.bytefield.specs.Powers.{power};
 ghost use Rattle.bytefield.specs.Inverse.{inverse};
@@ -18,41 +17,34 @@ ghost use Rattle.key.specs.Loops.Positions.{chosen, spared};
 ghost use Rattle.key.specs.Loops.Locator.{root_if, at_if};
 ghost use Rattle.key.specs.Loops.Gather.{wanted, selected, put_if, next_if};
 
+use bytefield::FieldTables;
+
 // The product of the row h with x.
-fn row(h: &[u8], x: &[u8], tables: &[u8; 512]) -> u8
-    requires { (length x.now ≤ length h.now) × (tables.now ≡ field_tables) }
+fn row(h: &[u8], x: &[u8], tables: &FieldTables) -> u8
+    requires { length x.now ≤ length h.now }
     ensures { result ≡ dot h.now x.now }
 {
     let mut acc: u8 = 0;
-    let mut i = 0;
-    while i < x.len() {
-        acc = bytefield::sum(acc, bytefield::product(h[i], x[i], tables));
-        i += 1;
+    for (i, b) in x.iter().enumerate() {
+        acc = bytefield::sum(acc, tables.product(h[i], *b));
     }
     acc
 }
 
 // out becomes H'x: out.len() rows of the matrix, each of x.len() bytes, times x.
-pub fn image(x: &[u8], matrix: &[u8], out: &mut [u8], tables: &[u8; 512])
-    requires { (length out.old * length x.now ≤ length matrix.now) × (tables.now ≡ field_tables) }
+pub fn image(x: &[u8], matrix: &[u8], out: &mut [u8], tables: &FieldTables)
+    requires { length out.old * length x.now ≤ length matrix.now }
     ensures { out.new ≡ rows (length out.old) matrix.now x.now }
 {
     let k = x.len();
-    let n = out.len();
-    let mut a = 0;
-    let mut i = 0;
-    while i < n {
-        let e = a + k;
-        out[i] = row(&matrix[a..e], x, tables);
-        a = e;
-        i += 1;
+    for (i, b) in out.iter_mut().enumerate() {
+        *b = row(&matrix[i * k..(i + 1) * k], x, tables);
     }
 }
 
 // out becomes the vector x: x_A, and behind it y + H'x_A.
-pub fn vector(x_a: &[u8], matrix: &[u8], y: &[u8], out: &mut [u8], tables: &[u8; 512])
-    requires { (length out.old ≡ length x_a.now + length y.now) × (length y.now * length x_a.now ≤ length matrix.now)
-        × (tables.now ≡ field_tables) }
+pub fn vector(x_a: &[u8], matrix: &[u8], y: &[u8], out: &mut [u8], tables: &FieldTables)
+    requires { (length out.old ≡ length x_a.now + length y.now) × (length y.now * length x_a.now ≤ length matrix.now) }
     ensures { out.new ≡ vector_of matrix.now y.now x_a.now }
 {
     let k = x_a.len();
@@ -66,12 +58,10 @@ pub fn weight(x: &[u8]) -> usize
     ensures { result ≡ weight_of x.now }
 {
     let mut n: usize = 0;
-    let mut i = 0;
-    while i < x.len() {
-        if x[i] != 0 {
+    for b in x {
+        if *b != 0 {
             n += 1;
         }
-        i += 1;
     }
     n
 }
@@ -95,10 +85,7 @@ fn to_fill(w: usize, x: &[u8]) -> usize
 fn is_chosen(b: u8, left: usize) -> bool
     ensures { result ≡ chosen b left }
 {
-    if b != 0 {
-        return true;
-    }
-    0 < left
+    b != 0 || 0 < left
 }
 
 // How many may be filled in after it.
@@ -108,15 +95,12 @@ fn left_after(b: u8, left: usize) -> usize
     if b != 0 {
         return left;
     }
-    if left == 0 {
-        return 0;
-    }
-    left - 1
+    left.saturating_sub(1)
 }
 
 // The polynomial from place at on gets the factor X + f, and starts one place lower, if hit; and its place.
-fn root_if(p: &mut [u8], at: usize, f: u8, hit: bool, tables: &[u8; 512]) -> usize
-    requires { (hit ≡ true → 0 < at) × (at < length p.old) × (tables.now ≡ field_tables) }
+fn root_if(p: &mut [u8], at: usize, f: u8, hit: bool, tables: &FieldTables) -> usize
+    requires { (hit ≡ true → 0 < at) × (at < length p.old) }
     ensures { (p.new ≡ root_if hit p.old at f) × (result ≡ at_if hit at) }
 {
     if hit {
@@ -128,23 +112,17 @@ fn root_if(p: &mut [u8], at: usize, f: u8, hit: bool, tables: &[u8; 512]) -> usi
 }
 
 // out, of w + 1 bytes, becomes Q, for a vector x of at most w nonzero entries.
-pub fn locator(w: usize, x: &[u8], out: &mut [u8], tables: &[u8; 512])
-    requires { Light w x.now × (length out.old ≡ w + 1) × (tables.now ≡ field_tables) }
+pub fn locator(w: usize, x: &[u8], out: &mut [u8], tables: &FieldTables)
+    requires { Light w x.now × (length out.old ≡ w + 1) }
     ensures { out.new ≡ locator_of w x.now }
 {
-    let n = x.len();
     let mut left = to_fill(w, x);
     let mut at = w;
-    let mut f: u8 = 0;
-    let mut i = 0;
     out[w] = 1;
-    while i < n {
-        let b = x[i];
-        f += 1;
-        let hit = is_chosen(b, left);
-        at = root_if(out, at, f, hit, tables);
-        left = left_after(b, left);
-        i += 1;
+    for (i, b) in x.iter().enumerate() {
+        let hit = is_chosen(*b, left);
+        at = root_if(out, at, i as u8 + 1, hit, tables);
+        left = left_after(*b, left);
     }
 }
 
@@ -152,10 +130,7 @@ pub fn locator(w: usize, x: &[u8], out: &mut [u8], tables: &[u8; 512])
 fn is_wanted(inside: bool, hit: bool) -> bool
     ensures { result ≡ wanted inside hit }
 {
-    if inside {
-        return hit;
-    }
-    !hit
+    inside == hit
 }
 
 // b is written to place at, if hit; and the next place.
@@ -176,16 +151,12 @@ fn gather(w: usize, x: &[u8], s: &[u8], inside: bool, out: &mut [u8])
         × (length out.old ≡ length (selected inside (positions w x.now) s.now)) }
     ensures { out.new ≡ selected inside (positions w x.now) s.now }
 {
-    let n = x.len();
     let mut left = to_fill(w, x);
     let mut at = 0;
-    let mut i = 0;
-    while i < n {
-        let b = x[i];
-        let hit = is_wanted(inside, is_chosen(b, left));
+    for (i, b) in x.iter().enumerate() {
+        let hit = is_wanted(inside, is_chosen(*b, left));
         at = put_if(out, at, s[i], hit);
-        left = left_after(b, left);
-        i += 1;
+        left = left_after(*b, left);
     }
 }
 
@@ -201,50 +172,43 @@ fn split(w: usize, x: &[u8], out: &mut [u8])
 }
 
 // A logarithm of the product of the distances of f from the points gs, none of which it is.
-fn log_distances(f: u8, gs: &[u8], tables: &[u8; 512]) -> usize
-    requires { (length gs.now < 256) × NotIn f gs.now × (tables.now ≡ field_tables) }
+fn log_distances(f: u8, gs: &[u8], tables: &FieldTables) -> usize
+    requires { (length gs.now < 256) × NotIn f gs.now }
     ensures { power result ≡ distances byte_ops f gs.now }
 {
-    let n = gs.len();
     let mut s: usize = 0;
-    let mut i = 0;
-    while i < n {
-        s += bytefield::log_of(bytefield::sum(f, gs[i]), tables);
-        i += 1;
+    for g in gs {
+        s += tables.log_of(bytefield::sum(f, *g));
     }
     s
 }
 
 // y over the product of the distances of f from the points gs, none of which it is.
-fn ratio(y: u8, f: u8, gs: &[u8], tables: &[u8; 512]) -> u8
-    requires { (length gs.now < 256) × NotIn f gs.now × (tables.now ≡ field_tables) }
+fn ratio(y: u8, f: u8, gs: &[u8], tables: &FieldTables) -> u8
+    requires { (length gs.now < 256) × NotIn f gs.now }
     ensures { result ≡ y ⊗ inverse (distances byte_ops f gs.now) }
 {
     if y == 0 {
         return 0;
     }
-    let d = bytefield::power_of(log_distances(f, gs, tables) % 255, tables);
-    bytefield::product(y, bytefield::inverse(d, tables), tables)
+    let d = tables.power_of(log_distances(f, gs, tables) % 255);
+    tables.product(y, tables.inverse(d))
 }
 
 // Each of the values ys at the points fs is divided by the distances of its point from the points gs.
-fn ratios(fs: &[u8], gs: &[u8], ys: &mut [u8], tables: &[u8; 512])
-    requires { (length fs.now ≡ length ys.old) × (length gs.now < 256) × Disjoint fs.now gs.now
-        × (tables.now ≡ field_tables) }
+fn ratios(fs: &[u8], gs: &[u8], ys: &mut [u8], tables: &FieldTables)
+    requires { (length fs.now ≡ length ys.old) × (length gs.now < 256) × Disjoint fs.now gs.now }
     ensures { ys.new ≡ ratios byte_ops inverse gs.now fs.now ys.old }
 {
-    let n = ys.len();
-    let mut i = 0;
-    while i < n {
-        ys[i] = ratio(ys[i], fs[i], gs, tables);
-        i += 1;
+    for (i, y) in ys.iter_mut().enumerate() {
+        *y = ratio(*y, fs[i], gs, tables);
     }
 }
 
 // The values out at the first w points, each over the distances of its point from the other points, become the polynomial through them.
-fn through_ratios(w: usize, points: &[u8], out: &mut [u8], tables: &[u8; 512])
+fn through_ratios(w: usize, points: &[u8], out: &mut [u8], tables: &FieldTables)
     requires { (length out.old ≡ w) × (w ≤ length points.now) × (length points.now < 256)
-        × Disjoint (take w points.now) (drop w points.now) × (tables.now ≡ field_tables) }
+        × Disjoint (take w points.now) (drop w points.now) }
     ensures { out.new ≡ interpolate byte_ops inverse (take w points.now)
         (ratios byte_ops inverse (drop w points.now) (take w points.now) out.old) }
 {
@@ -254,9 +218,8 @@ fn through_ratios(w: usize, points: &[u8], out: &mut [u8], tables: &[u8; 512])
 
 // out, of w bytes, becomes P, for a vector x of at most w nonzero entries. The work area, as long as x, ends as zeros.
 // P takes at each point of E the value of x there over the distances of the point from those outside E.
-pub fn quotient(w: usize, x: &[u8], work: &mut [u8], out: &mut [u8], tables: &[u8; 512])
-    requires { Light w x.now × (1 ≤ w) × (length work.old ≡ length x.now) × (length out.old ≡ w)
-        × (tables.now ≡ field_tables) }
+pub fn quotient(w: usize, x: &[u8], work: &mut [u8], out: &mut [u8], tables: &FieldTables)
+    requires { Light w x.now × (1 ≤ w) × (length work.old ≡ length x.now) × (length out.old ≡ w) }
     ensures { (out.new ≡ quotient_of w x.now)
         × (work.new ≡ zeroed (length x.now) work.old) }
 {

@@ -3,13 +3,15 @@
 #![tactic(auto)]
 
 use keytext::KeyScan;
+use keytext::listing::LONGEST_LISTING;
+use layout::{LONGEST_Y, MOST_MATRIX};
 use std::io;
 
 fn main(rt: HostRuntime) -> io::Result<()> {
-    let mut matrix = keytext::listing::matrix_room();
-    let mut y = keytext::listing::vector_room();
-    let mut x_a = keytext::listing::vector_room();
-    let mut out = keytext::listing::listing_room();
+    let mut matrix = [0; MOST_MATRIX];
+    let mut y = [0; LONGEST_Y];
+    let mut x_a = [0; LONGEST_Y];
+    let mut out = [0; LONGEST_LISTING];
     let mut input = rt.stdin();
     let scan = keyinput::feed_rest(&mut input, KeyScan::new(), &mut matrix, &mut y, &mut x_a)?;
     let n = keytext::listing::finish(scan, &matrix, &y, &x_a, &mut out);

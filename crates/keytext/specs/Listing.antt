@@ -9,11 +9,10 @@
 -- answer_in t               the checks: 10 over the whole input, then 1, 2, 3
 -- printed a w x            the lines, or the refusal
 -- listing_of t              the whole output for the input t
-use Rattle.std.specs.Prelude.{List, [], ◌∷◌, ◌++◌, ℕ, length}
+use Rattle.std.specs.Prelude.{List, [], ◌∷◌, ◌++◌, ℕ, length, Ok, Err}
 use Rattle.answers.specs.declared.Refusal.{Refusal}
 use Rattle.answers.specs.declared.Refusal.TheVariants.{Malformed}
-use Rattle.answers.specs.declared.Answer.{Answer}
-use Rattle.answers.specs.declared.Answer.TheVariants.{Done, Refused}
+use Rattle.answers.specs.Answer.{Answer}
 use Rattle.answers.specs.Number.{refusal_number}
 use Rattle.answers.specs.Checks.{checks}
 use Rattle.parameters.specs.declared.Parameters.{Parameters}
@@ -68,8 +67,8 @@ abbrev pub answer_in : List ℕ → Answer
 answer_in t = checks ((has_form key_form t, Malformed) ∷ key_checks (parameters_in t) (bytes_at t 1) (bytes_at t 2) (bytes_at t 3))
 
 abbrev pub printed : Answer → ℕ → List ℕ → List ℕ
-printed Done w x = key_lines w x
-printed (Refused r) w x = refused_line r
+printed (Ok _) w x = key_lines w x
+printed (Err r) w x = refused_line r
 
 unfoldable pub listing_of : List ℕ → List ℕ
 listing_of t = printed (answer_in t) (parameters_in t).w (vector_in t)

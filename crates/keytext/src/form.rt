@@ -5,36 +5,30 @@ ghost use Rattle.keytext.specs.Form.{word_of, last_field, key_form};
 
 use text::word::WordScan;
 
+// The word of a line.
+fn word_of(line: usize) -> &'static [u8]
+    ensures { result.now ≡ word_of line }
+{
+    match line {
+        0 => b"set",
+        1 => b"matrix",
+        2 => b"syndrome",
+        _ => b"key",
+    }
+}
+
 // The field compared with the word of its line, one byte more.
 pub fn push_word(w: WordScan, line: usize, b: u8) -> WordScan
     ensures { result ≡ word_step (word_of line) w b }
 {
-    if line == 0 {
-        return w.push(b, b"set");
-    }
-    if line == 1 {
-        return w.push(b, b"matrix");
-    }
-    if line == 2 {
-        return w.push(b, b"syndrome");
-    }
-    w.push(b, b"key")
+    w.push(b, word_of(line))
 }
 
 // Is the field the word of its line?
 pub fn accepts_word(w: WordScan, line: usize) -> bool
     ensures { result ≡ word_accepts (word_of line) w }
 {
-    if line == 0 {
-        return w.accepts(b"set");
-    }
-    if line == 1 {
-        return w.accepts(b"matrix");
-    }
-    if line == 2 {
-        return w.accepts(b"syndrome");
-    }
-    w.accepts(b"key")
+    w.accepts(word_of(line))
 }
 
 // The place of a line's last field.

@@ -14,13 +14,13 @@ ghost use Rattle.keytext.specs.Scan.{start, broken, with_word, with_number, hexe
 ghost use Rattle.keytext.specs.Scan.{saved_numbers, saved_lengths, closed, field_end, line_end, step, complete};
 
 use crate::form::{accepts_word, all_lines, last_field, push_word};
-use text::both;
 use text::decimal::DecimalScan;
 use text::hex::HexScan;
 use text::word::WordScan;
 
-// A key's text as its bytes come. `sound` while it can still be the four lines; `line` of them have ended, and `field` fields of the next one; the
-// field begun is read by the scanner of its kind. `numbers` are the set line's, and `lengths` the bytes of the matrix, y and x_A, as far as they are read.
+// A key's text as its bytes come. `sound` while it can still be the four lines; the other fields keep their meaning where it is not. `line` lines
+// have ended, and `field` fields of the next one; the field begun is read by the scanner of its kind. `numbers` are the set line's, and `lengths`
+// the bytes of the matrix, y and x_A, as far as they are read.
 #[derive(Clone, Copy)]
 pub struct KeyScan {
     pub sound: bool,
@@ -51,41 +51,43 @@ impl KeyScan {
     }
 
     // The text is not the four lines.
-    fn broken(mut self) -> Self
+    fn broken(self) -> Self
         ensures { result ≡ broken self }
     {
-        self.sound = false;
-        self
+        KeyScan {
+            sound: false,
+            ..self
+        }
     }
 
     // One byte more of a word.
-    fn word_byte(mut self, b: u8) -> Self
+    fn word_byte(self, b: u8) -> Self
         ensures { result ≡ with_word self (word_step (word_of self.line) self.word b) }
     {
-        let word = self.word;
-        let next = push_word(word, self.line, b);
-        self.word = next;
-        self
+        KeyScan {
+            word: push_word(self.word, self.line, b),
+            ..self
+        }
     }
 
     // One byte more of a number.
-    fn number_byte(mut self, b: u8) -> Self
+    fn number_byte(self, b: u8) -> Self
         ensures { result ≡ with_number self (decimal_step 3 self.number b) }
     {
-        let number = self.number;
-        let next = number.push(b, 3);
-        self.number = next;
-        self
+        KeyScan {
+            number: self.number.push(b, 3),
+            ..self
+        }
     }
 
     // One byte more of a hex field.
-    fn hex_byte(mut self, b: u8, out: &mut [u8]) -> Self
+    fn hex_byte(self, b: u8, out: &mut [u8]) -> Self
         ensures { hexed result out.new ≡ hex_byte self out.old b }
     {
-        let hex = self.hex;
-        let next = hex.push(b, out);
-        self.hex = next;
-        self
+        KeyScan {
+            hex: self.hex.push(b, out),
+            ..self
+        }
     }
 
     // One byte more of a field.
@@ -93,38 +95,25 @@ impl KeyScan {
         ensures { held result matrix.new y.new x_a.new
             ≡ byte_step (held self matrix.old y.old x_a.old) b }
     {
-        if self.line > 3 {
-            return self.broken();
+        match self.line {
+            0..=3 if self.field == 0 => self.word_byte(b),
+            0 => self.number_byte(b),
+            1 => self.hex_byte(b, matrix),
+            2 => self.hex_byte(b, y),
+            3 => self.hex_byte(b, x_a),
+            _ => self.broken(),
         }
-        if self.field == 0 {
-            return self.word_byte(b);
-        }
-        if self.line == 0 {
-            return self.number_byte(b);
-        }
-        if self.line == 1 {
-            return self.hex_byte(b, matrix);
-        }
-        if self.line == 2 {
-            return self.hex_byte(b, y);
-        }
-        self.hex_byte(b, x_a)
     }
 
     // Is the field, ended here, what its place asks for?
     fn accepts(self) -> bool
         ensures { result ≡ accepted self }
     {
-        let word = self.word;
-        let number = self.number;
-        let hex = self.hex;
-        if self.field == 0 {
-            return accepts_word(word, self.line);
+        match (self.field, self.line) {
+            (0, line) => accepts_word(self.word, line),
+            (_, 0) => self.number.accepts(),
+            _ => self.hex.accepts(),
         }
-        if self.line == 0 {
-            return number.accepts();
-        }
-        hex.accepts()
     }
 
     // The numbers, with that of the field ended here.
@@ -132,17 +121,9 @@ impl KeyScan {
         ensures { result ≡ saved_numbers self }
     {
         let mut numbers = self.numbers;
-        let field = self.field;
-        if self.line != 0 {
-            return numbers;
+        if let (0, 1..=5) = (self.line, self.field) {
+            numbers[self.field - 1] = self.number.value;
         }
-        if field == 0 {
-            return numbers;
-        }
-        if field > 5 {
-            return numbers;
-        }
-        numbers[field - 1] = self.number.value;
         numbers
     }
 
@@ -151,17 +132,9 @@ impl KeyScan {
         ensures { result ≡ saved_lengths self }
     {
         let mut lengths = self.lengths;
-        let line = self.line;
-        if self.field == 0 {
-            return lengths;
+        if let (1.., 1..=3) = (self.field, self.line) {
+            lengths[self.line - 1] = self.hex.count;
         }
-        if line == 0 {
-            return lengths;
-        }
-        if line > 3 {
-            return lengths;
-        }
-        lengths[line - 1] = self.hex.count;
         lengths
     }
 
@@ -170,7 +143,7 @@ impl KeyScan {
         ensures { result ≡ closed self line field }
     {
         KeyScan {
-            sound: both(self.sound, self.accepts()),
+            sound: self.sound && self.accepts(),
             line,
             field,
             word: WordScan::new(),
@@ -185,10 +158,7 @@ impl KeyScan {
     fn field_end(self) -> Self
         ensures { result ≡ field_end self }
     {
-        if self.line > 3 {
-            return self.broken();
-        }
-        if self.field >= last_field(self.line) {
+        if self.line > 3 || self.field >= last_field(self.line) {
             return self.broken();
         }
         self.closed(self.line, self.field + 1)
@@ -198,10 +168,7 @@ impl KeyScan {
     fn line_end(self) -> Self
         ensures { result ≡ line_end self }
     {
-        if self.line > 3 {
-            return self.broken();
-        }
-        if self.field != last_field(self.line) {
+        if self.line > 3 || self.field != last_field(self.line) {
             return self.broken();
         }
         self.closed(self.line + 1, 0)
@@ -212,13 +179,11 @@ impl KeyScan {
         ensures { held result matrix.new y.new x_a.new
             ≡ step (held self matrix.old y.old x_a.old) b }
     {
-        if b == b'\n' {
-            return self.line_end();
+        match b {
+            b'\n' => self.line_end(),
+            b'\t' => self.field_end(),
+            _ => self.byte(b, matrix, y, x_a),
         }
-        if b == b'\t' {
-            return self.field_end();
-        }
-        self.byte(b, matrix, y, x_a)
     }
 
     // After one piece more of the text. What a slice has no room for is counted and not stored.
@@ -227,11 +192,8 @@ impl KeyScan {
             ≡ fold step (held self matrix.old y.old x_a.old) piece.now }
     {
         let mut scan = self;
-        let mut i = 0;
-        while i < piece.len() {
-            let next = scan.step(piece[i], matrix, y, x_a);
-            scan = next;
-            i += 1;
+        for b in piece {
+            scan = scan.step(*b, matrix, y, x_a);
         }
         scan
     }
@@ -240,6 +202,6 @@ impl KeyScan {
     pub fn complete(self) -> bool
         ensures { result ≡ complete self }
     {
-        both(all_lines(self.line), self.sound)
+        all_lines(self.line) && self.sound
     }
 }

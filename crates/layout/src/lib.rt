@@ -360,11 +360,5 @@ pub fn lent(p: Parameters, matrix: usize, y: usize, work: usize) -> bool
     requires { Within p }
     ensures { result ≡ lent p matrix y work }
 {
-    if matrix != matrix_length(p) {
-        return false;
-    }
-    if y != y_length(p) {
-        return false;
-    }
-    work_length(p) <= work
+    matrix == matrix_length(p) && y == y_length(p) && work_length(p) <= work
 }

@@ -1,25 +1,26 @@
 // The messages of several runs (document 02, request 01): how many runs there may be, and how long their messages are.
-ghost use Rattle.std.specs.Prelude.{◌≡◌, map, ◌≤◌, ltb, length};
+ghost use Rattle.std.specs.Prelude.{◌≡◌, ◌&&◌, map, ◌≤◌, ltb, length};
 ghost use Rattle.lists.specs.Checks.{all_true};
-ghost use Rattle.parameters.specs.Limits.{Within};
+ghost use Rattle.parameters.specs.Limits.{Within, within_limits};
 ghost use Rattle.layout.specs.Layout.{leaves as leafCount};
 ghost use Rattle.layout.specs.Maxima.{most_runs};
 ghost use Rattle.layout.specs.Runs as spec;
 
 use crate::{MOST_RUNS, leaf_count, message2_length, message5_length, output_length};
-use parameters::Parameters;
+use parameters::{Parameters, within_limits};
 
 // Is the run count within its limits?
 pub fn runs_within(runs: usize) -> bool
     ensures { result ≡ spec.runs_within runs }
 {
-    if runs < 1 {
-        return false;
-    }
-    if runs > MOST_RUNS {
-        return false;
-    }
-    true
+    (1..=MOST_RUNS).contains(&runs)
+}
+
+// Are the parameters and the run count within their limits?
+pub fn within(p: Parameters, runs: usize) -> bool
+    ensures { result ≡ (within_limits p && spec.runs_within runs) }
+{
+    within_limits(p) && runs_within(runs)
 }
 
 // The length of message 1: salt, and h of each run.
@@ -46,23 +47,14 @@ pub fn messages3_length(runs: usize) -> usize
     runs * 32
 }
 
-fn wide(leaf: u8) -> usize
-    ensures { result ≡ leaf }
-{
-    leaf as usize
-}
-
 // The length of message 5 of the runs that hide these leaves; that of the first runs is where the part of the next one starts.
 pub fn messages5_length(p: Parameters, leaves: &[u8]) -> usize
     requires { Within p × (length leaves.now ≤ most_runs) }
     ensures { result ≡ spec.messages5_length p leaves.now }
 {
-    let n = leaves.len();
     let mut sum = 0;
-    let mut e = 0;
-    while e < n {
-        sum = sum + message5_length(p, wide(leaves[e]));
-        e = e + 1;
+    for leaf in leaves {
+        sum += message5_length(p, usize::from(*leaf));
     }
     sum
 }
@@ -73,12 +65,10 @@ pub fn leaves_below(p: Parameters, leaves: &[u8]) -> bool
     ensures { result ≡ all_true (map (λ i. ltb i (leafCount p)) leaves.now) }
 {
     let n = leaf_count(p);
-    let mut e = 0;
-    while e < leaves.len() {
-        if wide(leaves[e]) >= n {
+    for leaf in leaves {
+        if usize::from(*leaf) >= n {
             return false;
         }
-        e += 1;
     }
     true
 }

@@ -58,11 +58,8 @@ pub fn digest_commitments(
     let start = begin(COMMITMENTS, prefix);
     let mut all = begin(ALL_COMMITMENTS, prefix);
     let n = leaf_count(p);
-    let mut i = 0;
-    while i < n {
-        let next = absorb_commitment(all, start, p, i, states, hidden_leaf, given, aux);
-        all = next;
-        i += 1;
+    for i in 0..n {
+        all = absorb_commitment(all, start, p, i, states, hidden_leaf, given, aux);
     }
     digest(all, out);
 }

@@ -6,10 +6,11 @@ ghost use Rattle.leaves.specs.States.{seed_at, unless_hidden, states_of, states_
 ghost use Rattle.leaves.specs.Shapes.{States, OpenedStates};
 
 use crate::{STATES, leaf_state};
+use layout::arrays::array;
 use layout::{leaf_count, levels};
 use lists::put_at;
 use parameters::Parameters;
-use seedtree::{opened_seeds, seed_of};
+use seedtree::opened_seeds;
 use shake256::Sponge;
 use strings::begin;
 
@@ -22,12 +23,11 @@ fn put_state(start: Sponge, leaf: usize, n: usize, hidden_leaf: usize, states: &
 {
     let to = 32 * leaf;
     if leaf == hidden_leaf {
-        let blank = [0u8; 32];
-        put_at(states, to, &blank);
+        put_at(states, to, &[0; 32]);
         return;
     }
     let from = 16 * (n + leaf);
-    let seed = seed_of(&states[from..from + 16]);
+    let seed = array::<16>(&states[from..from + 16]);
     leaf_state(start, leaf, &seed, &mut states[to..to + 32]);
 }
 
@@ -38,10 +38,8 @@ pub fn leaf_states(prefix: &[u8], n: usize, hidden_leaf: usize, states: &mut [u8
     ensures { states.new ≡ states_of prefix.now (drop (16 * n) states.old) hidden_leaf n }
 {
     let start = begin(STATES, prefix);
-    let mut i = 0;
-    while i < n {
+    for i in 0..n {
         put_state(start, i, n, hidden_leaf, states);
-        i += 1;
     }
 }
 

@@ -12,10 +12,8 @@ pub fn zero_front(w: &mut [u8], n: usize)
     requires { n ≤ length w.old }
     ensures { w.new ≡ zeroed n w.old }
 {
-    let mut i = 0;
-    while i < n {
-        w[i] = 0;
-        i += 1;
+    for x in w[..n].iter_mut() {
+        *x = 0;
     }
 }
 
@@ -24,10 +22,8 @@ pub fn put_at(out: &mut [u8], at: usize, s: &[u8])
     requires { at + length s.now ≤ length out.old }
     ensures { out.new ≡ put_at out.old at s.now }
 {
-    let mut i = 0;
-    while i < s.len() {
-        out[at + i] = s[i];
-        i += 1;
+    for (i, x) in s.iter().enumerate() {
+        out[at + i] = *x;
     }
 }
 
@@ -44,10 +40,8 @@ pub fn xor_into(s: &mut [u8], t: &[u8])
     requires { length t.now ≤ length s.old }
     ensures { s.new ≡ xor_list s.old t.now }
 {
-    let mut i = 0;
-    while i < t.len() {
-        s[i] = s[i] ^ t[i];
-        i += 1;
+    for (i, x) in t.iter().enumerate() {
+        s[i] ^= *x;
     }
 }
 
@@ -67,12 +61,10 @@ pub fn equal(a: &[u8], b: &[u8]) -> bool
     if a.len() != b.len() {
         return false;
     }
-    let mut i = 0;
-    while i < a.len() {
-        if a[i] != b[i] {
+    for (i, x) in a.iter().enumerate() {
+        if *x != b[i] {
             return false;
         }
-        i += 1;
     }
     true
 }

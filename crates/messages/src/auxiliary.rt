@@ -2,28 +2,25 @@
 // The tables of the byte field are made once a call and lent down.
 ghost use Rattle.std.specs.Prelude.{◌≡◌, ◌*◌, length};
 ghost use Rattle.lists.specs.Zeroed.{zeroed};
-ghost use Rattle.bytefield.specs.Tables.{field_tables};
 ghost use Rattle.exchange.specs.Reading.{encode};
 ghost use Rattle.messages.specs.Auxiliary.{products_of, wanted_for, aux_for};
 ghost use Rattle.messages.specs.Asked.{AuxAsked, ProductsAsked};
 
-use bytefield::field_tables;
+use bytefield::FieldTables;
 use layout::{at_x, factor_length};
 use parameters::Parameters;
 
 // out becomes c: at each position the product of a and b of the sum drawn.
-fn products(p: Parameters, drawn: &[u8], out: &mut [u8], tables: &[u8; 512])
-    requires { ProductsAsked p drawn.now out.old × (tables.now ≡ field_tables) }
+fn products(p: Parameters, drawn: &[u8], out: &mut [u8], tables: &FieldTables)
+    requires { ProductsAsked p drawn.now out.old }
     ensures { out.new ≡ encode (products_of p drawn.now) p.t }
 {
     let at_b = factor_length(p);
-    let mut l = 0;
-    while l < p.t {
+    for l in 0..p.t {
         let a = points::encoding::point_at(drawn, 4 * l);
         let b = points::encoding::point_at(drawn, at_b + 4 * l);
         let c = points::product(a, b, tables);
         points::encoding::put_point(out, 4 * l, c);
-        l += 1;
     }
 }
 
@@ -34,9 +31,9 @@ fn wanted(
     drawn: &[u8],
     work: &mut [u8],
     out: &mut [u8],
-    tables: &[u8; 512],
+    tables: &FieldTables,
 )
-    requires { AuxAsked p x.now drawn.now out.old × (length work.old ≡ p.m) × (tables.now ≡ field_tables) }
+    requires { AuxAsked p x.now drawn.now out.old × (length work.old ≡ p.m) }
     ensures { (out.new ≡ wanted_for p x.now drawn.now)
         × (work.new ≡ zeroed p.m work.old) }
 {
@@ -56,7 +53,7 @@ pub fn aux(p: Parameters, x: &[u8], drawn: &[u8], out: &mut [u8])
     requires { AuxAsked p x.now drawn.now out.old }
     ensures { out.new ≡ aux_for p x.now drawn.now }
 {
-    let tables = field_tables();
+    let tables = FieldTables::new();
     let mut work = [0u8; 255];
     let m = p.m;
     let a = at_x(p);

@@ -22,14 +22,11 @@ pub fn message1(p: Parameters, runs: usize, x: &[u8], seeds: &[u8], work: &mut [
         (root_in seeds.now)) × (work.new ≡ zeroed (work_length p) work.old) }
 {
     put_at(out, 0, &seeds[..32]);
-    let mut at = 32;
-    let mut e = 0;
-    while e < runs {
+    for e in 0..runs {
+        let at = 32 + 32 * e;
         let end = at + 32;
         let run = run_at(seeds, e);
         commitment_digest(p, x, &run, work, &mut out[at..end]);
-        at = end;
-        e += 1;
     }
 }
 
@@ -52,11 +49,10 @@ pub fn message3(
 {
     let runs = out.len() / 32;
     let size = message2_length(p);
-    let mut points = 0;
-    let mut at = 0;
-    let mut e = 0;
-    while e < runs {
+    for e in 0..runs {
+        let points = e * size;
         let next = points + size;
+        let at = 32 * e;
         let end = at + 32;
         let run = run_at(seeds, e);
         run_message3(
@@ -69,16 +65,7 @@ pub fn message3(
             work,
             &mut out[at..end],
         );
-        points = next;
-        at = end;
-        e += 1;
     }
-}
-
-fn wide(leaf: u8) -> usize
-    ensures { result ≡ leaf }
-{
-    leaf as usize
 }
 
 // out becomes message 5 of the runs that hide these leaves, and the named length of the work area ends as zeros. It is the same
@@ -100,11 +87,10 @@ pub fn message5(
         × (work.new ≡ zeroed (work_length p) work.old) }
 {
     let size = message2_length(p);
-    let mut points = 0;
     let mut at = 0;
-    let mut e = 0;
-    while e < leaves.len() {
-        let leaf = wide(leaves[e]);
+    for (e, leaf) in leaves.iter().enumerate() {
+        let leaf = usize::from(*leaf);
+        let points = e * size;
         let next = points + size;
         let end = at + message5_length(p, leaf);
         let run = run_at(seeds, e);
@@ -118,8 +104,6 @@ pub fn message5(
             work,
             &mut out[at..end],
         );
-        points = next;
         at = end;
-        e += 1;
     }
 }

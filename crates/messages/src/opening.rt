@@ -8,7 +8,7 @@ ghost use Rattle.exchange.specs.Leaf.{commitment};
 ghost use Rattle.messages.specs.Asked.{LeafAsked, OpeningAsked};
 ghost use Rattle.messages.specs.Opening.{leaf_bytes, opening_of};
 
-use bytefield::field_tables;
+use bytefield::FieldTables;
 use layout::{is_last, siblings_length, values_length};
 use leaves::{COMMITMENTS, leaf_commitment};
 use lists::put_at;
@@ -46,7 +46,7 @@ fn put_leaf(
     ensures { out.new ≡ leaf_bytes p prefix.now message2.now leaf matrix.now
         own.now aux.now }
 {
-    let tables = field_tables();
+    let tables = FieldTables::new();
     put_leaf_commitment(p, prefix, leaf, &own[..32], aux, &mut out[..32]);
     announce_leaf(p, &own[32..], message2, matrix, &mut out[32..], &tables);
 }

@@ -6,7 +6,7 @@
 -- Checked p e key r work o   the verdict, a work area of zeros, and what the opening gives of leaves and axes, with message 5's commitment, in o
 use Rattle.std.specs.Prelude.{◌≡◌, List, ℕ, take, drop, replicate}
 use Rattle.shake256.specs.Fips.{SHAKE256}
-use Rattle.answers.specs.declared.Answer.{Answer}
+use Rattle.answers.specs.Answer.{Answer}
 use Rattle.parameters.specs.declared.Parameters.{Parameters}
 use Rattle.layout.specs.Layout.{siblings_length, sums_length, work_length}
 use Rattle.exchange.specs.Values.{Key}

@@ -15,7 +15,7 @@ ghost use Rattle.openings.specs.Checked.{Checked};
 
 use crate::commitment::{commitment_agrees, open_leaves};
 use crate::response::{open_axes, response_agrees};
-use answers::{Answer, Refusal};
+use answers::{Answer, Refusal, require};
 use layout::{MOST_VALUES, prefix_place, rows_end, values_length};
 use parameters::Parameters;
 use reader::opening::read_opening;
@@ -31,13 +31,11 @@ fn verdict_of(
     requires { VerdictAsked p statement.now opened.now }
     ensures { result ≡ judged p statement.now hidden_leaf aux.now opened.now }
 {
-    if !commitment_agrees(p, statement, hidden_leaf, aux, opened) {
-        return Answer::Refused(Refusal::Commitment);
-    }
-    if !response_agrees(p, statement, opened) {
-        return Answer::Refused(Refusal::Response);
-    }
-    Answer::Done
+    require(
+        commitment_agrees(p, statement, hidden_leaf, aux, opened),
+        Refusal::Commitment,
+    )?;
+    require(response_agrees(p, statement, opened), Refusal::Response)
 }
 
 // Checks the opening of an exchange against its statement. Whatever the answer, `opened` then holds the states of all leaves

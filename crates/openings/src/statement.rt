@@ -6,12 +6,6 @@ use layout::{message2_length, prefix_place};
 use lists::put_at;
 use parameters::Parameters;
 
-fn wide(run: u8) -> usize
-    ensures { result ≡ run }
-{
-    run as usize
-}
-
 // Fills out with the statement of a run, from messages 1 to 3 of its exchange.
 pub fn put_statement(
     p: Parameters,
@@ -24,7 +18,7 @@ pub fn put_statement(
     requires { spec.StatementAsked p run message1.now message2.now message3.now out.old }
     ensures { out.new ≡ spec.statement_at p run message1.now message2.now message3.now }
 {
-    let e = wide(run);
+    let e = usize::from(run);
     let size = message2_length(p);
     let at = prefix_place(p);
     let h = 32 + e * 32;

@@ -12,10 +12,8 @@ ghost use Rattle.packed.specs.Share.{byte_at, share, placed};
 pub fn clear(words: &mut [u64])
     ensures { words.new ≡ replicate (length words.old) 0 }
 {
-    let mut i = 0;
-    while i < words.len() {
-        words[i] = 0;
-        i += 1;
+    for w in words.iter_mut() {
+        *w = 0;
     }
 }
 
@@ -86,10 +84,8 @@ pub fn add_multiples(acc: &mut [u64], by: &[u8], table: &[u64; 32])
     requires { length by.now ≤ length acc.old }
     ensures { (v : ℕ) → table.now ≡ multiples v → acc.new ≡ xor_list acc.old (map (scaled v) by.now) }
 {
-    let mut j = 0;
-    while j < by.len() {
-        acc[j] = acc[j] ^ times(table, by[j]);
-        j += 1;
+    for (j, b) in by.iter().enumerate() {
+        acc[j] ^= times(table, *b);
     }
 }
 
@@ -114,10 +110,8 @@ pub fn add_share(words: &mut [u64], x: &[u8], i: usize)
     requires { (length x.now ≤ length words.old) × (i < 8) }
     ensures { words.new ≡ xor_list words.old (map (placed i) x.now) }
 {
-    let mut j = 0;
-    while j < x.len() {
-        words[j] = words[j] ^ placed(x[j], i);
-        j += 1;
+    for (j, b) in x.iter().enumerate() {
+        words[j] ^= placed(*b, i);
     }
 }
 
@@ -126,9 +120,7 @@ pub fn share(words: &[u64], i: usize, out: &mut [u8])
     requires { (length words.now ≡ length out.old) × (i < 8) }
     ensures { out.new ≡ share i words.now }
 {
-    let mut j = 0;
-    while j < words.len() {
-        out[j] = byte_at(words[j], i);
-        j += 1;
+    for (j, w) in words.iter().enumerate() {
+        out[j] = byte_at(*w, i);
     }
 }

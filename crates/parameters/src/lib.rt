@@ -20,35 +20,9 @@ pub struct Parameters {
 pub fn within_limits(p: Parameters) -> bool
     ensures { result ≡ within_limits p }
 {
-    if p.m < 2 {
-        return false;
-    }
-    if p.m > 255 {
-        return false;
-    }
-    if p.k < 1 {
-        return false;
-    }
-    if p.k >= p.m {
-        return false;
-    }
-    if p.w < 1 {
-        return false;
-    }
-    if p.w > p.m {
-        return false;
-    }
-    if p.axes < 1 {
-        return false;
-    }
-    if p.axes > 8 {
-        return false;
-    }
-    if p.t < 1 {
-        return false;
-    }
-    if p.t > 8 {
-        return false;
-    }
-    true
+    (2..=255).contains(&p.m)
+        && (1..p.m).contains(&p.k)
+        && (1..=p.m).contains(&p.w)
+        && (1..=8).contains(&p.axes)
+        && (1..=8).contains(&p.t)
 }

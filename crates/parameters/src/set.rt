@@ -22,7 +22,7 @@ pub fn parameters_of(numbers: &[usize]) -> Parameters
 }
 
 // The numbers of the parameters.
-pub fn numbers_of(p: Parameters) -> [usize; 5]
+pub fn numbers_of(p: Parameters) -> [usize; LENGTH]
     ensures { result ≡ numbers_of p }
 {
     [p.m, p.k, p.w, p.axes, p.t]

@@ -17,9 +17,10 @@ fn drawn_length(p: Parameters, leaf: usize) -> usize
     ensures { result ≡ drawn_length p leaf }
 {
     if is_last(p, leaf) {
-        return at_x(p);
+        at_x(p)
+    } else {
+        share_length(p)
     }
-    share_length(p)
 }
 
 // Fills the front of out with a leaf's share as hashed, and returns its length.

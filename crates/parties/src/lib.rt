@@ -45,10 +45,8 @@ fn add_leaf(p: Parameters, leaf: usize, share: &[u8], sums: &mut [u8])
     requires { AddLeaf p share.now sums.old }
     ensures { sums.new ≡ spec.added_leaf p leaf share.now sums.old }
 {
-    let mut axis = 0;
-    while axis < p.axes {
+    for axis in 0..p.axes {
         add_to_party(p, axis, leaf, share, sums);
-        axis += 1;
     }
     xor_at(sums, p.axes * share_length(p), share);
 }
@@ -86,9 +84,7 @@ pub fn party_sums(p: Parameters, prefix: &[u8], states: &[u8], hidden_leaf: usiz
     let n = leaf_count(p);
     let size = sums.len();
     zero_front(sums, size);
-    let mut i = 0;
-    while i < n {
+    for i in 0..n {
         add_disclosed(shares, p, i, states, hidden_leaf, &mut share, sums);
-        i += 1;
     }
 }

@@ -34,7 +34,8 @@ fn add_drawn(
     xor_into(sum, &share[..size]);
 }
 
-// The same, unless the leaf is the hidden one.
+// The same, unless the leaf is the hidden one. `add_disclosed` has this shape with other sums; one function for both would take
+// a closure over the sums, whose contract is longer than both bodies.
 fn add_other(
     shares: Sponge,
     p: Parameters,
@@ -65,10 +66,8 @@ pub fn share_sum(p: Parameters, prefix: &[u8], states: &[u8], hidden_leaf: usize
     let n = leaf_count(p);
     let size = out.len();
     zero_front(out, size);
-    let mut i = 0;
-    while i < n {
+    for i in 0..n {
         add_other(shares, p, i, states, hidden_leaf, &mut share, out);
-        i += 1;
     }
 }
 

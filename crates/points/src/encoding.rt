@@ -17,8 +17,5 @@ pub fn put_point(out: &mut [u8], at: usize, x: [u8; 4])
     requires { at + 4 ≤ length out.old }
     ensures { out.new ≡ put_at out.old at x }
 {
-    out[at] = x[0];
-    out[at + 1] = x[1];
-    out[at + 2] = x[2];
-    out[at + 3] = x[3];
+    lists::put_at(out, at, &x);
 }

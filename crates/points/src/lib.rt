@@ -6,12 +6,13 @@ pub mod encoding;
 
 ghost use Rattle.std.specs.Prelude.{◌≡◌, ◌⊎◌, ◌+◌, ◌<◌, ◌≤◌, length};
 ghost use Rattle.lists.specs.Part.{put_at};
-ghost use Rattle.bytefield.specs.Tables.{field_tables};
 ghost use Rattle.tower.specs.Field.{Point, point, bytes_of};
 ghost use Rattle.packed.specs.Word.{bytes};
 ghost use Rattle.packed.specs.Table.{multiples};
 ghost use Rattle.exchange.specs.Reading.{◌⊞◌, ◌⊠◌};
 ghost use Rattle.points.specs.Multiples.{word_of, by_x, by_z, multiples_of, Lower, Read, Multiplies};
+
+use bytefield::FieldTables;
 
 // A product of points, and how many products were made up to it.
 #[derive(Clone, Copy)]
@@ -36,29 +37,22 @@ pub fn sum(a: [u8; 4], b: [u8; 4]) -> [u8; 4]
 fn wide(b: u8) -> u64
     ensures { (result ≡ b) × (result < 256) }
 {
-    b as u64
+    u64::from(b)
 }
 
 // Four bytes as the low bytes of a word.
 pub fn word_of(a: [u8; 4]) -> u64
     ensures { result ≡ word_of (point a) }
 {
-    wide(a[0]) ^ (wide(a[1]) * 256 ^ (wide(a[2]) * 65536 ^ wide(a[3]) * 16777216))
+    u64::from(u32::from_le_bytes(a))
 }
 
 // The point whose four bytes are the low bytes of a word.
 pub fn point_of(w: u64) -> [u8; 4]
     ensures { result ≡ bytes 4 w }
 {
-    let w1 = w / 256;
-    let w2 = w1 / 256;
-    let w3 = w2 / 256;
-    [
-        (w % 256) as u8,
-        (w1 % 256) as u8,
-        (w2 % 256) as u8,
-        (w3 % 256) as u8,
-    ]
+    let [b0, b1, b2, b3, ..] = w.to_le_bytes();
+    [b0, b1, b2, b3]
 }
 
 // What the table that starts at place at gives for the byte c.
@@ -95,9 +89,8 @@ pub fn counted_product(a: [u8; 4], table: &[u64], made: usize) -> Counted
     requires { (32 ≤ length table.now) × ((128 ≤ length table.now) ⊎ Lower a) × (made < 18446744073709551615) }
     ensures { ((b : Point) → Multiplies table.now a b → result.point ≡ bytes_of (point a ⊠ b)) × (result.made ≡ made + 1) }
 {
-    let point = point_of(by_table(a, table));
     Counted {
-        point,
+        point: point_of(by_table(a, table)),
         made: made + 1,
     }
 }
@@ -111,54 +104,44 @@ pub fn product_by(a: [u8; 4], table: &[u64], made: usize) -> Counted
 }
 
 // b·X.
-fn by_x(b: [u8; 4], tables: &[u8; 512]) -> [u8; 4]
-    requires { tables.now ≡ field_tables }
+fn by_x(b: [u8; 4], tables: &FieldTables) -> [u8; 4]
     ensures { result ≡ bytes_of (point b ⊠ by_x) }
 {
     [
-        bytefield::product(b[1], 0x20, tables),
+        tables.product(b[1], 0x20),
         bytefield::sum(b[0], b[1]),
-        bytefield::product(b[3], 0x20, tables),
+        tables.product(b[3], 0x20),
         bytefield::sum(b[2], b[3]),
     ]
 }
 
 // b·Z; 6c is the square of 20.
-fn by_z(b: [u8; 4], tables: &[u8; 512]) -> [u8; 4]
-    requires { tables.now ≡ field_tables }
+fn by_z(b: [u8; 4], tables: &FieldTables) -> [u8; 4]
     ensures { result ≡ bytes_of (point b ⊠ by_z) }
 {
     [
-        bytefield::product(b[3], 0x6c, tables),
-        bytefield::product(bytefield::sum(b[2], b[3]), 0x20, tables),
+        tables.product(b[3], 0x6c),
+        tables.product(bytefield::sum(b[2], b[3]), 0x20),
         bytefield::sum(b[0], b[2]),
         bytefield::sum(b[1], b[3]),
     ]
 }
 
-// t is written to out from place at on.
-fn put_table(out: &mut [u64], at: usize, t: &[u64])
-    requires { at + length t.now ≤ length out.old }
-    ensures { out.new ≡ put_at out.old at t.now }
-{
-    let mut i = 0;
-    while i < t.len() {
-        out[at + i] = t[i];
-        i += 1;
-    }
-}
-
-// The multiples of the point b by bytes are written to out from place at on.
+// The multiples of the point b by bytes are written to out from place at on, entry by entry: copy_from_slice compares addresses, which
+// tools/retarget refuses, and takes twice the instructions here.
 fn put_multiples(out: &mut [u64], at: usize, b: [u8; 4])
     requires { at + 32 ≤ length out.old }
     ensures { out.new ≡ put_at out.old at (multiples (word_of (point b))) }
 {
-    put_table(out, at, &packed::multiples(word_of(b)));
+    let table = packed::multiples(word_of(b));
+    for (i, entry) in table.iter().enumerate() {
+        out[at + i] = *entry;
+    }
 }
 
 // out becomes the multiples of a point: by the steps of the tower, X and Z, and by bytes.
-pub fn multiples_of(out: &mut [u64], b: [u8; 4], tables: &[u8; 512])
-    requires { (length out.old ≡ 128) × (tables.now ≡ field_tables) }
+pub fn multiples_of(out: &mut [u64], b: [u8; 4], tables: &FieldTables)
+    requires { length out.old ≡ 128 }
     ensures { out.new ≡ multiples_of (point b) }
 {
     let x = by_x(b, tables);
@@ -171,12 +154,10 @@ pub fn multiples_of(out: &mut [u64], b: [u8; 4], tables: &[u8; 512])
 }
 
 // The product of two points, by the multiples of the second.
-pub fn product(a: [u8; 4], b: [u8; 4], tables: &[u8; 512]) -> [u8; 4]
-    requires { tables.now ≡ field_tables }
+pub fn product(a: [u8; 4], b: [u8; 4], tables: &FieldTables) -> [u8; 4]
     ensures { result ≡ bytes_of (point a ⊠ point b) }
 {
     let mut table = [0u64; 128];
     multiples_of(&mut table, b, tables);
-    let made = product_by(a, &table, 0);
-    made.point
+    product_by(a, &table, 0).point
 }

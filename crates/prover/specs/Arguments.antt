@@ -2,20 +2,16 @@
 --
 -- Limited p runs                       parameters and run count are within their limits
 -- begin_tests p runs x_a matrix y l      the lengths of the slices that begin is lent, one test each; l has those but of x_A, matrix and y
--- begin_row p runs x_a matrix y l again  the checks of begin, where `again` says that salt and root are those of the exchange held
 -- lengths_of salt root work out         the lengths of these slices
 -- Sized p runs x_a matrix y l           the slices that begin is lent have the lengths that it asks
 -- Weighing p x_a matrix y x             matrix, y and x_A of the lengths that the parameters say, and 255 zeros to make x in
 use Rattle.std.specs.Prelude.{◌≡◌, Bool, ◌&&◌, not, List, [], ◌∷◌, ℕ, eqb, leb, length, replicate}
 use Rattle.lists.specs.Checks.{all_true}
-use Rattle.answers.specs.declared.Refusal.{Refusal}
-use Rattle.answers.specs.declared.Refusal.TheVariants.{Parameter, Length, Weight, Repeated}
 use Rattle.parameters.specs.declared.Parameters.{Parameters}
 use Rattle.parameters.specs.Limits.{within_limits, Within}
 use Rattle.layout.specs.Layout.{y_length, matrix_length}
 use Rattle.layout.specs.Runs.{runs_within, message1_length}
 use Rattle.layout.specs.Runs.Laws.{RunsWithin}
-use Rattle.relation.specs.Key.{weight_of, vector_of}
 use Rattle.layout.specs.Lent.{lent_tests, Lent}
 use Rattle.prover.specs.declared.arguments.Lengths.{Lengths}
 pub mod Laws
@@ -27,14 +23,6 @@ pub record Limited (p : Parameters) (runs : ℕ) : Type 0 where
 unfoldable pub begin_tests : Parameters → ℕ → ℕ → ℕ → ℕ → Lengths → List Bool
 begin_tests p runs x_a matrix y l =
     eqb x_a p.k ∷ eqb l.salt 32 ∷ eqb l.root 16 ∷ eqb l.out (message1_length runs) ∷ lent_tests p matrix y l.work
-
-unfoldable pub begin_row : Parameters → ℕ → List ℕ → List ℕ → List ℕ → Lengths → Bool → List (Bool × Refusal)
-begin_row p runs x_a matrix y l again =
-    (within_limits p && runs_within runs, Parameter)
-    ∷ (all_true (begin_tests p runs (length x_a) (length matrix) (length y) l), Length)
-    ∷ (leb (weight_of (vector_of matrix y x_a)) p.w, Weight)
-    ∷ (not again, Repeated)
-    ∷ []
 
 abbrev pub lengths_of : List ℕ → List ℕ → List ℕ → List ℕ → Lengths
 lengths_of salt root work out = record { salt = length salt; root = length root; work = length work; out = length out }

@@ -1,24 +1,23 @@
 -- The checks of the prover's calls: from the values of the tests to the answer, and from the answer to what the call gives.
 --
--- begin-told                             the checks of begin, of a session
--- points-row, leaf-row                   the checks of a call from the phase that counts and the values of its tests
--- done-is                                a call whose checks passed is carried out
+-- intact-then, intact-else               is a session intact, once its numbers are within their limits or not
+-- closed-test, begun-test, answered-test   what `==` says of the phase that counts
+-- begin-row, points-row, leaf-row        the checks of a call from the values of its tests
 -- refused-call, done-call                what a call gives where a check failed, and where none did
 -- points-ready, leaf-ready               what a session says in which a call but begin is due
--- points-limited, leaf-limited           so its parameters and its run count are within their limits
 -- begin-facts, points-facts, leaf-facts  what the checks that passed say
-use Rattle.std.specs.Prelude.{◌≡◌, refl, Bool, true, false, ◌&&◌, ◌||◌, not, cond, List, eqb, leb, length}
+use Rattle.std.specs.Prelude.{◌≡◌, refl, Bool, true, false, ◌&&◌, ◌||◌, not, cond, List, eqb, leb, length, Ok, Err, IsErrAnd, ⊤}
 use Rattle.std.proofs.Math.Path.{sym, ap}
 use Rattle.std.proofs.Common.{◌∙◌, true≢false}
-use Rattle.std.proofs.lemmas.Bool.{false≢true}
 use Prim.Native.Nat.{ℕ}
 use borrow.Author.Tests.{eqb-true, leb-true}
 use Rattle.lists.specs.Checks.{all_true}
 use Rattle.lists.specs.Checks.Laws.{all-at, and_left, and_right}
-use Rattle.answers.specs.declared.Answer.{Answer}
-use Rattle.answers.specs.declared.Answer.TheVariants.{Done, Refused}
-use Rattle.answers.specs.declared.Refusal.TheVariants.{Parameter, Length, Weight, Leaf, NotDue, Closed as ExchangeClosed, SamePoint}
-use Rattle.answers.specs.Checks.{check, checks}
+use denote.Enum.Bare.{sameb}
+use Rattle.answers.specs.Answer.{Answer}
+use Rattle.answers.specs.declared.Refusal.{Refusal}
+use Rattle.answers.specs.declared.Refusal.TheVariants.{Parameter, Length, Weight, Leaf, NotDue, Closed as ExchangeClosed, Repeated, SamePoint}
+use Rattle.answers.specs.Checks.{check}
 use Rattle.answers.specs.Checks.Laws.{check-true, check-rest}
 use Rattle.parameters.specs.declared.Parameters.{Parameters}
 use Rattle.parameters.specs.Limits.{within_limits}
@@ -30,62 +29,83 @@ use Rattle.exchange.specs.Values.{Key}
 use Rattle.runs.specs.Points.{distinct_points}
 use Rattle.layout.specs.Lent.{lent, Lent}
 use Rattle.layout.specs.Lent.Laws.{test-lent}
-use Rattle.prover.specs.Arguments.{Limited, begin_tests, begin_row, lengths_of}
+use Rattle.prover.specs.Arguments.{begin_tests, lengths_of}
 use Rattle.prover.specs.Arguments.Laws.{limited, begin-sized}
 use Rattle.prover_phase.specs.declared.Phase.{Phase}
+use Rattle.prover_phase.specs.contracts.Phase.{the_type}
+use Rattle.prover_phase.proofs.Laws.Same.{same-begun, same-answered, same-closed}
 use Rattle.prover_phase.specs.declared.Phase.TheVariants.{Fresh, Begun, Answered, Closed}
 use Rattle.calls.specs.Lengths.{key_lengths, begin_lengths, points_lengths, leaf_lengths, leaves_below}
 use Rattle.calls.proofs.Lengths.Laws.{leaves-below}
 use Rattle.calls.specs.Prover.{Prover, Outcome, settle, is_fresh, is_begun, is_answered, is_closed, held_x, intact, standing, closed, points_due, leaf_due, repeated, begin_checks, points_checks, leaf_checks}
-use Rattle.prover.specs.Facts.{is_done, outcome_of, Ready, Begins, Answering, Opening}
+use Rattle.prover.specs.Facts.{outcome_of, Ready, Begins, Answering, Opening}
+
+-- ---- the session
+
+module _ (s : Prover) where
+  abbrev limits : Bool
+  limits = within_limits s.parameters && runs_within s.runs
+
+  pub intact-then : limits ≡ true → intact s ≡ leb (weight_of (held_x s)) s.parameters.w
+  unfolding intact
+  intact-then e = rw (and_left (within_limits s.parameters) (runs_within s.runs) e, and_right (within_limits s.parameters) (runs_within s.runs) e)
+
+  pub intact-else : limits ≡ false → intact s ≡ false
+  unfolding intact
+  intact-else e = go (within_limits s.parameters) e
+    where
+      go : (a : Bool) → (a && runs_within s.runs) ≡ false → (a && (runs_within s.runs && leb (weight_of (held_x s)) s.parameters.w)) ≡ false
+      go true q = rw q
+      go false q = refl
 
 -- ---- the checks as rows
 
-module _ (hash : List ℕ → ℕ → List ℕ) (s : Prover) (work out : List ℕ) where
-  module _ (p : Parameters) (runs : ℕ) (x_a salt root : List ℕ) (key : Key) where
-    pub begin-told : (a : Answer) (again : Bool) → a ≡ checks (begin_row p runs x_a key.matrix key.y (lengths_of salt root work out) again)
-        → again ≡ repeated s salt root → a ≡ begin_checks hash s p runs x_a salt root key work out
-    unfolding begin_row begin_tests begin_checks
-    begin-told a again e f = e ∙ rw f
+module _ (s : Prover) (f : Phase) (told : f ≡ standing s) where
+  pub closed-test : (b : Bool) → b ≡ not (sameb the_type f Closed) → b ≡ not (closed s)
+  unfolding closed
+  closed-test b e = e ∙ ap not (same-closed f ∙ ap is_closed told)
 
-  module _ (counted : Phase) (told : counted ≡ standing s) where
-    ended_is : (b : Bool) → is_closed counted ≡ b → closed s ≡ b
-    unfolding closed
-    ended_is b e = ap is_closed (sym told) ∙ e
+  pub begun-test : (b : Bool) → b ≡ sameb the_type f Begun → b ≡ points_due s
+  unfolding points_due
+  begun-test b e = e ∙ same-begun f ∙ ap is_begun told
 
-    points-is : (b : Bool) → is_begun counted ≡ b → points_due s ≡ b
-    unfolding points_due
-    points-is b e = ap is_begun (sym told) ∙ e
+  pub answered-test : (b : Bool) → b ≡ sameb the_type f Answered → b ≡ leaf_due s
+  unfolding leaf_due
+  answered-test b e = e ∙ same-answered f ∙ ap is_answered told
 
-    leaf-is : (b : Bool) → is_answered counted ≡ b → leaf_due s ≡ b
-    unfolding leaf_due
-    leaf-is b e = ap is_answered (sym told) ∙ e
+module _ (hash : List ℕ → ℕ → List ℕ) (s : Prover) (work out : List ℕ) (key : Key) where
+  pub begin-row : (p : Parameters) (runs : ℕ) (x_a salt root : List ℕ) (limits lengths light same : Bool)
+      → limits ≡ (within_limits p && runs_within runs)
+      → lengths ≡ all_true (begin_tests p runs (length x_a) (length key.matrix) (length key.y) (lengths_of salt root work out))
+      → light ≡ leb (weight_of (vector_of key.matrix key.y x_a)) p.w → same ≡ repeated s salt root
+      → check limits Parameter (check lengths Length (check light Weight (check (not same) Repeated (Ok tt)))) ≡ begin_checks hash s p runs x_a salt root key work out
+  unfolding begin_checks begin_tests
+  begin-row p runs x_a salt root limits lengths light same e f g h = rw (e, f, g, h)
 
-    pub points-row : (message2 : List ℕ) (key : Key) (ended due lengths distinct : Bool) → is_closed counted ≡ ended → is_begun counted ≡ due
-        → all_true (points_lengths s.parameters s.runs message2 key work out) ≡ lengths → distinct_points s.parameters s.runs message2 ≡ distinct
-        → check (not ended) ExchangeClosed (check due NotDue (check lengths Length (check distinct SamePoint Done))) ≡ points_checks hash s message2 key work out
-    unfolding points_checks
-    points-row message2 key ended due lengths distinct e f g h = rw (← ended_is ended e, ← points-is due f, ← g, ← h)
+  pub points-row : (message2 : List ℕ) (here due lengths distinct : Bool) → here ≡ not (closed s) → due ≡ points_due s
+      → lengths ≡ all_true (points_lengths s.parameters s.runs message2 key work out) → distinct ≡ distinct_points s.parameters s.runs message2
+      → check here ExchangeClosed (check due NotDue (check lengths Length (check distinct SamePoint (Ok tt)))) ≡ points_checks hash s message2 key work out
+  unfolding points_checks
+  points-row message2 here due lengths distinct e f g h = rw (e, f, g, h)
 
-    pub leaf-row : (is : List ℕ) (key : Key) (ended due lengths below : Bool) → is_closed counted ≡ ended → is_answered counted ≡ due
-        → all_true (leaf_lengths s.parameters s.runs is key work out) ≡ lengths → leaves_below s.parameters is ≡ below
-        → check (not ended) ExchangeClosed (check due NotDue (check lengths Length (check below Leaf Done))) ≡ leaf_checks hash s is key work out
-    unfolding leaf_checks
-    leaf-row is key ended due lengths below e f g h = rw (← ended_is ended e, ← leaf-is due f, ← g, ← h)
+  pub leaf-row : (is : List ℕ) (here due lengths below : Bool) → here ≡ not (closed s) → due ≡ leaf_due s
+      → lengths ≡ all_true (leaf_lengths s.parameters s.runs is key work out) → below ≡ leaves_below s.parameters is
+      → check here ExchangeClosed (check due NotDue (check lengths Length (check below Leaf (Ok tt)))) ≡ leaf_checks hash s is key work out
+  unfolding leaf_checks
+  leaf-row is here due lengths below e f g h = rw (e, f, g, h)
 
--- ---- refused, or carried out
+-- ---- refused, or carried out; a is what the checks answered, x what the call returns
 
-pub done-is : (a : Answer) → is_done a ≡ true → a ≡ Done
-done-is Done e = refl
-done-is (Refused r) e = absurd (false≢true e)
+pub refused-call : (a b : Answer) (s : Prover) (out work : List ℕ) (done : Outcome) (x : Answer) {r : Refusal} → a ≡ b → a ≡ Err r → IsErrAnd x (λ y. y ≡ r)
+    → outcome_of x s out work ≡ settle b s out work done
+refused-call a b s out work done x {r} e f g = go x g
+  where
+    go : (x : Answer) → IsErrAnd x (λ y. y ≡ r) → outcome_of x s out work ≡ settle b s out work done
+    go (Ok _) h = absurd h
+    go (Err y) h = rw (h, sym e ∙ f)
 
-pub refused-call : (a b : Answer) (s : Prover) (out work : List ℕ) (done : Outcome) → a ≡ b → is_done a ≡ false
-    → outcome_of a s out work ≡ settle b s out work done
-refused-call Done b s out work done e h = absurd (true≢false h)
-refused-call (Refused r) b s out work done e h = rw (← e)
-
-pub done-call : (a b : Answer) (s : Prover) (out work : List ℕ) (done : Outcome) → a ≡ b → is_done a ≡ true → done ≡ settle b s out work done
-done-call a b s out work done e h = rw (← e, done-is a h)
+pub done-call : (a b : Answer) (s : Prover) (out work : List ℕ) (done : Outcome) {u : ⊤} → a ≡ b → a ≡ Ok u → done ≡ settle b s out work done
+done-call a b s out work done e f = rw (sym e ∙ f)
 
 -- ---- what the checks that passed say
 
@@ -119,15 +139,6 @@ pub leaf-ready : (s : Prover) → leaf_due s ≡ true → Ready s
 unfolding leaf_due standing
 leaf-ready s e = intact-ready s (due-intact is_answered refl refl s.phase (intact s) e)
 
--- so the code may ask for the lengths
-pub points-limited : (s : Prover) (counted : Phase) → counted ≡ standing s → is_begun counted ≡ true → Limited s.parameters s.runs
-unfolding points_due
-points-limited s counted told e = (points-ready s (ap is_begun (sym told) ∙ e)).limits
-
-pub leaf-limited : (s : Prover) (counted : Phase) → counted ≡ standing s → is_answered counted ≡ true → Limited s.parameters s.runs
-unfolding leaf_due
-leaf-limited s counted told e = (leaf-ready s (ap is_answered (sym told) ∙ e)).limits
-
 lent-facts : (p : Parameters) (key : Key) (work : List ℕ) → all_true (key_lengths p key work) ≡ true
     → Lent p (length key.matrix) (length key.y) (length work)
 unfolding lent
@@ -135,11 +146,11 @@ lent-facts p key work e = test-lent p (length key.matrix) (length key.y) (length
 
 module _ (hash : List ℕ → ℕ → List ℕ) (s : Prover) (work out : List ℕ) (key : Key) where
   module _ (p : Parameters) (runs : ℕ) (x_a salt root : List ℕ) where
-    pub begin-facts : (a : Answer) → a ≡ begin_checks hash s p runs x_a salt root key work out → is_done a ≡ true
+    pub begin-facts : (a : Answer) {u : ⊤} → a ≡ begin_checks hash s p runs x_a salt root key work out → a ≡ Ok u
         → Begins p runs x_a salt root key.matrix key.y work out
     unfolding begin_checks begin_tests
     begin-facts a f h =
-        let e = sym f ∙ done-is a h in
+        let e = sym f ∙ h in
         let tests = begin_lengths p runs x_a salt root key work out in
         let late = check-rest (within_limits p && runs_within runs) Parameter _ e in
         record {
@@ -150,11 +161,11 @@ module _ (hash : List ℕ → ℕ → List ℕ) (s : Prover) (work out : List �
               (check-true (leb (weight_of (vector_of key.matrix key.y x_a)) p.w) Weight _ (check-rest (all_true tests) Length _ late));
         }
 
-  pub points-facts : (message2 : List ℕ) (a : Answer) → a ≡ points_checks hash s message2 key work out → is_done a ≡ true
+  pub points-facts : (message2 : List ℕ) (a : Answer) {u : ⊤} → a ≡ points_checks hash s message2 key work out → a ≡ Ok u
       → Answering s message2 key.matrix key.y work out
   unfolding points_checks
   points-facts message2 a f h =
-      let e = sym f ∙ done-is a h in
+      let e = sym f ∙ h in
       let n : ℕ = messages2_length s.parameters s.runs in
       let k : ℕ = messages3_length s.runs in
       let tests = points_lengths s.parameters s.runs message2 key work out in
@@ -167,11 +178,11 @@ module _ (hash : List ℕ → ℕ → List ℕ) (s : Prover) (work out : List �
         lent = lent-facts s.parameters key work (and_right (eqb (length out) k) _ (and_right (eqb (length message2) n) _ sized));
       }
 
-  pub leaf-facts : (is : List ℕ) (a : Answer) → a ≡ leaf_checks hash s is key work out → is_done a ≡ true
+  pub leaf-facts : (is : List ℕ) (a : Answer) {u : ⊤} → a ≡ leaf_checks hash s is key work out → a ≡ Ok u
       → Opening s is key.matrix key.y work out
   unfolding leaf_checks
   leaf-facts is a f h =
-      let e = sym f ∙ done-is a h in
+      let e = sym f ∙ h in
       let n : ℕ = messages5_length s.parameters is in
       let tests = leaf_lengths s.parameters s.runs is key work out in
       let due = check-rest (not (closed s)) ExchangeClosed _ e in
@@ -182,7 +193,7 @@ module _ (hash : List ℕ → ℕ → List ℕ) (s : Prover) (work out : List �
         leaves-are = eqb-true (length is) s.runs (all-at tests sized 0);
         below =
             leaves-below s.parameters is
-            (check-true (leaves_below s.parameters is) Leaf Done (check-rest (all_true tests) Length _ late));
+            (check-true (leaves_below s.parameters is) Leaf (Ok tt) (check-rest (all_true tests) Length _ late));
         out-is = eqb-true (length out) n (all-at tests sized 1);
         lent = lent-facts s.parameters key work (and_right (eqb (length out) n) _ (and_right (eqb (length is) s.runs) _ sized));
       }

@@ -1,15 +1,13 @@
 -- What the functions that check and carry out a call ask, and what the checks that passed say.
 --
--- is_done a                          the checks passed
 -- outcome_of a s out work            what a call gives
 -- Ready s                           parameters and run count that a session holds are within their limits, and its x is not too heavy
 -- Begins p runs x_a salt root matrix y work out   what begin's checks say
 -- Starting p runs x salt root work out   the same of an x that stands at the front of 255 bytes
 -- Answering s message2 matrix y work out  what the checks of points say
 -- Opening s is matrix y work out    what the checks of leaf say
-use Rattle.std.specs.Prelude.{◌≡◌, Bool, true, false, List, ℕ, ◌≤◌, ◌<◌, length, take, get_or}
-use Rattle.answers.specs.declared.Answer.{Answer}
-use Rattle.answers.specs.declared.Answer.TheVariants.{Done, Refused}
+use Rattle.std.specs.Prelude.{◌≡◌, List, ℕ, ◌≤◌, ◌<◌, length, take, get_or}
+use Rattle.answers.specs.Answer.{Answer}
 use Rattle.answers.specs.Number.{answer_number}
 use Rattle.parameters.specs.declared.Parameters.{Parameters}
 use Rattle.relation.specs.Key.{vector_of, weight_of}
@@ -18,11 +16,6 @@ use Rattle.layout.specs.Runs.{message1_length, messages2_length, messages3_lengt
 use Rattle.layout.specs.Lent.{Lent}
 use Rattle.prover.specs.Arguments.{Limited, lengths_of, Sized}
 use Rattle.calls.specs.Prover.{Prover, Outcome, held_x}
-
--- did the checks pass?
-abbrev pub is_done : Answer → Bool
-is_done Done = true
-is_done (Refused r) = false
 
 abbrev pub outcome_of : Answer → Prover → List ℕ → List ℕ → Outcome
 outcome_of a s out work = record { answer = answer_number a; prover = s; out = out; work = work }

@@ -4,7 +4,8 @@
 -- next_answered s message2    points: message 2 is held, at the front of its place
 -- next_closed s               leaf: 'Closing changes nothing else that a session holds'
 -- begun_with                  begin carried out, with x at the front of 255 bytes
-use Rattle.std.specs.Prelude.{List, ℕ, replicate, take}
+-- begun_held, answered_held   the session whose fields were changed in place
+use Rattle.std.specs.Prelude.{◌≡◌, List, ℕ, replicate, take}
 use Rattle.lists.specs.Part.{put_at}
 use Rattle.lists.specs.Zeroed.{zeroed}
 use Rattle.shake256.specs.Fips.{SHAKE256}
@@ -49,3 +50,11 @@ begun_with p runs x salt root work = record {
   out = message1 SHAKE256 p runs (take p.m x) salt root;
   work = zeroed (work_length p) work;
 }
+
+pub begun_held : (p : Parameters) (runs : ℕ) (x : List ℕ) {salt root message2 salt' root' : List ℕ} → salt' ≡ salt → root' ≡ root → message2 ≡ replicate most_messages2 0
+    → record { phase = Begun; parameters = p; runs = runs; x = x; salt = salt'; root = root'; message2 = message2 } ≡ next_begun Begun p runs x salt root
+begun_held p runs x e f g = rw (e, f, g)
+
+pub answered_held : (s : Prover) (m : List ℕ) {message2 : List ℕ} → message2 ≡ put_at s.message2 0 m
+    → record { phase = Answered; parameters = s.parameters; runs = s.runs; x = s.x; salt = s.salt; root = s.root; message2 = message2 } ≡ next_answered s m
+answered_held s m e = rw e

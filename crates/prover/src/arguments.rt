@@ -1,25 +1,12 @@
 // What the prover's calls ask of parameters, run count and the lengths of what they are lent.
-ghost use Rattle.std.specs.Prelude.{◌≡◌, ◌&&◌, ◌∷◌, eqb, length};
+ghost use Rattle.std.specs.Prelude.{◌≡◌, ◌∷◌, eqb, length};
 ghost use Rattle.lists.specs.Checks.{all_true};
-ghost use Rattle.parameters.specs.Limits.{within_limits};
-ghost use Rattle.layout.specs.Runs.{runs_within, messages2_length, messages3_length, messages5_length};
+ghost use Rattle.layout.specs.Runs.{messages2_length, messages3_length, messages5_length};
 ghost use Rattle.layout.specs.Lent.{lent_tests};
 ghost use Rattle.prover.specs.Arguments.{begin_tests, Limited};
 
-use layout::runs::{
-    message1_length, messages2_length, messages3_length, messages5_length, runs_within,
-};
+use layout::runs::{message1_length, messages2_length, messages3_length, messages5_length};
 use parameters::Parameters;
-
-// Are the parameters and the run count within their limits?
-pub fn within(p: Parameters, runs: usize) -> bool
-    ensures { result ≡ (within_limits p && runs_within runs) }
-{
-    if !parameters::within_limits(p) {
-        return false;
-    }
-    runs_within(runs)
-}
 
 // The lengths of what begin is lent besides x_A, matrix and y.
 #[derive(Clone, Copy)]

@@ -1,76 +1,37 @@
-// What a session holds, and what the checks of a call answer. A contract over a phase, parameters, run count and x says the same of every
-// session that holds these.
-ghost use Rattle.std.specs.Prelude.{◌≡◌, List, ℕ};
-ghost use Rattle.prover_phase.specs.declared.Phase.{Phase};
+// Which phase of a session counts.
+ghost use Rattle.std.specs.Prelude.{◌≡◌};
+ghost use Rattle.prover_phase.specs.Phases.{is_fresh};
 ghost use Rattle.calls.specs.Prover as spec;
-ghost use Rattle.prover.specs.Facts.{is_done};
-ghost use Rattle.prover.specs.Held.{HeldVector, session, held};
+ghost use Rattle.prover.specs.Held.{held};
 
 use crate::Prover;
-use answers::Answer;
-use layout::MOST_MESSAGES2;
-use layout::runs::runs_within;
-use parameters::Parameters;
-use prover_phase::{Phase, is_fresh};
+use layout::runs::within;
+use prover_phase::Phase;
 
-// The session that holds these.
-pub fn holding(
-    phase: Phase,
-    p: Parameters,
-    runs: usize,
-    x: [u8; 255],
-    salt: [u8; 32],
-    root: [u8; 16],
-    message2: [u8; MOST_MESSAGES2],
-) -> Prover
-    ensures { held result ≡ session phase p runs x salt root message2 }
-{
-    Prover {
-        phase,
-        parameters: p,
-        runs,
-        x,
-        salt,
-        root,
-        message2,
+impl Prover {
+    // Was begin never carried out?
+    pub fn is_fresh(&self) -> bool
+        ensures { result ≡ is_fresh self.now.phase }
+    {
+        matches!(self.phase, Phase::Fresh)
     }
-}
 
-// Did the checks pass?
-pub fn is_done(a: Answer) -> bool
-    ensures { result ≡ is_done a }
-{
-    match a {
-        Answer::Done => true,
-        Answer::Refused(_) => false,
+    // Are parameters and run count within their limits, and has x at most w nonzero entries, as after every begin?
+    fn intact(&self) -> bool
+        ensures { result ≡ spec.intact (held self.now) }
+    {
+        let p = self.parameters;
+        within(p, self.runs) && key::within_weight(p.w, &self.x[..p.m])
     }
-}
 
-// Are parameters and run count within their limits, and has x at most w nonzero entries, as after every begin?
-fn intact(p: Parameters, runs: usize, x: &[u8]) -> bool
-    requires { HeldVector x.now }
-    ensures { (f : Phase) (salt root message2 : List ℕ) → result ≡ spec.intact (session f p runs x.now salt root message2) }
-{
-    if !parameters::within_limits(p) {
-        return false;
+    // The phase that counts: a session that is not fresh and not intact, so one that no call made, counts as closed.
+    pub fn standing(&self) -> Phase
+        ensures { result ≡ spec.standing (held self.now) }
+    {
+        if self.is_fresh() || self.intact() {
+            self.phase
+        } else {
+            Phase::Closed
+        }
     }
-    if !runs_within(runs) {
-        return false;
-    }
-    let m = p.m;
-    key::within_weight(p.w, &x[..m])
-}
-
-// The phase that counts: a session that is not fresh and not intact, so one that no call made, counts as closed.
-pub fn standing(phase: Phase, p: Parameters, runs: usize, x: &[u8]) -> Phase
-    requires { HeldVector x.now }
-    ensures { (salt root message2 : List ℕ) → result ≡ spec.standing (session phase p runs x.now salt root message2) }
-{
-    if is_fresh(phase) {
-        return phase;
-    }
-    if intact(p, runs, x) {
-        return phase;
-    }
-    Phase::Closed
 }

@@ -4,6 +4,7 @@ ghost use Rattle.lists.specs.Part.{put_at};
 ghost use Rattle.relation.specs.Key.{vector_of, weight_of};
 ghost use Rattle.prover.specs.Arguments.{Weighing};
 
+use bytefield::FieldTables;
 use parameters::Parameters;
 
 // x becomes the key's vector; has it at most w nonzero entries?
@@ -12,7 +13,7 @@ fn light_vector(w: usize, x_a: &[u8], matrix: &[u8], y: &[u8], x: &mut [u8]) -> 
     ensures { (x.new ≡ vector_of matrix.now y.now x_a.now)
         × (result ≡ leb (weight_of (vector_of matrix.now y.now x_a.now)) w) }
 {
-    let tables = bytefield::field_tables();
+    let tables = FieldTables::new();
     key::vector(x_a, matrix, y, x, &tables);
     key::within_weight(w, x)
 }

@@ -1,3 +1,4 @@
 -- The laws about the definitions of specs/.
 pub mod Distance
 pub mod Phases
+pub mod Same

@@ -16,30 +16,28 @@ pub struct Reader<'a> {
     pub at: usize,
 }
 
-// A reader at the start of a message.
-pub fn start<'a>(message: &'a [u8]) -> Reader<'a>
-    ensures { (result.message ≡ message.entry) × (result.at ≡ 0) }
-{
-    Reader { message, at: 0 }
-}
+impl<'a> Reader<'a> {
+    // A reader at the start of a message.
+    pub fn start(message: &'a [u8]) -> Self
+        ensures { (result.message ≡ message.entry) × (result.at ≡ 0) }
+    {
+        Reader { message, at: 0 }
+    }
 
-// How many bytes are left.
-pub fn left<'a>(r: Reader<'a>) -> usize
-    requires { r.at ≤ length r.message.now }
-    ensures { result ≡ length r.entry.message.now - r.entry.at }
-{
-    r.message.len() - r.at
-}
+    // How many bytes are left.
+    pub fn left(&self) -> usize
+        requires { self.now.at ≤ length self.now.message.now }
+        ensures { result ≡ length self.now.message.now - self.now.at }
+    {
+        self.message.len() - self.at
+    }
 
-// The front of out becomes the next bytes, as many as out has room for and are left; the reader then stands behind them.
-pub fn take<'a>(r: Reader<'a>, out: &mut [u8]) -> Reader<'a>
-    requires { r.at ≤ length r.message.now }
-    ensures { (result.message ≡ r.entry.message) × ((result.at ≡ behind r.entry.message.now r.entry.at out.old)
-        × (out.new ≡ taken r.entry.message.now r.entry.at out.old)) }
-{
-    let next = copy_part(r.message, r.at, out);
-    Reader {
-        message: r.message,
-        at: next,
+    // The front of out becomes the next bytes, as many as out has room for and are left; the reader then stands behind them.
+    pub fn take(&mut self, out: &mut [u8])
+        requires { self.old.at ≤ length self.old.message.now }
+        ensures { (self.new.message ≡ self.old.message) × ((self.new.at ≡ behind self.old.message.now self.old.at out.old)
+            × (out.new ≡ taken self.old.message.now self.old.at out.old)) }
+    {
+        self.at = copy_part(self.message, self.at, out);
     }
 }

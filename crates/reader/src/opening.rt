@@ -5,7 +5,7 @@ ghost use Rattle.parameters.specs.Limits.{Within};
 ghost use Rattle.reader.specs.Message5.{aux_place, siblings_in, commitment_in, values_in, aux_in};
 ghost use Rattle.reader.specs.Opening.{Asked, Parts};
 
-use crate::{left, start, take};
+use crate::Reader;
 use layout::{siblings_length, values_length};
 use parameters::Parameters;
 
@@ -27,11 +27,11 @@ fn read_parts(
     ensures { Parts message.now siblings.old commitment.old values.old result siblings.new
         commitment.new values.new }
 {
-    let reader = start(message);
-    let behind_siblings = take(reader, siblings);
-    let behind_commitment = take(behind_siblings, commitment);
-    let behind_values = take(behind_commitment, values);
-    left(behind_values)
+    let mut reader = Reader::start(message);
+    reader.take(siblings);
+    reader.take(commitment);
+    reader.take(values);
+    reader.left()
 }
 
 // Reads message 5 into the fronts of siblings and values and into commitment; the answer is how long aux is, which is the rest

@@ -5,13 +5,12 @@
 -- message3_at t e      run e's part of message 3
 -- message5_at p t e    run e's part of message 5, which is as long as its leaf gives
 -- exchange_at p t e    run e
--- lowest f n          the first refusal of f 0 to f (n−1), or `Done`
+-- lowest f n          the first refusal of f 0 to f (n−1), or `Ok`
 -- verdict             'An exchange is accepted when all runs are, and otherwise gives the number of its lowest refused run'
 -- Accepted            all runs are accepted
-use Rattle.std.specs.Prelude.{List, ◌++◌, ℕ, zero, suc, ◌*◌, ◌<◌, take}
+use Rattle.std.specs.Prelude.{List, ◌++◌, ℕ, zero, suc, ◌*◌, ◌<◌, take, Ok, Err}
 use Rattle.lists.specs.Part.{part}
-use Rattle.answers.specs.declared.Answer.{Answer}
-use Rattle.answers.specs.declared.Answer.TheVariants.{Done, Refused}
+use Rattle.answers.specs.Answer.{Answer}
 use Rattle.parameters.specs.declared.Parameters.{Parameters}
 use Rattle.layout.specs.Layout.{message5_length}
 use Rattle.layout.specs.Runs.{digest_place, message5_place}
@@ -46,12 +45,12 @@ exchange_at p t e =
     (message5_at p t.leaves t.message5 e)
 
 unfoldable pub lowest : (ℕ → Answer) → ℕ → Answer
-lowest f zero = Done
+lowest f zero = Ok tt
 lowest f (suc n) = or_next (lowest f n)
   where
     or_next : Answer → Answer
-    or_next Done = f n
-    or_next (Refused r) = Refused r
+    or_next (Ok _) = f n
+    or_next (Err r) = Err r
 
 module _ (hash : List ℕ → ℕ → List ℕ) (p : Parameters) (n : ℕ) (t : Transcript) (key : Key) where
   unfoldable pub verdict : Answer

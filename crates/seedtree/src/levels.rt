@@ -10,7 +10,7 @@ ghost use Rattle.seedtree.specs.Levels.{grown};
 ghost use Rattle.seedtree.specs.Shapes.{Expand, Grow, Below, Subtree};
 
 use crate::nodes::node_bytes;
-use crate::seed_of;
+use layout::arrays::array;
 use lists::put_at;
 use shake256::Sponge;
 use strings::hash;
@@ -31,7 +31,7 @@ pub fn expand(nodes: Sponge, v: usize, seeds: &mut [u8], from: usize, to: usize)
     ensures { (prefix : List ℕ) → nodes ≡ begun 1 prefix → seeds.new
         ≡ put_at seeds.old to (tree.children SHAKE256 prefix v (part seeds.old from 16)) }
 {
-    let seed = seed_of(&seeds[from..from + 16]);
+    let seed = array::<16>(&seeds[from..from + 16]);
     node_hash(nodes, v, &seed, &mut seeds[to..to + 32]);
 }
 
@@ -41,9 +41,7 @@ fn grow(nodes: Sponge, c: usize, v: usize, seeds: &mut [u8])
     ensures { (prefix : List ℕ) → nodes ≡ begun 1 prefix → seeds.new
         ≡ put_at seeds.old 0 (grown SHAKE256 prefix c v seeds.old) }
 {
-    let mut j = c;
-    while 0 < j {
-        j -= 1;
+    for j in (0..c).rev() {
         expand(nodes, v + j, seeds, 16 * j, 32 * j);
     }
 }
@@ -54,14 +52,9 @@ fn descend(nodes: Sponge, l: usize, v: usize, seeds: &mut [u8])
     ensures { (prefix : List ℕ) → nodes ≡ begun 1 prefix → seeds.new
         ≡ laid (tree.leaf_seeds SHAKE256 prefix l v (take 16 seeds.old)) }
 {
-    let mut i = 0;
-    let mut count = 1;
-    let mut first = v;
-    while i < l {
-        grow(nodes, count, first, seeds);
-        count = 2 * count;
-        first = 2 * first;
-        i += 1;
+    for i in 0..l {
+        let count = 1 << i;
+        grow(nodes, count, count * v, seeds);
     }
 }
 

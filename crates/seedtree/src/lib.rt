@@ -15,23 +15,13 @@ ghost use Rattle.seedtree.specs.Shapes.{Tree, Siblings, Opened, Beside};
 
 use crate::levels::{below, expand};
 use crate::nodes::{Way, root_way};
+use layout::arrays::array;
 use lists::put_at;
 use shake256::Sponge;
 use strings::begin;
 
 // The layer byte of the strings that give a node's children.
 const NODES: u8 = 1;
-
-// The sixteen bytes of a seed.
-pub fn seed_of(s: &[u8]) -> [u8; 16]
-    requires { length s.now ≡ 16 }
-    ensures { result ≡ s.now }
-{
-    [
-        s[0], s[1], s[2], s[3], s[4], s[5], s[6], s[7], s[8], s[9], s[10], s[11], s[12], s[13],
-        s[14], s[15],
-    ]
-}
 
 // Fills `seeds` with the seeds of the leaves of a tree of d levels, from the root's seed.
 pub fn leaf_seeds(prefix: &[u8], d: usize, root: &[u8], seeds: &mut [u8])
@@ -54,17 +44,14 @@ pub fn sibling_seeds(prefix: &[u8], d: usize, root: &[u8], leaf: usize, out: &mu
     let mut pair = [0u8; 32];
     put_at(&mut pair, 0, root);
     let mut own = 0;
-    let mut left = d;
-    while 0 < left {
+    for k in 0..d {
         expand(nodes, way.node, &mut pair, own, 0);
         own = 16 * way.side();
         let other = 16 - own;
-        put_at(out, 16 * (d - left), &pair[other..other + 16]);
-        let next = way.next();
-        way = next;
-        left -= 1;
+        put_at(out, 16 * k, &pair[other..other + 16]);
+        way = way.next();
     }
-    seed_of(&pair[own..own + 16])
+    array(&pair[own..own + 16])
 }
 
 // The seeds of the leaves below the sibling of the way's next node, l levels down, go beside the way, whose leaves start
@@ -96,8 +83,7 @@ pub fn opened_seeds(prefix: &[u8], d: usize, leaf: usize, siblings: &[u8], seeds
     let nodes = begin(NODES, prefix);
     let mut way = root_way(d, leaf);
     let mut at = 0;
-    let mut k = 0;
-    while k < d {
+    for k in 0..d {
         let first = 16 * k;
         open_sibling(
             nodes,
@@ -108,10 +94,7 @@ pub fn opened_seeds(prefix: &[u8], d: usize, leaf: usize, siblings: &[u8], seeds
             at,
         );
         at += 16 * way.skipped();
-        let next = way.next();
-        way = next;
-        k += 1;
+        way = way.next();
     }
-    let blank = [0u8; 16];
-    put_at(seeds, at, &blank);
+    put_at(seeds, at, &[0; 16]);
 }

@@ -8,7 +8,7 @@ pub fn node_bytes(v: usize) -> [u8; 2]
     requires { v < 65536 }
     ensures { result ≡ node_bytes v }
 {
-    [(v % 256) as u8, (v / 256) as u8]
+    (v as u16).to_le_bytes()
 }
 
 // A place on the way to a leaf: a node, how many leaves are below it, and which of these the way leads to.
@@ -23,10 +23,7 @@ pub struct Way {
 fn second(leaf: usize, half: usize, x: usize) -> usize
     ensures { result ≡ spec.second leaf half x }
 {
-    if leaf < half {
-        return 0;
-    }
-    x
+    if leaf < half { 0 } else { x }
 }
 
 // The root of a tree of d levels, on the way to a leaf.
@@ -36,7 +33,7 @@ pub fn root_way(d: usize, leaf: usize) -> Way
 {
     Way {
         node: 1,
-        leaf: leaf,
+        leaf,
         size: 1 << d,
     }
 }

@@ -1,17 +1,20 @@
--- Bytes in a lane: bytes of one lane, xored in one by one, are one xor of their word; a whole lane is read or written at once.
-use mathlib.Core.Path.{◌≡◌, refl, sym, ap, ◌∙◌, subst}
+-- Bytes in a lane: bytes of one lane, xored in one by one, are one xor of their word, which is the number that they write; a whole
+-- lane is taken at once.
+use mathlib.Core.Path.{refl, sym, ap, ◌≡◌, ◌∙◌}
 use mathlib.Core.Logic.{⊎_elim}
-use mathlib.Core.List.{List, [], ◌∷◌, ◌++◌}
+use mathlib.Core.List.{List, [], ◌++◌, ◌∷◌, append_assoc}
 use Prim.Native.Nat.{ℕ, zero, suc, ◌+◌, ◌-◌, ◌*◌, ◌/◌, ◌%◌, ◌^◌, ◌≤◌, ◌<◌}
-use native.Mathlib.Nat.{lt_of_lt_of_le, add-zero, add-suc, add_assoc, zero-mul, mul-one, mul_assoc, eq-zero-or-pos}
+use native.Mathlib.Nat.{add-zero, zero-mul, mul-one, mul_assoc, eq-zero-or-pos}
 use native.Mathlib.Numerals.{add-one}
 use native.Mathlib.Omega.{arith}
-use lib.Bits.{bit_xor, bit_or, xor_zero_r, xor_comm, xor_lt, xor_shifted, or_shifted_r}
+use lib.Bits.{bit_xor, xor_zero_r, xor_comm, xor_shifted}
 use lib.ListN.{length, take, drop, get_or, set}
-use lib.Pow.{pow-add, pow_mono, shl_lt}
-use lib.Seq.{sets, drop-cons, get_or-set_same, set-set, set-get_or, set_out}
-use Rattle.fips.specs.Bytes.{word, byte_at, byte_of, bytes_at}
-use Rattle.shake256.specs.Bytes.{bytes_of, xor_at, xor_bytes}
+use lib.Pow.{pow-add}
+use lib.Seq.{drop-cons, get_or-set_same, set-set, set-get_or, set_out, take_at, drop_at, drop-drop, length-take-le}
+use Rattle.std.proofs.lemmas.List.{set_split, take_more}
+use Rattle.std.specs.Int.{w64, from_le_bytes}
+use Rattle.fips.specs.Bytes.{word}
+use Rattle.shake256.specs.Bytes.{xor_at, xor_bytes}
 use Rattle.shake256.proofs.Xor.{xor_assoc, xor-shl}
 
 -- ---- the bytes vs, the first at byte j of the lane, xored into the lane x one by one
@@ -74,40 +77,45 @@ xor_bytes-append a i (v ∷ x) y =
 pub part-cons : (s : List ℕ) (i n : ℕ) → i < length s → take (suc n) (drop i s) ≡ get_or s i 0 ∷ take n (drop (i + 1) s)
 part-cons s i n h = ap (take (suc n)) (drop-cons s i 0 h) ∙ ap (λ (j : ℕ). get_or s i 0 ∷ take n (drop j s)) (sym (add-one i))
 
--- n elements of s, from i + j on
-abbrev pub elements : List ℕ → ℕ → ℕ → ℕ → List ℕ
-elements s i j zero = []
-elements s i j (suc n) = get_or s (i + j) 0 ∷ elements s i (j + 1) n
+-- n elements of s, from j on
+abbrev pub elements : List ℕ → ℕ → ℕ → List ℕ
+elements s j zero = []
+elements s j (suc n) = get_or s j 0 ∷ elements s (j + 1) n
 
-part-elements : (s : List ℕ) (i j n : ℕ) → (i + j) + n ≤ length s → take n (drop (i + j) s) ≡ elements s i j n
-part-elements s i j zero h = refl
-part-elements s i j (suc n) h = part-cons s (i + j) n (omega arith) ∙ ap (λ (k : ℕ). get_or s (i + j) 0 ∷ take n (drop k s)) (add_assoc i j 1)
-    ∙ ap (λ (l : List ℕ). get_or s (i + j) 0 ∷ l) (part-elements s i (j + 1) n (omega arith))
+part-elements : (s : List ℕ) (j n : ℕ) → j + n ≤ length s → take n (drop j s) ≡ elements s j n
+part-elements s j zero h = refl
+part-elements s j (suc n) h = part-cons s j n (omega arith) ∙ ap (λ (l : List ℕ). get_or s j 0 ∷ l) (part-elements s (j + 1) n (omega arith))
 
--- bytes joined by `or`, each at its place: no two share a bit
-abbrev pub joined : ℕ → ℕ → List ℕ → ℕ
-joined x j [] = x
-joined x j (v ∷ vs) = joined (bit_or x (v * 2 ^ (8 * j))) (j + 1) vs
+-- ---- a word is the number of its bytes
 
-or-xor : (x v k : ℕ) → x < 2 ^ k → bit_or x (v * 2 ^ k) ≡ bit_xor x (v * 2 ^ k)
-or-xor x v k h = or_shifted_r v k x h ∙ sym (xor_comm x (v * 2 ^ k) ∙ xor_shifted v k x h)
+word-none : word [] ≡ 0
+unfolding word
+word-none = refl
 
-below_next : (x v j : ℕ) → x < 2 ^ (8 * j) → v < 2 ^ 8 → bit_xor x (v * 2 ^ (8 * j)) < 2 ^ (8 * (j + 1))
-below_next x v j h byte = let more : 8 + 8 * j ≡ 8 * (j + 1) = omega arith in
-    xor_lt (8 * (j + 1)) x (v * 2 ^ (8 * j)) (lt_of_lt_of_le h (pow_mono (omega arith)))
-    (subst (λ (k : ℕ). v * 2 ^ (8 * j) < 2 ^ k) more (shl_lt 8 (8 * j) byte))
+word-digit : (b : ℕ) (bs : List ℕ) → b < 2 ^ 8 → word (b ∷ bs) ≡ word bs * 2 ^ 8 + b
+unfolding word
+word-digit b bs h = xor_comm b (word bs * 2 ^ 8) ∙ xor_shifted (word bs) 8 b h
 
-joined-elements : (s : List ℕ) (i j n x : ℕ) → ((k : ℕ) → get_or s k 0 < 2 ^ 8) → x < 2 ^ (8 * j) → joined x j (elements s i j n) ≡ folded x j (elements s i j n)
-joined-elements s i j zero x bytes h = refl
-joined-elements s i j (suc n) x bytes h = let v = get_or s (i + j) 0 in
-    ap (λ (y : ℕ). joined y (j + 1) (elements s i (j + 1) n)) (or-xor x v (8 * j) h)
-    ∙ joined-elements s i (j + 1) n (bit_xor x (v * 2 ^ (8 * j))) bytes (below_next x v j h (bytes (i + j)))
+word-eight : (a b c d e f g h : ℕ) → a < 2 ^ 8 → b < 2 ^ 8 → c < 2 ^ 8 → d < 2 ^ 8 → e < 2 ^ 8 → f < 2 ^ 8 → g < 2 ^ 8 → h < 2 ^ 8
+    → from_le_bytes w64 (a ∷ b ∷ c ∷ d ∷ e ∷ f ∷ g ∷ h ∷ []) ≡ word (a ∷ b ∷ c ∷ d ∷ e ∷ f ∷ g ∷ h ∷ [])
+word-eight a b c d e f g h ha hb hc hd he hf hg hh =
+    omega (
+      arith,
+      word-digit a (b ∷ c ∷ d ∷ e ∷ f ∷ g ∷ h ∷ []) ha,
+      word-digit b (c ∷ d ∷ e ∷ f ∷ g ∷ h ∷ []) hb,
+      word-digit c (d ∷ e ∷ f ∷ g ∷ h ∷ []) hc,
+      word-digit d (e ∷ f ∷ g ∷ h ∷ []) hd,
+      word-digit e (f ∷ g ∷ h ∷ []) he,
+      word-digit f (g ∷ h ∷ []) hf,
+      word-digit g (h ∷ []) hg,
+      word-digit h [] hh,
+      word-none,
+    )
 
--- eight bytes of s, each at its place, are their word
-pub word-elements : (s : List ℕ) (i : ℕ) → ((k : ℕ) → get_or s k 0 < 2 ^ 8) → i + 8 ≤ length s
-    → joined 0 0 (elements s i 0 8) ≡ word (take 8 (drop i s))
-word-elements s i bytes h = joined-elements s i 0 8 0 bytes (omega arith) ∙ folded-word 0 0 (elements s i 0 8) ∙ mul-one (word (elements s i 0 8))
-    ∙ ap word (sym (part-elements s i 0 8 (omega arith)) ∙ ap (λ (j : ℕ). take 8 (drop j s)) (add-zero i))
+-- the first eight bytes of s as a number
+pub word-front : (s : List ℕ) → ((k : ℕ) → get_or s k 0 < 2 ^ 8) → 8 ≤ length s → from_le_bytes w64 (elements s 0 8) ≡ word (take 8 s)
+word-front s bytes h = word-eight _ _ _ _ _ _ _ _ (bytes 0) (bytes 1) (bytes 2) (bytes 3) (bytes 4) (bytes 5) (bytes 6) (bytes 7)
+    ∙ ap word (sym (part-elements s 0 8 h))
 
 -- ---- a whole lane at byte n
 
@@ -118,29 +126,12 @@ pub taken-lane : (a : List ℕ) (n : ℕ) (vs : List ℕ) → n % 8 ≡ 0 → le
     → set a (n / 8) (bit_xor (get_or a (n / 8) 0) (word vs)) ≡ xor_bytes a n vs
 taken-lane a n vs even h = sym (ap (λ (j : ℕ). xor_bytes a j vs) (whole n even) ∙ xor_bytes-lane a (n / 8) vs h)
 
-byte_at-lane : (a : List ℕ) (k j : ℕ) → j < 8 → byte_at a (8 * k + j) ≡ byte_of (get_or a k 0) j
-byte_at-lane a k j h = rw (at-lane k j h, at_byte k j h)
+-- ---- a lane is stored byte by byte: l holds the first j bytes of b, and then what o holds
 
-abbrev bytes_from : ℕ → ℕ → ℕ → List ℕ
-bytes_from w j zero = []
-bytes_from w j (suc n) = byte_of w j ∷ bytes_from w (suc j) n
-
-bytes_at-from : (a : List ℕ) (k j n : ℕ) → j + n ≤ 8 → bytes_at a (8 * k + j) n ≡ bytes_from (get_or a k 0) j n
-bytes_at-from a k j zero h = refl
-bytes_at-from a k j (suc n) h = ap (λ (b : ℕ). b ∷ bytes_at a (suc (8 * k + j)) n) (byte_at-lane a k j (omega arith))
-    ∙ ap (λ (i : ℕ). byte_of (get_or a k 0) j ∷ bytes_at a i n) (sym (add-suc (8 * k) j))
-    ∙ ap (λ (l : List ℕ). byte_of (get_or a k 0) j ∷ l) (bytes_at-from a k (suc j) n (omega arith))
-
-pub given-lane : (a : List ℕ) (n : ℕ) → n % 8 ≡ 0 → bytes_of (get_or a (n / 8) 0) ≡ bytes_at a n 8
-given-lane a n even = sym (ap (λ (j : ℕ). bytes_at a j 8) (whole n even ∙ sym (add-zero (8 * (n / 8)))) ∙ bytes_at-from a (n / 8) 0 8 (omega arith))
-
--- ---- eight stores
-
-pub sets-eight : (o : List ℕ) (i a b c d e f g h : ℕ)
-    → set (set (set (set (set (set (set (set o i a) (i + 1) b) (i + 2) c) (i + 3) d) (i + 4) e) (i + 5) f) (i + 6) g) (i + 7) h
-    ≡ sets o i (a ∷ b ∷ c ∷ d ∷ e ∷ f ∷ g ∷ h ∷ [])
-sets-eight o i a b c d e f g h =
-    let to1 : i + 1 ≡ suc i = omega arith in let to2 : i + 2 ≡ suc (suc i) = omega arith in let to3 : i + 3 ≡ suc (suc (suc i)) = omega arith in
-    let to4 : i + 4 ≡ suc (suc (suc (suc i))) = omega arith in let to5 : i + 5 ≡ suc (suc (suc (suc (suc i)))) = omega arith in
-    let to6 : i + 6 ≡ suc (suc (suc (suc (suc (suc i))))) = omega arith in let to7 : i + 7 ≡ suc (suc (suc (suc (suc (suc (suc i)))))) = omega arith in
-    λ t. set (set (set (set (set (set (set (set o i a) (to1 t) b) (to2 t) c) (to3 t) d) (to4 t) e) (to5 t) f) (to6 t) g) (to7 t) h
+pub stored-more : (b o l : List ℕ) (j : ℕ) → j < length b → j < length l → l ≡ take j b ++ drop j o
+    → set l j (get_or b j 0) ≡ take (j + 1) b ++ drop (j + 1) o
+stored-more b o l j hb hl is = let front : length (take j b) ≡ j = length-take-le j b (omega arith) in let v = get_or b j 0 in
+    let rest : drop (suc j) (take j b ++ drop j o) ≡ drop (j + 1) o = ap (λ (k : ℕ). drop k (take j b ++ drop j o)) (sym (add-one j))
+    ∙ sym (drop-drop 1 j (take j b ++ drop j o)) ∙ ap (drop 1) (drop_at (take j b) (drop j o) j front) ∙ drop-drop 1 j o in
+    set_split l j v hl ∙ (λ t. take j (is t) ++ (v ∷ drop (suc j) (is t))) ∙ (λ t. take_at (take j b) (drop j o) j front t ++ (v ∷ rest t))
+    ∙ sym (append_assoc (take j b) (v ∷ []) (drop (j + 1) o)) ∙ ap (λ (x : List ℕ). x ++ drop (j + 1) o) (sym (take_more b j 0 hb))

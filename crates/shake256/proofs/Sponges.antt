@@ -1,7 +1,7 @@
 -- Laws of the sponge that takes and gives bytes: pieces, and runs of bytes within a block.
-use mathlib.Core.Path.{◌≡◌, refl, sym, ap, ◌∙◌}
-use mathlib.Core.Logic.{◌⊎◌, ⊎_elim}
-use mathlib.Core.List.{List, [], ◌∷◌, ◌++◌}
+use mathlib.Core.Path.{refl, sym, ap, ◌≡◌, ◌∙◌}
+use mathlib.Core.Logic.{⊎_elim}
+use mathlib.Core.List.{List, [], ◌++◌, ◌∷◌}
 use Prim.Native.Nat.{ℕ, zero, suc, ◌+◌, ◌-◌, ◌≤◌, ◌<◌}
 use native.Mathlib.Nat.{zero-add, add-zero, suc-add, eq-zero-or-pos}
 use native.Mathlib.Numerals.{add-one}
@@ -13,7 +13,7 @@ use Rattle.fips.specs.Parameters.{rate}
 use Rattle.fips.specs.Bytes.{byte_at, bytes_at}
 use Rattle.shake256.specs.Bytes.{xor_at, xor_bytes}
 use Rattle.shake256.specs.declared.Sponge.{Sponge}
-use Rattle.shake256.specs.Stream.{permuted, ready, put, absorbed, next, after, squeezed}
+use Rattle.shake256.specs.Stream.{ready, put, absorbed, next, after, squeezed}
 use Rattle.shake256.proofs.Lanes.{one_more}
 
 abbrev pub mk : List ℕ → ℕ → Sponge
@@ -62,17 +62,6 @@ room s = ⊎_elim full free (eq-zero-or-pos (rate - s.at))
 
 pub ready_at : (s : Sponge) → (ready s).at < rate
 ready_at s = (room s).0
-
--- at the start of a block a sponge is its lanes
-pub emptied : {l k : List ℕ} → l ≡ k → mk l 0 ≡ mk k 0
-emptied = ap (λ (z : List ℕ). mk z 0)
-
--- where the arms of the code's test meet: a full block was permuted, or there was room
-pub made-ready : {A B : Type 0} (s t : Sponge) → (A → (rate ≤ s.at) × (t ≡ permuted s)) → (B → (s.at < rate) × (t ≡ s)) → A ⊎ B
-    → (t ≡ ready s) × (t.at < rate)
-made-ready s t full free came = let is : t ≡ ready s =
-    ⊎_elim (λ w. (full w).1 ∙ sym (ready-full s.lanes s.at (full w).0)) (λ w. (free w).1 ∙ sym (ready-room s.lanes s.at (free w).0)) came in
-    (is, omega (arith, ap (λ (z : Sponge). z.at) is, ready_at s))
 
 -- a sponge that is made ready takes and gives the same bytes
 pub ready-absorbed : (s : Sponge) (vs : List ℕ) → ready (absorbed s vs) ≡ ready (absorbed (ready s) vs)

@@ -28,36 +28,33 @@ pub struct Sponge {
     pub at: usize,
 }
 
-// Bytes of s from i on go into the block from byte `at` on: the eight of a lane, or one. Answers how many.
-fn take_some(lanes: &mut [u64; 25], at: usize, s: &[u8], i: usize) -> usize
-    requires { (at < rate) × (i < length s.now) }
-    ensures { Taken at i result s.now lanes.old lanes.new }
+// The first bytes of s go into the block from byte `at` on: the eight of a lane, or one. Answers how many.
+fn take_some(lanes: &mut [u64; 25], at: usize, s: &[u8]) -> usize
+    requires { (at < rate) × (0 < length s.now) }
+    ensures { Taken at result s.now lanes.old lanes.new }
 {
-    if at % 8 == 0 {
-        if 8 <= s.len() - i {
-            let k = at / 8;
-            lanes[k] = lanes[k] ^ word(s, i);
-            return 8;
-        }
+    if at % 8 == 0 && 8 <= s.len() {
+        lanes[at / 8] ^= word(s);
+        8
+    } else {
+        xor_byte(lanes, at, s[0]);
+        1
     }
-    xor_byte(lanes, at, s[i]);
-    1
 }
 
-// Bytes of the block from byte `at` on go to out from i on: the eight of a lane, or one. Answers how many.
-fn give_some(lanes: &[u64; 25], at: usize, out: &mut [u8], i: usize) -> usize
-    requires { (at < rate) × (i < length out.old) }
-    ensures { Given at i result lanes.now out.old out.new }
+// Bytes of the block from byte `at` on go to the front of out: the eight of a lane, or one. Answers how many.
+fn give_some(lanes: &[u64; 25], at: usize, out: &mut [u8]) -> usize
+    requires { (at < rate) × (0 < length out.old) }
+    ensures { Given at result lanes.now out.old out.new }
 {
     let w = lanes[at / 8];
-    if at % 8 == 0 {
-        if 8 <= out.len() - i {
-            store(w, out, i);
-            return 8;
-        }
+    if at % 8 == 0 && 8 <= out.len() {
+        store(w, out);
+        8
+    } else {
+        out[0] = byte_of(w, at % 8);
+        1
     }
-    out[i] = byte_of(w, at % 8);
-    1
 }
 
 // The lanes go through the permutation, in place: the one place where it is called.
@@ -79,21 +76,27 @@ impl Sponge {
         }
     }
 
+    // A full block goes through the permutation, so that there is room in it, or bytes to give.
+    fn make_ready(&mut self)
+        ensures { self.new ≡ spec.ready self.old }
+    {
+        if RATE <= self.at {
+            permute_lanes(&mut self.lanes);
+            self.at = 0;
+        }
+    }
+
     // The sponge with the bytes of s absorbed.
     pub fn absorb(self, s: &[u8]) -> Self
         ensures { result ≡ spec.absorbed self s.now }
     {
         let mut t = self;
-        let mut i: usize = 0;
-        while i < s.len() {
-            if RATE <= t.at {
-                permute_lanes(&mut t.lanes);
-                t.at = 0;
-            }
-            let at = t.at;
-            let n = take_some(&mut t.lanes, at, s, i);
-            t.at = at + n;
-            i += n;
+        let mut rest = s;
+        while !rest.is_empty() {
+            t.make_ready();
+            let n = take_some(&mut t.lanes, t.at, rest);
+            t.at += n;
+            rest = &rest[n..];
         }
         t
     }
@@ -103,12 +106,8 @@ impl Sponge {
         ensures { result ≡ spec.finished self }
     {
         let mut t = self;
-        if RATE <= t.at {
-            permute_lanes(&mut t.lanes);
-            t.at = 0;
-        }
-        let at = t.at;
-        xor_byte(&mut t.lanes, at, DOMAIN);
+        t.make_ready();
+        xor_byte(&mut t.lanes, t.at, DOMAIN);
         xor_byte(&mut t.lanes, RATE - 1, FINAL);
         t.at = RATE;
         t
@@ -119,15 +118,12 @@ impl Sponge {
         ensures { (out.new ≡ spec.squeezed self (length out.old)) × (result ≡ spec.after self (length out.old)) }
     {
         let mut t = self;
+        // By an index: of a `&mut` that moves on, as in `absorb`, the proof does not know what was written before it.
         let mut i: usize = 0;
         while i < out.len() {
-            if RATE <= t.at {
-                permute_lanes(&mut t.lanes);
-                t.at = 0;
-            }
-            let at = t.at;
-            let n = give_some(&t.lanes, at, out, i);
-            t.at = at + n;
+            t.make_ready();
+            let n = give_some(&t.lanes, t.at, &mut out[i..]);
+            t.at += n;
             i += n;
         }
         t

@@ -6,11 +6,5 @@ ghost use Rattle.calls.specs.Judging.{judged};
 pub fn is_judged(n: u8) -> bool
     ensures { result ≡ judged n }
 {
-    if n == 0 {
-        return true;
-    }
-    if n == 5 {
-        return true;
-    }
-    n == 7
+    matches!(n, 0 | 5 | 7)
 }

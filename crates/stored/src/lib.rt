@@ -3,6 +3,7 @@
 
 pub mod buffer;
 mod parts;
+pub mod session;
 
 ghost use Rattle.std.specs.Prelude.{◌≡◌, length};
 ghost use Rattle.prover.specs.Held.{held as held_prover};
@@ -11,7 +12,7 @@ ghost use Rattle.stored.specs.Parameters.{Small};
 ghost use Rattle.stored.specs.Prover.{prover_size, prover_bytes, prover_from};
 ghost use Rattle.stored.specs.Verifier.{verifier_size, verifier_bytes, verifier_from};
 
-use layout::arrays::{array16, array32};
+use layout::arrays::array;
 use prover::Prover;
 use verifier::Verifier;
 
@@ -26,13 +27,13 @@ pub fn read_prover(b: &[u8]) -> Prover
     requires { length b.now ≡ prover_size }
     ensures { held_prover result ≡ prover_from b.now }
 {
-    let phase = prover_phase::bytes::phase_from(b[0]);
+    let phase = prover_phase::Phase::from(b[0]);
     let parameters = parts::read_parameters(b);
-    let runs = parts::wide(b[6]);
-    let x = parts::array255(&b[7..262]);
-    let salt = array32(&b[262..294]);
-    let root = array16(&b[294..310]);
-    let message2 = parts::messages2(&b[310..2358]);
+    let runs = usize::from(b[6]);
+    let x = array(&b[7..262]);
+    let salt = array(&b[262..294]);
+    let root = array(&b[294..310]);
+    let message2 = array(&b[310..2358]);
     Prover {
         phase,
         parameters,
@@ -45,18 +46,12 @@ pub fn read_prover(b: &[u8]) -> Prover
 }
 
 // The bytes of a prover's session.
-pub fn write_prover(s: Prover, out: &mut [u8])
-    requires { (length out.old ≡ prover_size) × Small s.parameters s.runs }
-    ensures { out.new ≡ prover_bytes (held_prover s) }
+pub fn write_prover(s: &Prover, out: &mut [u8])
+    requires { (length out.old ≡ prover_size) × Small s.now.parameters s.now.runs }
+    ensures { out.new ≡ prover_bytes (held_prover s.now) }
 {
-    let phase = s.phase;
-    let p = s.parameters;
-    let start = parts::head(prover_phase::bytes::phase_byte(phase), p, s.runs);
-    let x = s.x;
-    let salt = s.salt;
-    let root = s.root;
-    let message2 = s.message2;
-    parts::write_parts(&start, &x, &salt, &root, &message2, out);
+    let start = parts::head(u8::from(s.phase), s.parameters, s.runs);
+    parts::write_parts(&start, &s.x, &s.salt, &s.root, &s.message2, out);
 }
 
 // The verifier's session that the bytes are.
@@ -64,11 +59,11 @@ pub fn read_verifier(b: &[u8]) -> Verifier
     requires { length b.now ≡ verifier_size }
     ensures { heldVerifier result ≡ verifier_from b.now }
 {
-    let phase = verifier_phase::bytes::phase_from(b[0]);
+    let phase = verifier_phase::Phase::from(b[0]);
     let parameters = parts::read_parameters(b);
-    let runs = parts::wide(b[6]);
-    let messages = parts::messages(&b[7..4135]);
-    let leaves = array32(&b[4135..4167]);
+    let runs = usize::from(b[6]);
+    let messages = array(&b[7..4135]);
+    let leaves = array(&b[4135..4167]);
     Verifier {
         phase,
         parameters,
@@ -79,16 +74,12 @@ pub fn read_verifier(b: &[u8]) -> Verifier
 }
 
 // The bytes of a verifier's session.
-pub fn write_verifier(s: Verifier, out: &mut [u8])
-    requires { (length out.old ≡ verifier_size) × Small s.parameters s.runs }
-    ensures { out.new ≡ verifier_bytes (heldVerifier s) }
+pub fn write_verifier(s: &Verifier, out: &mut [u8])
+    requires { (length out.old ≡ verifier_size) × Small s.now.parameters s.now.runs }
+    ensures { out.new ≡ verifier_bytes (heldVerifier s.now) }
 {
-    let phase = s.phase;
-    let p = s.parameters;
-    let start = parts::head(verifier_phase::bytes::phase_byte(phase), p, s.runs);
-    let messages = s.messages;
-    let leaves = s.leaves;
+    let start = parts::head(u8::from(s.phase), s.parameters, s.runs);
     lists::put_at(out, 0, &start);
-    lists::put_at(out, 7, &messages);
-    lists::put_at(out, 4135, &leaves);
+    lists::put_at(out, 7, &s.messages);
+    lists::put_at(out, 4135, &s.leaves);
 }

@@ -1,57 +1,22 @@
 // What the bytes of both sessions share: the parameters, and parts one behind the other.
 ghost use Rattle.std.specs.Prelude.{◌≡◌, ◌+◌, ◌≤◌, [], ◌∷◌, ◌++◌, length};
-ghost use Rattle.layout.specs.Maxima.{most_messages2};
-ghost use Rattle.verifier.specs.Held.{held_length};
 ghost use Rattle.stored.specs.Parameters.{Small, parameter_bytes, parameters_from};
 
-use layout::MOST_MESSAGES2;
 use parameters::Parameters;
 use parameters::set::{numbers_of, parameters_of};
-use verifier::HELD;
-
-// A slice of 255 bytes as an array.
-pub fn array255(s: &[u8]) -> [u8; 255]
-    requires { length s.now ≡ 255 }
-    ensures { result ≡ s.now }
-{
-    let mut a = [0u8; 255];
-    lists::copy(&mut a, s);
-    a
-}
-
-// A byte as a number.
-pub fn wide(b: u8) -> usize
-    ensures { result ≡ b }
-{
-    b as usize
-}
-
-// A slice of 2,048 bytes as an array: room for message 2.
-pub fn messages2(s: &[u8]) -> [u8; MOST_MESSAGES2]
-    requires { length s.now ≡ most_messages2 }
-    ensures { result ≡ s.now }
-{
-    let mut a = [0u8; MOST_MESSAGES2];
-    lists::copy(&mut a, s);
-    a
-}
-
-// A slice of 4,128 bytes as an array: room for messages 1 to 3.
-pub fn messages(s: &[u8]) -> [u8; HELD]
-    requires { length s.now ≡ held_length }
-    ensures { result ≡ s.now }
-{
-    let mut a = [0u8; HELD];
-    lists::copy(&mut a, s);
-    a
-}
 
 // The parameters, which stand behind the phase.
 pub fn read_parameters(b: &[u8]) -> Parameters
     requires { 6 ≤ length b.now }
     ensures { result ≡ parameters_from b.now }
 {
-    let numbers = [wide(b[1]), wide(b[2]), wide(b[3]), wide(b[4]), wide(b[5])];
+    let numbers = [
+        usize::from(b[1]),
+        usize::from(b[2]),
+        usize::from(b[3]),
+        usize::from(b[4]),
+        usize::from(b[5]),
+    ];
     parameters_of(&numbers)
 }
 

@@ -5,9 +5,8 @@
 -- bent               those with leaf 1 hidden, and α zero
 -- comparable         the two openings are comparable
 -- names-7            the extractor names the strings of layer 7 of run 1
-use Rattle.std.specs.Prelude.{◌≡◌, refl, List, [], ◌∷◌, ◌++◌, ℕ, zero, suc, ◌<◌, get_or, take, drop, replicate}
+use Rattle.std.specs.Prelude.{◌≡◌, refl, List, [], ◌∷◌, ◌++◌, ℕ, zero, suc, ◌<◌, get_or, take, drop, replicate, Ok}
 use Rattle.std.proofs.Common.{ap, arith, lit<, lit≤}
-use Rattle.answers.specs.declared.Answer.TheVariants.{Done}
 use Rattle.parameters.specs.declared.Parameters.{Parameters}
 use Rattle.layout.specs.Layout.{leaves}
 use Rattle.runs.specs.Messages.{leaf_at, message1, message3, message5}
@@ -58,7 +57,7 @@ sent-bent : Sent p 2 bent
 unfolding bent honest definitions
 sent-bent = record { message1 = refl; message2 = refl; message3 = refl; message4 = refl; below = below 1 (lit< tt); message5 = refl }
 
-accepted : (verdict (weak 7) p 2 (honest 0) key ≡ Done) × (verdict (weak 7) p 2 bent key ≡ Done)
+accepted : (verdict (weak 7) p 2 (honest 0) key ≡ Ok tt) × (verdict (weak 7) p 2 bent key ≡ Ok tt)
 unfolding bent honest definitions
 accepted = (refl, refl)
 

@@ -6,7 +6,7 @@
 -- pairs            the list: this pair, then the other five of points 16, 17, 18, each with two multipliers
 -- meeting          the list is as demand 3 has it
 -- one-x            so run 1's x is the same in all its pairs, and light
-use Rattle.std.specs.Prelude.{◌≡◌, false, List, [], ◌∷◌, ◌++◌, ℕ, zero, suc, ◌<◌, get_or, take, drop, replicate}
+use Rattle.std.specs.Prelude.{◌≡◌, false, List, [], ◌∷◌, ◌++◌, ℕ, zero, suc, ◌<◌, get_or, take, drop, replicate, Ok}
 use Rattle.std.proofs.Math.Path.{refl}
 use Rattle.std.proofs.Common.{ap, arith, lit<, lit≤}
 use Rattle.algebra.specs.Each.{Each}
@@ -14,7 +14,6 @@ use Rattle.lists.specs.Equal.{eq_list}
 use Rattle.lists.specs.Equal.Laws.{eq_list-false}
 use Rattle.tower.specs.Point.{lone}
 use Rattle.tower.specs.Field.{Point, point}
-use Rattle.answers.specs.declared.Answer.TheVariants.{Done}
 use Rattle.layout.specs.Layout.{leaves}
 use Rattle.runs.specs.Messages.{leaf_at}
 use Rattle.runs.specs.Opening.{Transcript, verdict}
@@ -70,7 +69,7 @@ sent = (
   record { message1 = refl; message2 = refl; message3 = refl; message4 = refl; below = below 1 (lit< tt); message5 = refl },
 )
 
-judged : (verdict stand_in (p 1) 2 (joint 0) key ≡ Done) × (verdict stand_in (p 1) 2 (joint 1) key ≡ Done)
+judged : (verdict stand_in (p 1) 2 (joint 0) key ≡ Ok tt) × (verdict stand_in (p 1) 2 (joint 1) key ≡ Ok tt)
 unfolding joint elsewhere opened definitions
 judged = (refl, refl)
 

@@ -10,14 +10,13 @@
 -- after_skipping         what the extractor gives after this verifier accepted both
 -- fills_first            the same, with the output filled before the strings are compared
 -- names-first-wrong, blank-wrong, fills-all-wrong, skips-axes-wrong, fills-first-wrong   none of these outcomes is right
-use Rattle.std.specs.Prelude.{◌≡◌, refl, false, List, [], ◌∷◌, ◌++◌, ℕ, ◌<◌, get_or, take, drop, replicate}
+use Rattle.std.specs.Prelude.{◌≡◌, refl, false, List, [], ◌∷◌, ◌++◌, ℕ, ◌<◌, get_or, take, drop, replicate, Ok}
 use Rattle.std.proofs.Common.{ap, arith}
 use Rattle.std.proofs.Math.Dec.{lit<}
 use Rattle.lists.specs.Part.{part}
 use Rattle.lists.specs.Equal.{eq_list}
 use Rattle.lists.specs.Equal.Laws.{eq_list-false}
-use Rattle.answers.specs.declared.Answer.{Answer}
-use Rattle.answers.specs.declared.Answer.TheVariants.{Done}
+use Rattle.answers.specs.Answer.{Answer}
 use Rattle.answers.specs.declared.Refusal.TheVariants.{Commitment}
 use Rattle.answers.specs.Checks.{checks}
 use Rattle.parameters.specs.declared.Parameters.{Parameters}
@@ -131,7 +130,7 @@ bent = record {
 unfoldable pub after_skipping : Outcome
 after_skipping = found stand_in p 2 one bent key work out (extract stand_in p 2 key one bent out)
 
-pub both-accepted : (skips_axes (exchange_at p one 1) ≡ Done) × (skips_axes (exchange_at p bent 0) ≡ Done) × (skips_axes (exchange_at p bent 1) ≡ Done)
+pub both-accepted : (skips_axes (exchange_at p one 1) ≡ Ok tt) × (skips_axes (exchange_at p bent 0) ≡ Ok tt) × (skips_axes (exchange_at p bent 1) ≡ Ok tt)
 unfolding skips_axes bent opened definitions
 both-accepted = (refl, refl, refl)
 

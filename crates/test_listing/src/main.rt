@@ -2,11 +2,13 @@
 #![tactic(auto)]
 
 use keytext::KeyScan;
+use keytext::listing::LONGEST_LISTING;
+use layout::{LONGEST_Y, MOST_MATRIX};
 use std::io;
 
 // The listing of an input.
 fn show(rt: &impl Print, input: &[u8]) -> io::Result<()> {
-    let mut out = keytext::listing::listing_room();
+    let mut out = [0; LONGEST_LISTING];
     let n = keytext::listing::listing(input, &mut out);
     rt.write_all(&out[..n])
 }
@@ -14,11 +16,8 @@ fn show(rt: &impl Print, input: &[u8]) -> io::Result<()> {
 // n bytes 00 in hex go to the scanner.
 fn zeros(scan: KeyScan, n: usize, matrix: &mut [u8], y: &mut [u8], x_a: &mut [u8]) -> KeyScan {
     let mut now = scan;
-    let mut i = 0;
-    while i < n {
-        let next = now.feed(b"00", matrix, y, x_a);
-        now = next;
-        i += 1;
+    for _ in 0..n {
+        now = now.feed(b"00", matrix, y, x_a);
     }
     now
 }
@@ -32,10 +31,10 @@ fn show_long(
     k: usize,
     third: &[u8],
 ) -> io::Result<()> {
-    let mut matrix = keytext::listing::matrix_room();
-    let mut y = keytext::listing::vector_room();
-    let mut x_a = keytext::listing::vector_room();
-    let mut out = keytext::listing::listing_room();
+    let mut matrix = [0; MOST_MATRIX];
+    let mut y = [0; LONGEST_Y];
+    let mut x_a = [0; LONGEST_Y];
+    let mut out = [0; LONGEST_LISTING];
     let a = KeyScan::new().feed(first, &mut matrix, &mut y, &mut x_a);
     let b = zeros(a, n, &mut matrix, &mut y, &mut x_a);
     let c = b.feed(second, &mut matrix, &mut y, &mut x_a);

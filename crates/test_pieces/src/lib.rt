@@ -39,7 +39,7 @@ fn end(i: usize, n: u16, all: usize) -> usize
     requires { i ≤ all }
     ensures { (i ≤ result) × (result ≤ all) }
 {
-    let n = n as usize;
+    let n = usize::from(n);
     if all - i < n { all } else { i + n }
 }
 
@@ -48,13 +48,11 @@ fn absorb_pieces(s: Sponge, message: &[u8], cuts: &[u16]) -> Sponge
 {
     let mut t = s;
     let mut i: usize = 0;
-    let mut k: usize = 0;
-    while k < cuts.len() {
-        let e = end(i, cuts[k], message.len());
+    for cut in cuts {
+        let e = end(i, *cut, message.len());
         let next = t.absorb(&message[i..e]);
         t = next;
         i = e;
-        k += 1;
     }
     t.absorb(&message[i..])
 }
@@ -64,13 +62,11 @@ fn squeeze_pieces(s: Sponge, output: &mut [u8], spans: &[u16])
 {
     let mut t = s;
     let mut i: usize = 0;
-    let mut k: usize = 0;
-    while k < spans.len() {
-        let e = end(i, spans[k], output.len());
+    for span in spans {
+        let e = end(i, *span, output.len());
         let next = t.squeeze(&mut output[i..e]);
         t = next;
         i = e;
-        k += 1;
     }
     t.squeeze(&mut output[i..]);
 }

@@ -3,18 +3,15 @@
 // bytes 5a.
 #![tactic(auto)]
 
-ghost use Rattle.std.specs.Prelude.{◌≤◌, length};
+ghost use Rattle.std.specs.Prelude.{◌^◌, ◌<◌, ◌≤◌, length};
 
 use answers::Answer;
+use bytefield::FieldTables;
 use parameters::Parameters;
 use parameters::set::parameters_of;
 use prover::Prover;
 use shake256::shake256;
 use std::io;
-
-fn wide(b: u8) -> u64 {
-    b as u64
-}
 
 // A call's line.
 fn show(rt: &impl Print, name: &[u8], answer: Answer, out: &[u8]) -> io::Result<()> {
@@ -24,7 +21,7 @@ fn show(rt: &impl Print, name: &[u8], answer: Answer, out: &[u8]) -> io::Result<
     text::print::put_hex(&mut digits, 0, &digest);
     rt.write_all(name)?;
     rt.write_all(b"\t")?;
-    rt.print(wide(answers::answer_number(answer)))?;
+    rt.print(u64::from(answers::answer_number(answer)))?;
     rt.write_all(b"\t")?;
     rt.write_all(&digits)?;
     rt.write_all(b"\n")
@@ -35,24 +32,19 @@ fn set_of(m: usize) -> Parameters {
     parameters_of(&[m, 126, 79, 8, 3])
 }
 
-// The key's x_A: 40 bytes, then zeros.
-fn key_front() -> [u8; 126] {
-    let mut x_a = [0u8; 126];
-    shake256(b"x_A", &mut x_a[..40]);
-    x_a
-}
-
-// The key's x_B: 39 bytes, then zeros.
-fn key_back() -> [u8; 104] {
-    let mut x_b = [0u8; 104];
-    shake256(b"x_B", &mut x_b[..39]);
-    x_b
+// A part of the key: the first n bytes from a label, then zeros.
+fn key_part<const N: usize>(label: &[u8], n: usize) -> [u8; N]
+    requires { (n ≤ N) × (N < 2 ^ 63) }
+{
+    let mut part = [0u8; N];
+    shake256(label, &mut part[..n]);
+    part
 }
 
 // The key's y, which is H'x_A + x_B.
 fn syndrome(x_a: &[u8; 126], matrix: &[u8; 13104]) -> [u8; 104] {
-    let tables = bytefield::field_tables();
-    let mut y = key_back();
+    let tables = FieldTables::new();
+    let mut y: [u8; 104] = key_part(b"x_B", 39);
     let mut image = [0u8; 104];
     key::image(x_a, matrix, &mut image, &tables);
     lists::xor_into(&mut y, &image);
@@ -76,9 +68,7 @@ fn begin_runs(
     let mut out = [0x5au8; 96];
     shake256(b"salt", &mut salt);
     shake256(seed, &mut root);
-    let called = s.begin(p, runs, x_a, &salt, &root, matrix, y, &mut work, &mut out);
-    let answer = called.answer;
-    let next = called.prover;
+    let (next, answer) = s.begin(p, runs, x_a, &salt, &root, matrix, y, &mut work, &mut out);
     show(rt, b"begin", answer, &out)?;
     Ok(next)
 }
@@ -106,23 +96,16 @@ fn points_with(
 ) -> io::Result<Prover> {
     let mut work = [0xa5u8; 5120];
     let mut out = [0x5au8; 64];
-    let called = s.points(message2, matrix, y, &mut work, &mut out);
-    let answer = called.answer;
-    let next = called.prover;
+    let (next, answer) = s.points(message2, matrix, y, &mut work, &mut out);
     show(rt, b"points", answer, &out)?;
     Ok(next)
 }
 
-// The call points.
-fn points(rt: &impl Print, s: Prover, matrix: &[u8], y: &[u8]) -> io::Result<Prover> {
-    let mut message2 = [0u8; 48];
-    shake256(b"points", &mut message2);
-    points_with(rt, s, &message2, matrix, y)
-}
-
-// The call points with the first 47 bytes of message 2.
-fn points_short(rt: &impl Print, s: Prover, matrix: &[u8], y: &[u8]) -> io::Result<Prover> {
-    let mut message2 = [0u8; 47];
+// The call points with the first N bytes of message 2, which has 48.
+fn points<const N: usize>(rt: &impl Print, s: Prover, matrix: &[u8], y: &[u8]) -> io::Result<Prover>
+    requires { N < 2 ^ 63 }
+{
+    let mut message2 = [0u8; N];
     shake256(b"points", &mut message2);
     points_with(rt, s, &message2, matrix, y)
 }
@@ -143,34 +126,22 @@ fn leaf_with(
     out: &mut [u8],
 ) -> io::Result<Prover> {
     let mut work = [0xa5u8; 5120];
-    let called = s.leaf(leaves, matrix, y, &mut work, out);
-    let answer = called.answer;
-    let next = called.prover;
+    let (next, answer) = s.leaf(leaves, matrix, y, &mut work, out);
     show(rt, b"leaf", answer, out)?;
     Ok(next)
 }
 
-// The call leaf with an output of 664 bytes, the length of message 5 where leaves 77 and 255 are hidden.
-fn leaf_664(
+// The call leaf with an output of N bytes: message 5 has 664 where leaves 77 and 255 are hidden, and 368 where leaf 255 is hidden twice.
+fn leaf<const N: usize>(
     rt: &impl Print,
     s: Prover,
     leaves: &[u8],
     matrix: &[u8],
     y: &[u8],
-) -> io::Result<Prover> {
-    let mut out = [0x5au8; 664];
-    leaf_with(rt, s, leaves, matrix, y, &mut out)
-}
-
-// The call leaf with an output of 368 bytes, the length of message 5 where leaf 255 is hidden twice.
-fn leaf_368(
-    rt: &impl Print,
-    s: Prover,
-    leaves: &[u8],
-    matrix: &[u8],
-    y: &[u8],
-) -> io::Result<Prover> {
-    let mut out = [0x5au8; 368];
+) -> io::Result<Prover>
+    requires { N < 2 ^ 63 }
+{
+    let mut out = [0x5au8; N];
     leaf_with(rt, s, leaves, matrix, y, &mut out)
 }
 
@@ -180,7 +151,7 @@ fn refusals(rt: &impl Print, s: Prover, x_a: &[u8], matrix: &[u8], y: &[u8]) -> 
     requires { 103 ≤ length y.now }
 {
     let heavy = [0xffu8; 126];
-    let a = points(rt, s, matrix, y)?;
+    let a = points::<48>(rt, s, matrix, y)?;
     let b = begin(rt, a, set_of(256), x_a, b"root", matrix, y)?;
     let c = begin_runs(rt, b, set_of(230), 33, x_a, b"root", matrix, y)?;
     let d = begin(rt, c, set_of(230), x_a, b"root", matrix, &y[..103])?;
@@ -190,24 +161,24 @@ fn refusals(rt: &impl Print, s: Prover, x_a: &[u8], matrix: &[u8], y: &[u8]) -> 
 // A first exchange, with calls that are not due, of wrong lengths, with equal points, and after its end.
 fn first(rt: &impl Print, s: Prover, x_a: &[u8], matrix: &[u8], y: &[u8]) -> io::Result<Prover> {
     let a = begin(rt, s, set_of(230), x_a, b"root", matrix, y)?;
-    let b = leaf_664(rt, a, &[77, 255], matrix, y)?;
-    let c = points_short(rt, b, matrix, y)?;
+    let b = leaf::<664>(rt, a, &[77, 255], matrix, y)?;
+    let c = points::<47>(rt, b, matrix, y)?;
     let d = points_equal(rt, c, matrix, y)?;
-    let e = points(rt, d, matrix, y)?;
-    let f = points(rt, e, matrix, y)?;
-    let g = leaf_368(rt, f, &[77, 255], matrix, y)?;
-    let h = leaf_664(rt, g, &[77], matrix, y)?;
-    let i = leaf_664(rt, h, &[77, 255], matrix, y)?;
-    let j = leaf_664(rt, i, &[77, 255], matrix, y)?;
-    points(rt, j, matrix, y)
+    let e = points::<48>(rt, d, matrix, y)?;
+    let f = points::<48>(rt, e, matrix, y)?;
+    let g = leaf::<368>(rt, f, &[77, 255], matrix, y)?;
+    let h = leaf::<664>(rt, g, &[77], matrix, y)?;
+    let i = leaf::<664>(rt, h, &[77, 255], matrix, y)?;
+    let j = leaf::<664>(rt, i, &[77, 255], matrix, y)?;
+    points::<48>(rt, j, matrix, y)
 }
 
 // A second exchange: refused with the first one's salt and root, carried out with another root.
 fn second(rt: &impl Print, s: Prover, x_a: &[u8], matrix: &[u8], y: &[u8]) -> io::Result<Prover> {
     let a = begin(rt, s, set_of(230), x_a, b"root", matrix, y)?;
     let b = begin(rt, a, set_of(230), x_a, b"other root", matrix, y)?;
-    let c = points(rt, b, matrix, y)?;
-    leaf_368(rt, c, &[255, 255], matrix, y)
+    let c = points::<48>(rt, b, matrix, y)?;
+    leaf::<368>(rt, c, &[255, 255], matrix, y)
 }
 
 // All calls, on one session.
@@ -221,7 +192,7 @@ fn run(rt: &impl Print, x_a: &[u8; 126], matrix: &[u8; 13104], y: &[u8; 104]) ->
 fn main(rt: HostRuntime) -> io::Result<()> {
     let mut matrix = [0u8; 13104];
     shake256(b"matrix", &mut matrix);
-    let x_a = key_front();
+    let x_a: [u8; 126] = key_part(b"x_A", 40);
     let y = syndrome(&x_a, &matrix);
     run(&rt, &x_a, &matrix, &y)
 }

@@ -3,8 +3,6 @@ ghost use Rattle.std.specs.Prelude.{◌≡◌};
 ghost use Rattle.text.specs.Decimal.{is_digit};
 ghost use Rattle.text.specs.Scanner.Decimal.{decimal_start, decimal_broken, decimal_step, decimal_accepts};
 
-use crate::both;
-
 // A decimal as its digits come: how many, their value, whether they are a single 0; `sound` while the field can still be a decimal.
 #[derive(Clone, Copy)]
 pub struct DecimalScan {
@@ -18,13 +16,7 @@ pub struct DecimalScan {
 pub fn is_digit(b: u8) -> bool
     ensures { result ≡ is_digit b }
 {
-    if b < 48 {
-        return false;
-    }
-    if b > 57 {
-        return false;
-    }
-    true
+    matches!(b, b'0'..=b'9')
 }
 
 impl DecimalScan {
@@ -45,10 +37,8 @@ impl DecimalScan {
         ensures { result ≡ decimal_broken self }
     {
         DecimalScan {
-            digits: self.digits,
-            value: self.value,
-            zero: self.zero,
             sound: false,
+            ..self
         }
     }
 
@@ -56,23 +46,13 @@ impl DecimalScan {
     pub fn push(self, b: u8, limit: usize) -> Self
         ensures { result ≡ decimal_step limit self b }
     {
-        if !is_digit(b) {
+        if !is_digit(b) || self.digits >= limit || self.zero || self.value > 99_999_999 {
             return self.broken();
         }
-        if self.digits >= limit {
-            return self.broken();
-        }
-        if self.zero {
-            return self.broken();
-        }
-        if self.value > 99_999_999 {
-            return self.broken();
-        }
-        let digit = (b - 48) as usize;
         DecimalScan {
             digits: self.digits + 1,
-            value: 10 * self.value + digit,
-            zero: both(self.digits == 0, b == 48),
+            value: 10 * self.value + usize::from(b - b'0'),
+            zero: self.digits == 0 && b == b'0',
             sound: self.sound,
         }
     }
@@ -81,9 +61,6 @@ impl DecimalScan {
     pub fn accepts(self) -> bool
         ensures { result ≡ decimal_accepts self }
     {
-        if self.digits == 0 {
-            return false;
-        }
-        self.sound
+        self.digits != 0 && self.sound
     }
 }

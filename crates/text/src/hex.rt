@@ -3,15 +3,12 @@ ghost use Rattle.std.specs.Prelude.{◌≡◌, ◌<◌, ◌^◌, set};
 ghost use Rattle.text.specs.Hex.{is_hex_digit, hex_value};
 ghost use Rattle.text.specs.Scanner.Hex.{hex_start, hex_held, counted, hex_step, hex_accepts};
 
-use crate::both;
-
-// A hex field as its digits come: the bytes so far, counted up to one more than the lent slice holds; the first digit of a byte whose second
-// is still to come (`half`); `sound` while every byte was a hex digit.
+// A hex field as its digits come: the bytes so far, counted up to one more than the lent slice holds; the value of the first digit of a byte
+// whose second is still to come (`half`); `sound` while every byte was a hex digit.
 #[derive(Clone, Copy)]
 pub struct HexScan {
     pub count: usize,
-    pub high: u8,
-    pub half: bool,
+    pub half: Option<u8>,
     pub sound: bool,
 }
 
@@ -19,36 +16,19 @@ pub struct HexScan {
 pub fn is_hex_digit(b: u8) -> bool
     ensures { result ≡ is_hex_digit b }
 {
-    if b < b'0' {
-        return false;
-    }
-    if b <= b'9' {
-        return true;
-    }
-    if b < b'a' {
-        return false;
-    }
-    b <= b'f'
+    matches!(b, b'0'..=b'9' | b'a'..=b'f')
 }
 
-// The number that a hex digit stands for, 0 for any other byte.
+// The number that a hex digit stands for, 0 for any other byte (no Option: the definition is 0 there, and its laws speak of it).
 pub fn hex_value(b: u8) -> u8
     ensures value { result ≡ hex_value b }
     ensures upper_bound { result < 16 }
 {
-    if b < 48 {
-        return 0;
+    match b {
+        b'0'..=b'9' => b - b'0',
+        b'a'..=b'f' => b - b'a' + 10,
+        _ => 0,
     }
-    if b <= 57 {
-        return b - 48;
-    }
-    if b < 97 {
-        return 0;
-    }
-    if b <= 102 {
-        return b - 87;
-    }
-    0
 }
 
 // A byte stored in a slice, where the slice reaches that far.
@@ -60,7 +40,7 @@ fn store(out: &mut [u8], at: usize, b: u8)
     }
 }
 
-// One more than n, up to one more than cap.
+// One more than n, up to one more than cap (no `min`: an n past that stays).
 fn count_on(n: usize, cap: usize) -> usize
     requires { cap < 2 ^ 63 }
     ensures { result ≡ counted cap n }
@@ -75,8 +55,7 @@ impl HexScan {
     {
         HexScan {
             count: 0,
-            high: 0,
-            half: false,
+            half: None,
             sound: true,
         }
     }
@@ -86,22 +65,22 @@ impl HexScan {
         ensures { hex_held result out.new ≡ hex_step (hex_held self out.old) b }
     {
         let value = hex_value(b);
-        let sound = both(self.sound, is_hex_digit(b));
-        if self.half {
-            let count = count_on(self.count, out.len());
-            store(out, self.count, self.high % 16 * 16 + value);
-            return HexScan {
-                count,
-                high: 0,
-                half: false,
+        let sound = self.sound && is_hex_digit(b);
+        match self.half {
+            None => HexScan {
+                count: self.count,
+                half: Some(value),
                 sound,
-            };
-        }
-        HexScan {
-            count: self.count,
-            high: value,
-            half: true,
-            sound,
+            },
+            Some(high) => {
+                let count = count_on(self.count, out.len());
+                store(out, self.count, high % 16 * 16 + value);
+                HexScan {
+                    count,
+                    half: None,
+                    sound,
+                }
+            }
         }
     }
 
@@ -109,9 +88,6 @@ impl HexScan {
     pub fn accepts(self) -> bool
         ensures { result ≡ hex_accepts self }
     {
-        if self.half {
-            return false;
-        }
-        self.sound
+        self.half.is_none() && self.sound
     }
 }

@@ -9,7 +9,7 @@ fn hex_digit(n: u8) -> u8
     requires { n < 16 }
     ensures { result ≡ hex_digit n }
 {
-    if n < 10 { 48 + n } else { 87 + n }
+    if n < 10 { b'0' + n } else { b'a' + n - 10 }
 }
 
 // The bytes s in hex are written to out from index at on.
@@ -17,13 +17,10 @@ pub fn put_hex(out: &mut [u8], at: usize, s: &[u8])
     requires { at + 2 * length s.now ≤ length out.old }
     ensures { out.new ≡ put_at out.old at (hex_text s.now) }
 {
-    let mut i = 0;
-    while i < s.len() {
-        let b = s[i];
+    for (i, b) in s.iter().enumerate() {
         let place = at + 2 * i;
         out[place] = hex_digit(b / 16);
         out[place + 1] = hex_digit(b % 16);
-        i += 1;
     }
 }
 
@@ -32,7 +29,7 @@ fn digit(n: usize) -> u8
     requires { n < 10 }
     ensures { result ≡ 48 + n }
 {
-    48 + n as u8
+    b'0' + n as u8
 }
 
 // The decimal of a number below 1,000 is written to out from index at on; the answer is the place behind it.

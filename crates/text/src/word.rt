@@ -21,16 +21,16 @@ impl WordScan {
     pub fn push(self, b: u8, word: &[u8]) -> Self
         ensures { result ≡ word_step word.now self b }
     {
-        let at = self.at;
-        if at >= word.len() {
-            return WordScan { at, sound: false };
-        }
-        if word[at] != b {
-            return WordScan { at, sound: false };
-        }
-        WordScan {
-            at: at + 1,
-            sound: self.sound,
+        if self.at < word.len() && word[self.at] == b {
+            WordScan {
+                at: self.at + 1,
+                ..self
+            }
+        } else {
+            WordScan {
+                sound: false,
+                ..self
+            }
         }
     }
 
@@ -38,9 +38,6 @@ impl WordScan {
     pub fn accepts(self, word: &[u8]) -> bool
         ensures { result ≡ word_accepts word.now self }
     {
-        if self.at != word.len() {
-            return false;
-        }
-        self.sound
+        self.at == word.len() && self.sound
     }
 }

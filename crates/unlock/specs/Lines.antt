@@ -13,9 +13,8 @@
 -- message_line name s   a message: its name, its length and its digest
 -- verdict_line a        accepted, or refused with document 01's number
 -- chance_line p n       about how likely n runs accept a prover without the key: 1/2^D a run
-use Rattle.std.specs.Prelude.{cond, List, [], ◌∷◌, ◌++◌, ℕ, ◌+◌, ◌*◌, ◌/◌, ◌%◌, ltb, length}
-use Rattle.answers.specs.declared.Answer.{Answer}
-use Rattle.answers.specs.declared.Answer.TheVariants.{Done, Refused}
+use Rattle.std.specs.Prelude.{cond, List, [], ◌∷◌, ◌++◌, ℕ, ◌+◌, ◌*◌, ◌/◌, ◌%◌, ltb, length, Ok, Err}
+use Rattle.answers.specs.Answer.{Answer}
 use Rattle.answers.specs.Number.{refusal_number}
 use Rattle.parameters.specs.declared.Parameters.{Parameters}
 use Rattle.parameters.specs.Set.{numbers_of}
@@ -73,8 +72,8 @@ unfoldable pub message_line : List ℕ → List ℕ → List ℕ
 message_line name s = name ++ (number_field (length s) ++ (digest_field s ++ (line_feed ∷ [])))
 
 unfoldable pub verdict_line : Answer → List ℕ
-verdict_line Done = verdict_word ++ (tab ∷ (accepted_word ++ (line_feed ∷ [])))
-verdict_line (Refused r) = verdict_word ++ (tab ∷ (refused_word ++ (number_field (refusal_number r) ++ (line_feed ∷ []))))
+verdict_line (Ok _) = verdict_word ++ (tab ∷ (accepted_word ++ (line_feed ∷ [])))
+verdict_line (Err r) = verdict_word ++ (tab ∷ (refused_word ++ (number_field (refusal_number r) ++ (line_feed ∷ []))))
 
 unfoldable pub chance_line : Parameters → ℕ → List ℕ
 chance_line p n = chance_word ++ (tab ∷ (power_text ++ (number_text (n * p.axes) ++ (tab ∷ (chance_text ++ (line_feed ∷ []))))))

@@ -42,6 +42,15 @@ pub fn expand(label: &[u8], out: &mut [u8])
         .squeeze(out);
 }
 
+// SHAKE256 of the title and a label, as an array.
+fn expanded<const N: usize>(label: &[u8]) -> [u8; N]
+    ensures { result ≡ expanded label.now N }
+{
+    let mut out = [0; N];
+    expand(label, &mut out);
+    out
+}
+
 // The parameters of the default key (document 01, Parameters: 'Our shipped set').
 pub fn shipped_set() -> Parameters
     ensures { result ≡ shipped_set }
@@ -74,18 +83,14 @@ pub fn x_a() -> [u8; 126]
 pub fn salt() -> [u8; 32]
     ensures { result ≡ expanded salt_label 32 }
 {
-    let mut out = [0u8; 32];
-    expand(b"salt", &mut out);
-    out
+    expanded(b"salt")
 }
 
 // The root seed.
 pub fn root() -> [u8; 16]
     ensures { result ≡ expanded root_label 16 }
 {
-    let mut out = [0u8; 16];
-    expand(b"root", &mut out);
-    out
+    expanded(b"root")
 }
 
 // Fills out with message 2: points and multipliers of all runs.
@@ -110,9 +115,7 @@ pub fn leaves(p: Parameters, out: &mut [u8])
 {
     expand(b"leaf", out);
     let n = layout::leaf_count(p);
-    let mut i = 0;
-    while i < out.len() {
-        out[i] = remainder(out[i], n);
-        i += 1;
+    for b in out.iter_mut() {
+        *b = remainder(*b, n);
     }
 }

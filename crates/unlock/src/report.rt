@@ -1,6 +1,5 @@
 // The lines that the program `unlock` prints, each written to the front of a lent array.
-ghost use Rattle.std.specs.Prelude.{◌≡◌, ◌∷◌, ◌++◌, ◌+◌, ◌≤◌, ◌<◌, length};
-ghost use Rattle.answers.specs.declared.Answer.TheVariants.{Refused};
+ghost use Rattle.std.specs.Prelude.{◌+◌, ◌≤◌, ◌<◌, length, Err};
 ghost use Rattle.parameters.specs.Limits.{Within};
 ghost use Rattle.keytext.specs.Listing.Laws.{Written};
 ghost use Rattle.layout.specs.Maxima.{most_runs};
@@ -30,9 +29,9 @@ fn put_number(out: &mut [u8], at: usize, n: usize) -> usize
     let a = text::print::put_decimal(out, at, n / 1_000);
     let rest = n % 1_000;
     let last = [
-        48 + (rest / 100) as u8,
-        48 + (rest / 10 % 10) as u8,
-        48 + (rest % 10) as u8,
+        b'0' + (rest / 100) as u8,
+        b'0' + (rest / 10 % 10) as u8,
+        b'0' + (rest % 10) as u8,
     ];
     put(out, a, &last)
 }
@@ -85,10 +84,10 @@ pub fn message_line(out: &mut [u8; 96], name: &[u8], message: &[u8]) -> usize
 
 // The line of the verdict, where a call was refused.
 fn refused_line(out: &mut [u8; 96], r: Refusal) -> usize
-    ensures { Written out.old 0 (verdict_line (Refused r)) result out.new }
+    ensures { Written out.old 0 (verdict_line (Err r)) result out.new }
 {
     let a = put(out, 0, b"verdict\trefused");
-    let b = number_field(out, a, answers::refusal_number(r) as usize);
+    let b = number_field(out, a, usize::from(u8::from(r)));
     put(out, b, b"\n")
 }
 
@@ -97,8 +96,8 @@ pub fn verdict_line(out: &mut [u8; 96], a: Answer) -> usize
     ensures { Written out.old 0 (verdict_line a) result out.new }
 {
     match a {
-        Answer::Done => put(out, 0, b"verdict\taccepted\n"),
-        Answer::Refused(r) => refused_line(out, r),
+        Ok(()) => put(out, 0, b"verdict\taccepted\n"),
+        Err(r) => refused_line(out, r),
     }
 }
 

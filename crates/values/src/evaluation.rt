@@ -25,14 +25,11 @@ fn add_terms(
         → values.new ≡ terms_of s.now n stride at x values.old) × (result ≡ made + n) }
 {
     let mut count = made;
-    let mut i = 0;
-    while i < n {
+    for (i, value) in values.iter_mut().enumerate() {
         let c = s[at + i * stride];
         let term = counted_product([c, 0, 0, 0], own, count);
-        let x = term.point;
-        values[i] = values[i] ^ word_of(x);
+        *value ^= word_of(term.point);
         count = term.made;
-        i += 1;
     }
     count
 }
@@ -83,20 +80,12 @@ pub fn values_at(
         × (result.made ≡ len * (n + 1)) × (0 < n → result.made ≤ 2 * (n * len)) }
 {
     packed::clear(values);
-    let mut power = [1u8, 0, 0, 0];
-    let mut count: usize = 0;
-    let mut at = from;
-    let mut left = len;
-    while 0 < left {
-        let next = next_term(s, n, stride, at, power, table, values, count);
-        let p = next.point;
-        power = p;
-        count = next.made;
-        at += 1;
-        left -= 1;
+    let mut power = Counted {
+        point: [1, 0, 0, 0],
+        made: 0,
+    };
+    for at in from..from + len {
+        power = next_term(s, n, stride, at, power.point, table, values, power.made);
     }
-    Counted {
-        point: power,
-        made: count,
-    }
+    power
 }

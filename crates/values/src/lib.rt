@@ -8,7 +8,6 @@ mod term;
 mod valued;
 
 ghost use Rattle.std.specs.Prelude.{◌≡◌, cond, [], ◌∷◌, ℕ, ◌<◌, ◌≤◌, length};
-ghost use Rattle.bytefield.specs.Tables.{field_tables};
 ghost use Rattle.tower.specs.Field.{point, bytes_of};
 ghost use Rattle.parameters.specs.Limits.{Within};
 ghost use Rattle.layout.specs.Layout.{at_x};
@@ -21,6 +20,7 @@ ghost use Rattle.values.specs.Products.{products_of};
 ghost use Rattle.values.specs.Shares.{Announcements};
 
 use crate::position::announce_at;
+use bytefield::FieldTables;
 use coefficients::Group;
 use layout::{
     LEAF_COEFFICIENTS, LONGEST_ROW, LONGEST_Y, factor_length, row_length, values_length, y_length,
@@ -38,19 +38,16 @@ pub fn announce_each(
     message2: &[u8],
     first: bool,
     out: &mut [u8],
-    tables: &[u8; 512],
+    tables: &FieldTables,
 ) -> usize
-    requires { EachAsked p n shares.now rows.now message2.now out.old × (tables.now ≡ field_tables) }
+    requires { EachAsked p n shares.now rows.now message2.now out.old }
     ensures { ((key : Key) → RowsOf p key first shares.now rows.now n
         → Announcements p key message2.now first shares.now n out.new) × (result ≡ products_of p n) }
 {
-    let mut made: usize = 0;
-    let mut l = 0;
-    while l < p.t {
-        let group = Group { n, first };
-        let products = announce_at(p, group, shares, rows, message2, l, out, tables);
-        made += products;
-        l += 1;
+    let group = Group { n, first };
+    let mut made = 0;
+    for l in 0..p.t {
+        made += announce_at(p, group, shares, rows, message2, l, out, tables);
     }
     made
 }
@@ -63,9 +60,9 @@ pub fn announce_leaf(
     message2: &[u8],
     matrix: &[u8],
     out: &mut [u8],
-    tables: &[u8; 512],
+    tables: &FieldTables,
 ) -> usize
-    requires { LeafAsked p s.now message2.now matrix.now out.old × (tables.now ≡ field_tables) }
+    requires { LeafAsked p s.now message2.now matrix.now out.old }
     ensures { (out.new ≡ leaf_values p matrix.now message2.now s.now) × (result ≡ products_of p 1) }
 {
     let y = [0u8; LONGEST_Y];
@@ -94,10 +91,7 @@ pub fn announce_leaf(
 fn where_first(first: bool, x: [u8; 4]) -> [u8; 4]
     ensures { result ≡ cond first x (0 ∷ 0 ∷ 0 ∷ 0 ∷ []) }
 {
-    if first {
-        return x;
-    }
-    [0, 0, 0, 0]
+    if first { x } else { [0, 0, 0, 0] }
 }
 
 // v at position l of the share s, with the constant where `first`, from its γ and the sums α̂ and β̂ over the axis:
@@ -110,9 +104,9 @@ pub fn v_at(
     gamma: [u8; 4],
     alpha: [u8; 4],
     beta: [u8; 4],
-    tables: &[u8; 512],
+    tables: &FieldTables,
 ) -> [u8; 4]
-    requires { Within p × (l < p.t) × (at_x p ≤ length s.now) × (tables.now ≡ field_tables) }
+    requires { Within p × (l < p.t) × (at_x p ≤ length s.now) }
     ensures { result ≡ bytes_of (v_of p s.now first (point gamma) (point alpha) (point beta) l) }
 {
     let constant = where_first(first, beta);

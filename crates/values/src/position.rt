@@ -1,6 +1,5 @@
 // What several shares announce at one position.
 ghost use Rattle.std.specs.Prelude.{◌≡◌, Bool, List, ℕ, ◌+◌, ◌*◌, ◌<◌, ◌≤◌, length};
-ghost use Rattle.bytefield.specs.Tables.{field_tables};
 ghost use Rattle.tower.specs.Field.{bytes_of};
 ghost use Rattle.exchange.specs.Reading.{value, ◌⊠◌};
 ghost use Rattle.exchange.specs.Values.{Key, F, point_of, multiplier_of};
@@ -11,6 +10,7 @@ ghost use Rattle.values.specs.Products.{products_at};
 
 use crate::term::{put_factors, put_gamma};
 use crate::valued::evaluate;
+use bytefield::FieldTables;
 use coefficients::Group;
 use layout::{MOST_EVALUATIONS, points_length, row_length, share_length};
 use parameters::Parameters;
@@ -47,20 +47,21 @@ fn announce_factors(
 {
     let size = share_length(p);
     let room = row_length(p);
-    let mut made: usize = 0;
-    let mut a = 0;
-    let mut b = 0;
-    let mut i = 0;
-    while i < n {
-        let e = a + size;
-        let f = b + room;
+    let mut made = 0;
+    for i in 0..n {
+        let share = i * size;
+        let row = i * room;
         let q = words[i] ^ leading;
         let r = words[n + i];
-        let terms = put_factors(p, &shares[a..e], l, q, r, table, &mut out[b..f]);
-        made += terms;
-        a = e;
-        b = f;
-        i += 1;
+        made += put_factors(
+            p,
+            &shares[share..share + size],
+            l,
+            q,
+            r,
+            table,
+            &mut out[row..row + room],
+        );
     }
     made
 }
@@ -85,19 +86,19 @@ fn announce_gammas(
     let size = share_length(p);
     let room = row_length(p);
     let behind = 2 * n + 1;
-    let mut made: usize = 0;
-    let mut a = 0;
-    let mut b = 0;
-    let mut i = 0;
-    while i < n {
-        let e = a + size;
-        let f = b + room;
+    let mut made = 0;
+    for i in 0..n {
+        let share = i * size;
+        let row = i * room;
         let v = words[behind + i];
-        let terms = put_gamma(p, &shares[a..e], l, v, table, &mut out[b..f]);
-        made += terms;
-        a = e;
-        b = f;
-        i += 1;
+        made += put_gamma(
+            p,
+            &shares[share..share + size],
+            l,
+            v,
+            table,
+            &mut out[row..row + room],
+        );
     }
     made
 }
@@ -112,21 +113,18 @@ fn announce_valued(
     words: &[u64],
     table: &mut [u64],
     out: &mut [u8],
-    tables: &[u8; 512],
+    tables: &FieldTables,
 ) -> usize
-    requires { SharesAsked p n shares.now at.l words.now out.old × (at.made ≤ 13005) × (length table.old ≡ 128) × (tables.now ≡ field_tables) }
+    requires { SharesAsked p n shares.now at.l words.now out.old × (at.made ≤ 13005) × (length table.old ≡ 128) }
     ensures { ((key : Key) (message2 : List ℕ) (first : Bool)
         → Valued p key first shares.now n (point_of p message2 at.l) words.now at.leading
         → at.multiplier ≡ bytes_of (multiplier_of p message2 at.l) → at.vanishing ≡ bytes_of (value (F p) (point_of p message2 at.l))
         → EachAnnounced p key message2 first shares.now at.l out.old out.new n) × (result ≡ at.made + 1 + 2 * n) }
 {
-    let e = at.multiplier;
-    multiples_of(table, e, tables);
+    multiples_of(table, at.multiplier, tables);
     let factors = announce_factors(p, n, shares, at.l, words, at.leading, table, out);
-    let x = at.vanishing;
-    let product = product_by(x, table, at.made + factors);
-    let y = product.point;
-    multiples_of(table, y, tables);
+    let product = product_by(at.vanishing, table, at.made + factors);
+    multiples_of(table, product.point, tables);
     let gammas = announce_gammas(p, n, shares, at.l, words, table, out);
     product.made + gammas
 }
@@ -140,9 +138,9 @@ pub fn announce_at(
     message2: &[u8],
     l: usize,
     out: &mut [u8],
-    tables: &[u8; 512],
+    tables: &FieldTables,
 ) -> usize
-    requires { EachAsked p group.n shares.now rows.now message2.now out.old × (l < p.t) × (tables.now ≡ field_tables) }
+    requires { EachAsked p group.n shares.now rows.now message2.now out.old × (l < p.t) }
     ensures { ((key : Key) → RowsOf p key group.first shares.now rows.now group.n
         → EachAnnounced p key message2.now group.first shares.now l out.old out.new group.n)
         × (result ≡ products_at p group.n) }

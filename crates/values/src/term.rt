@@ -22,8 +22,7 @@ fn put_term(out: &mut [u8], at: usize, value: u64, table: &[u64], x: [u8; 4], ma
         × (result ≡ made + 1) }
 {
     let product = product_by(point_of(value), table, made);
-    let q = product.point;
-    put_point(out, at, sum(q, x));
+    put_point(out, at, sum(product.point, x));
     product.made
 }
 

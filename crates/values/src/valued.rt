@@ -27,10 +27,7 @@ pub struct Evaluation {
 fn leading_word(first: bool, power: [u8; 4]) -> u64
     ensures { result ≡ word_of (cond first (point power) 𝟎) }
 {
-    if first {
-        return word_of(power);
-    }
-    0
+    if first { word_of(power) } else { 0 }
 }
 
 // words becomes the words of Q without its leading term, S, F and P at a point r, of which the table has all multiples: those of Q and of S of
@@ -58,11 +55,9 @@ pub fn evaluate(
     let q = values_at(shares, n, size, at, p.w, table, &mut words[..n]);
     let s = values_at(rows, n + 1, p.m, 0, p.m, table, &mut words[n..b]);
     let v = values_at(shares, n, size, behind, p.w, table, &mut words[b..]);
-    let power = s.point;
-    let last = q.point;
     Evaluation {
-        vanishing: sum(point_of(words[n + n]), power),
-        leading: leading_word(group.first, last),
+        vanishing: sum(point_of(words[n + n]), s.point),
+        leading: leading_word(group.first, q.point),
         made: q.made + s.made + v.made,
     }
 }

@@ -3,17 +3,17 @@
 -- message1_in m, message2_in m, message3_in m   messages 1, 2 and 3 in the list that holds them one behind the other, each in its place
 -- session f p runs m leaves   a session that holds these
 -- held s            what a session in code holds
--- given c           what a method returned: document 01's number of its answer, and the session
--- judged c work     the same of the opening, with what it left in the work area
+-- given a s         what a method returned and left: document 01's number of its answer, and the session
+-- judged a s work   the same of the opening, with what it left in the work area
 use Rattle.std.specs.Prelude.{List, ℕ}
 use Rattle.lists.specs.Part.{part}
+use Rattle.answers.specs.Answer.{Answer}
 use Rattle.answers.specs.Number.{answer_number}
 use Rattle.parameters.specs.declared.Parameters.{Parameters}
 use Rattle.layout.specs.Maxima.{most_message1, most_messages2, most_messages3}
 use Rattle.verifier_phase.specs.declared.Phase.{Phase}
 use Rattle.calls.specs.Verifier as spec
 use Rattle.verifier.specs.declared.Verifier.{Verifier}
-use Rattle.verifier.specs.declared.Called.{Called}
 pub mod Laws
 
 abbrev pub message2_place : ℕ
@@ -48,8 +48,8 @@ session f p runs m leaves = record {
 abbrev pub held : Verifier → spec.Verifier
 held s = session s.phase s.parameters s.runs s.messages s.leaves
 
-abbrev pub given : Called → spec.Outcome
-given c = record { answer = answer_number c.answer; verifier = held c.verifier }
+abbrev pub given : Answer → Verifier → spec.Outcome
+given a s = record { answer = answer_number a; verifier = held s }
 
-abbrev pub judged : Called → List ℕ → spec.Judged
-judged c work = record { answer = answer_number c.answer; verifier = held c.verifier; work = work }
+abbrev pub judged : Answer → Verifier → List ℕ → spec.Judged
+judged a s work = record { answer = answer_number a; verifier = held s; work = work }

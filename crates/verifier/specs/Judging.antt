@@ -6,7 +6,7 @@
 -- Turned                     what holds before run e is judged: its part of message 5 starts at `place`, the runs before it are accepted, and the work
 --                            area is as it was, or its named length is zeros
 -- RunAsked, RunsAsked        what the judging of a run and of all runs asks of its slices
-use Rattle.std.specs.Prelude.{◌≡◌, List, ℕ, ◌≤◌, ◌<◌, length, get_or}
+use Rattle.std.specs.Prelude.{◌≡◌, List, ℕ, ◌≤◌, ◌<◌, length, get_or, Ok}
 use Rattle.lists.specs.Zeroed.{zeroed}
 use Rattle.parameters.specs.declared.Parameters.{Parameters}
 use Rattle.parameters.specs.Limits.{Within}
@@ -15,8 +15,7 @@ use Rattle.layout.specs.Lent.{Lent}
 use Rattle.layout.specs.Maxima.{most_runs}
 use Rattle.layout.specs.Runs.{messages5_length, message5_place}
 use Rattle.shake256.specs.Fips.{SHAKE256}
-use Rattle.answers.specs.declared.Answer.{Answer}
-use Rattle.answers.specs.declared.Answer.TheVariants.{Done}
+use Rattle.answers.specs.Answer.{Answer}
 use Rattle.exchange.specs.Opening.{Exchange, verdict}
 use Rattle.exchange.specs.Values.{Key}
 use Rattle.runs.specs.Opening.{Transcript, transcript, exchange_at, lowest}
@@ -55,7 +54,7 @@ verdict_at p t key e = verdict SHAKE256 p (exchange_at p t e) key
 pub record Turned (p : Parameters) (t : Transcript) (key : Key) (before : List ℕ) (e place : ℕ) (work : List ℕ) : Type 0 where
   pub so_far : e ≤ length t.leaves
   pub is-place : place ≡ message5_place p t.leaves e
-  pub accepted : lowest (verdict_at p t key) e ≡ Done
+  pub accepted : lowest (verdict_at p t key) e ≡ Ok tt
   pub same_length : length work ≡ length before
   pub wiped : zeroed (work_length p) work ≡ zeroed (work_length p) before
   pub zeros : 1 ≤ e → work ≡ zeroed (work_length p) before

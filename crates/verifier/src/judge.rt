@@ -17,12 +17,6 @@ use openings::check_opening;
 use openings::statement::put_statement;
 use parameters::Parameters;
 
-fn wide(leaf: u8) -> usize
-    ensures { result ≡ leaf }
-{
-    leaf as usize
-}
-
 // Checks the opening of a run, from the messages 1 to 3 that the session holds, its hidden leaf and its part of message 5; the work
 // area ends as zeros.
 fn judge_run(
@@ -81,26 +75,21 @@ pub fn judge(
     ensures work_after { work.new ≡ zeroed (work_length p) work.old }
 {
     let area = work_length(p);
-    let mut e = 0;
     let mut place = 0;
-    while e < leaves.len() {
-        let leaf = wide(leaves[e]);
-        let size = message5_length(p, leaf);
-        let answer = judge_run(
+    for (e, leaf) in leaves.iter().enumerate() {
+        let leaf = usize::from(*leaf);
+        let end = place + message5_length(p, leaf);
+        judge_run(
             p,
             e,
             messages,
             leaf,
-            &message5[place..place + size],
+            &message5[place..end],
             matrix,
             y,
             &mut work[..area],
-        );
-        let Answer::Done = answer else {
-            return answer;
-        };
-        place = place + size;
-        e = e + 1;
+        )?;
+        place = end;
     }
-    Answer::Done
+    Ok(())
 }

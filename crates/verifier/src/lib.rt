@@ -11,7 +11,7 @@ ghost use Rattle.calls.specs.Verifier as spec;
 ghost use Rattle.verifier.specs.Held.{held, given, judged};
 
 use answers::Answer;
-use checks::{begin_checks, leaf_checks, opening_checks, points_checks, response_checks};
+use checks::begin_checks;
 use judge::judge;
 use layout::MOST_RUNS;
 use lists::put_at;
@@ -33,13 +33,6 @@ pub struct Verifier {
     pub runs: usize,
     pub messages: [u8; HELD],
     pub leaves: [u8; MOST_RUNS],
-}
-
-// A session after a call, with what the call answers.
-#[derive(Clone, Copy)]
-pub struct Called {
-    pub verifier: Verifier,
-    pub answer: Answer,
 }
 
 // A session before its first begin.
@@ -64,149 +57,119 @@ pub fn fresh() -> Verifier
 
 impl Verifier {
     // Begins an exchange of so many runs with its parameters and message 1; the exchange held is dropped.
-    pub fn begin(self, p: Parameters, runs: usize, message1: &[u8]) -> Called
-        ensures { given result ≡ spec.begin (held self) p runs message1.now }
+    pub fn start(&mut self, p: Parameters, runs: usize, message1: &[u8]) -> Answer
+        ensures { given result self.new ≡ spec.begin (held self.old) p runs message1.now }
     {
-        let checked = begin_checks(p, runs, message1);
-        let Answer::Done = checked else {
-            return Called {
-                verifier: self,
-                answer: checked,
-            };
-        };
-        let mut messages = [0u8; HELD];
-        put_at(&mut messages, 0, message1);
-        let next = Verifier {
-            phase: Phase::Begun,
-            parameters: p,
-            runs,
-            messages,
-            leaves: [0u8; MOST_RUNS],
-        };
-        Called {
-            verifier: next,
-            answer: Answer::Done,
-        }
+        begin_checks(p, runs, message1)?;
+        self.phase = Phase::Begun;
+        self.parameters = p;
+        self.runs = runs;
+        self.messages = [0u8; HELD];
+        put_at(&mut self.messages, 0, message1);
+        self.leaves = [0u8; MOST_RUNS];
+        Ok(())
     }
 
     // Takes message 2, which the verifier sends: points and multipliers of each run.
-    pub fn points(self, message2: &[u8]) -> Called
-        ensures { given result ≡ spec.points (held self) message2.now }
+    pub fn take_points(&mut self, message2: &[u8]) -> Answer
+        ensures { given result self.new ≡ spec.points (held self.old) message2.now }
     {
-        let phase = self.phase;
-        let parameters = self.parameters;
-        let runs = self.runs;
-        let leaves = self.leaves;
-        let checked = points_checks(phase, parameters, runs, &leaves, message2);
-        let Answer::Done = checked else {
-            return Called {
-                verifier: self,
-                answer: checked,
-            };
-        };
-        let mut messages = self.messages;
-        put_at(&mut messages, MESSAGE2_PLACE, message2);
-        let next = Verifier {
-            phase: Phase::Pointed,
-            parameters,
-            runs,
-            messages,
-            leaves,
-        };
-        Called {
-            verifier: next,
-            answer: Answer::Done,
-        }
+        self.points_checks(message2)?;
+        put_at(&mut self.messages, MESSAGE2_PLACE, message2);
+        self.phase = Phase::Pointed;
+        Ok(())
     }
 
     // Takes message 3, the response digest of each run.
-    pub fn response(self, message3: &[u8]) -> Called
-        ensures { given result ≡ spec.response (held self) message3.now }
+    pub fn take_response(&mut self, message3: &[u8]) -> Answer
+        ensures { given result self.new ≡ spec.response (held self.old) message3.now }
     {
-        let phase = self.phase;
-        let parameters = self.parameters;
-        let runs = self.runs;
-        let leaves = self.leaves;
-        let checked = response_checks(phase, parameters, runs, &leaves, message3);
-        let Answer::Done = checked else {
-            return Called {
-                verifier: self,
-                answer: checked,
-            };
-        };
-        let mut messages = self.messages;
-        put_at(&mut messages, MESSAGE3_PLACE, message3);
-        let next = Verifier {
-            phase: Phase::Responded,
-            parameters,
-            runs,
-            messages,
-            leaves,
-        };
-        Called {
-            verifier: next,
-            answer: Answer::Done,
-        }
+        self.response_checks(message3)?;
+        put_at(&mut self.messages, MESSAGE3_PLACE, message3);
+        self.phase = Phase::Responded;
+        Ok(())
     }
 
     // Takes message 4, the leaf that is to stay hidden in each run.
-    pub fn leaf(self, leaves: &[u8]) -> Called
-        ensures { given result ≡ spec.leaf (held self) leaves.now }
+    pub fn take_leaf(&mut self, leaves: &[u8]) -> Answer
+        ensures { given result self.new ≡ spec.leaf (held self.old) leaves.now }
     {
-        let phase = self.phase;
-        let parameters = self.parameters;
-        let runs = self.runs;
-        let mut chosen = self.leaves;
-        let checked = leaf_checks(phase, parameters, runs, &chosen, leaves);
-        let Answer::Done = checked else {
-            return Called {
-                verifier: self,
-                answer: checked,
-            };
-        };
-        let messages = self.messages;
-        put_at(&mut chosen, 0, leaves);
-        let next = Verifier {
-            phase: Phase::Chosen,
-            parameters,
-            runs,
-            messages,
-            leaves: chosen,
-        };
-        Called {
-            verifier: next,
-            answer: Answer::Done,
-        }
+        self.leaf_checks(leaves)?;
+        put_at(&mut self.leaves, 0, leaves);
+        self.phase = Phase::Chosen;
+        Ok(())
     }
 
     // Judges message 5, which opens all leaves of each run but the hidden one, and closes the exchange with the answer.
-    pub fn opening(self, message5: &[u8], matrix: &[u8], y: &[u8], work: &mut [u8]) -> Called
-        ensures { judged result work.new ≡ spec.opening SHAKE256 (held self) message5.now
+    pub fn take_opening(
+        &mut self,
+        message5: &[u8],
+        matrix: &[u8],
+        y: &[u8],
+        work: &mut [u8],
+    ) -> Answer
+        ensures { judged result self.new work.new ≡ spec.opening SHAKE256 (held self.old) message5.now
             (key_of matrix.now y.now) work.old }
     {
-        let phase = self.phase;
-        let p = self.parameters;
-        let runs = self.runs;
-        let leaves = self.leaves;
-        let checked = opening_checks(phase, p, runs, &leaves, message5, matrix, y, work);
-        let Answer::Done = checked else {
-            return Called {
-                verifier: self,
-                answer: checked,
-            };
-        };
-        let messages = self.messages;
-        let answer = judge(p, &messages, &leaves[..runs], message5, matrix, y, work);
-        let next = Verifier {
-            phase: Phase::Closed,
-            parameters: p,
-            runs,
-            messages,
+        self.opening_checks(message5, matrix, y, work)?;
+        let leaves = &self.leaves[..self.runs];
+        let answer = judge(
+            self.parameters,
+            &self.messages,
             leaves,
-        };
-        Called {
-            verifier: next,
-            answer,
-        }
+            message5,
+            matrix,
+            y,
+            work,
+        );
+        self.phase = Phase::Closed;
+        answer
+    }
+
+    // The same with the session by value, which is handed back beside the answer.
+    pub fn begin(mut self, p: Parameters, runs: usize, message1: &[u8]) -> (Self, Answer)
+        ensures { given result.1 result.0 ≡ spec.begin (held self) p runs message1.now }
+    {
+        let answer = self.start(p, runs, message1);
+        (self, answer)
+    }
+
+    // Likewise `take_points`.
+    pub fn points(mut self, message2: &[u8]) -> (Self, Answer)
+        ensures { given result.1 result.0 ≡ spec.points (held self) message2.now }
+    {
+        let answer = self.take_points(message2);
+        (self, answer)
+    }
+
+    // Likewise `take_response`.
+    pub fn response(mut self, message3: &[u8]) -> (Self, Answer)
+        ensures { given result.1 result.0 ≡ spec.response (held self) message3.now }
+    {
+        let answer = self.take_response(message3);
+        (self, answer)
+    }
+
+    // Likewise `take_leaf`.
+    pub fn leaf(mut self, leaves: &[u8]) -> (Self, Answer)
+        ensures { given result.1 result.0 ≡ spec.leaf (held self) leaves.now }
+    {
+        let answer = self.take_leaf(leaves);
+        (self, answer)
+    }
+
+    // Likewise `take_opening`.
+    pub fn opening(
+        mut self,
+        message5: &[u8],
+        matrix: &[u8],
+        y: &[u8],
+        work: &mut [u8],
+    ) -> (Self, Answer)
+        ensures { judged result.1 result.0 work.new ≡ spec.opening SHAKE256 (held self) message5.now
+            (key_of matrix.now y.now) work.old }
+    {
+        let answer = self.take_opening(message5, matrix, y, work);
+        (self, answer)
     }
 }

@@ -1,2 +1,3 @@
 -- The laws about the definitions of specs/.
 pub mod Phases
+pub mod Same

@@ -6,12 +6,11 @@
 -- number-from                   the number of a refusal is that of the refusal of the number
 -- refused-not-0                 a refusal's number is not 0
 -- six-unused                    no answer has the number 6
-use Rattle.std.specs.Prelude.{◌≡◌, refl, cond, ℕ, eqb}
+use Rattle.std.specs.Prelude.{◌≡◌, refl, cond, ℕ, eqb, Ok, Err}
 use Rattle.std.proofs.Common.{sym, ap, ◌∙◌, arith, ne_eqb}
 use Rattle.answers.specs.declared.Refusal.{Refusal}
 use Rattle.answers.specs.declared.Refusal.TheVariants.{Parameter, Length, Weight, Leaf, Commitment, Response, Exchange, SameLeaf, Malformed, NotDue, Closed, Repeated, SamePoint}
-use Rattle.answers.specs.declared.Answer.{Answer}
-use Rattle.answers.specs.declared.Answer.TheVariants.{Done, Refused}
+use Rattle.answers.specs.Answer.{Answer}
 use Rattle.answers.specs.Number.{refusal_number, answer_number}
 
 abbrev refusal_from : ℕ → Refusal
@@ -30,7 +29,7 @@ refusal_from n =
     (cond (eqb n 13) Repeated SamePoint)))))))))))
 
 abbrev answer_from : ℕ → Answer
-answer_from n = cond (eqb n 0) Done (Refused (refusal_from n))
+answer_from n = cond (eqb n 0) (Ok tt) (Err (refusal_from n))
 
 refusal-back : (r : Refusal) → refusal_from (refusal_number r) ≡ r
 refusal-back Parameter = refl
@@ -57,12 +56,12 @@ pub refused-not-0 : (r : Refusal) → refusal_number r ≡ 0 → ⊥
 refused-not-0 r e = let z : ◌≡◌ {A = ℕ} 14 0 = number-from r 0 e in omega arith
 
 pub six-unused : (a : Answer) → answer_number a ≡ 6 → ⊥
-six-unused Done e = omega arith
-six-unused (Refused r) e = let z : ◌≡◌ {A = ℕ} 14 6 = number-from r 6 e in omega arith
+six-unused (Ok _) e = omega arith
+six-unused (Err r) e = let z : ◌≡◌ {A = ℕ} 14 6 = number-from r 6 e in omega arith
 
 answer_back : (a : Answer) → answer_from (answer_number a) ≡ a
-answer_back Done = refl
-answer_back (Refused r) = rw (ne_eqb (refusal_number r) 0 (refused-not-0 r), refusal-back r)
+answer_back (Ok _) = refl
+answer_back (Err r) = rw (ne_eqb (refusal_number r) 0 (refused-not-0 r), refusal-back r)
 
 pub answers-apart : (a a' : Answer) → answer_number a ≡ answer_number a' → a ≡ a'
 answers-apart a a' e = sym (answer_back a) ∙ ap answer_from e ∙ answer_back a'

@@ -4,7 +4,7 @@
 -- hidden-some                a party holds the hidden leaf exactly where one is hidden
 -- axis-made                  an axis
 -- rows_made                  all axes
-use Rattle.std.specs.Prelude.{◌≡◌, refl, Bool, ℕ, zero, suc, ◌+◌, ◌-◌, ◌*◌, ◌≤◌, ◌<◌, eqb, length, get_or, take}
+use Rattle.std.specs.Prelude.{◌≡◌, refl, Bool, ℕ, zero, suc, ◌+◌, ◌*◌, ◌≤◌, ◌<◌, eqb, length, get_or, take}
 use Rattle.std.proofs.Math.Path.{sym, ap, ap₂}
 use Rattle.std.proofs.Common.{◌∙◌, zero-mul, mul-le-mul_right, arith, ne_eqb, lt-ltb, le-ltb, take-append-drop, length-drop, take_all}
 use Rattle.std.proofs.Math.Bool.{true, false, cond}
@@ -17,7 +17,7 @@ use Rattle.lists.specs.Sum.{xor_list}
 use Rattle.tower.specs.Field.{Point, bytes_of}
 use Rattle.tower.proofs.Field.Laws.{bytes_of-point}
 use Rattle.parameters.specs.declared.Parameters.{Parameters}
-use Rattle.layout.specs.Layout.{side, others, sum_count, sum_index, leaves, digit, factor_length, values_length, at_v}
+use Rattle.layout.specs.Layout.{side, others, sum_index, leaves, digit, factor_length, values_length, at_v}
 use Rattle.layout.specs.Layout.Laws.{digit_lt, side-others, index-lt}
 use Rattle.exchange.specs.Sequences.{joined}
 use Rattle.exchange.proofs.Sequences.Laws.{joined-ext}
@@ -27,7 +27,6 @@ use Rattle.exchange.specs.Values.{Key, alpha, beta}
 use Rattle.values.specs.Announced.{announced_of}
 use Rattle.values.specs.Filled.{filled-block}
 use Rattle.coefficients.specs.Shares.{share_of}
-use Rattle.values.specs.Products.{products_of}
 use Rattle.values.specs.Shares.{block_of}
 use Rattle.parties.specs.Sums.{less, with_last}
 use Rattle.parties.specs.Totals.{less-ext}
@@ -36,7 +35,7 @@ use Rattle.axes.specs.Row.{front_by, row_by, hidden_party, hiding_by, with_hidde
 use Rattle.axes.proofs.Laws.Row.{front_by-is, row_by-is, row-v}
 use Rattle.axes.specs.Announcing.{party_from, hidden_from, row_of}
 use Rattle.axes.proofs.Laws.Parties.{hat_alpha, hat_beta, total_v, formula_row, hiding_of, row_made, last_row}
-use Rattle.axes.specs.Axes.{Evaluated, party_row, formula_rows, hats_of, total_of, rows_by}
+use Rattle.axes.specs.Axes.{Evaluated, party_row, rows_by}
 
 -- ---- bytes read as points
 

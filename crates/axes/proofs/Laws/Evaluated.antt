@@ -1,6 +1,7 @@
 -- The blocks of some sums, evaluated together, and then of the others.
 --
 -- few-first            the sums with the constants are some of all
+-- Parted p sums blocks share row   how many places they take in the sums and in the blocks, and how many the others
 -- from_front, from_back   what is announced by sums in the front of a list, and behind it
 use Rattle.std.specs.Prelude.{◌≡◌, Bool, List, ◌++◌, ℕ, ◌+◌, ◌-◌, ◌*◌, ◌≤◌, ◌<◌, length, take, drop}
 use Rattle.std.proofs.Common.{sym, ap₂, ◌∙◌, zero-add, mul-le-mul_right, add-mul, arith, take-append-drop, length-take-le}
@@ -8,15 +9,48 @@ use Rattle.std.proofs.Math.Path.{ap}
 use Rattle.lists.specs.Part.{part}
 use Rattle.lists.specs.Part.Laws.{part-part, part-append-left, part-append-right, part-fits}
 use Rattle.parameters.specs.declared.Parameters.{Parameters}
-use Rattle.layout.specs.Layout.{others, sum_count, row_length, share_length}
+use Rattle.parameters.specs.Limits.{Within}
+use Rattle.layout.specs.Layout.{others, sum_count, row_length, share_length, sums_length, blocks_length}
+use Rattle.layout.specs.Layout.Bounds.{sums-most}
 use Rattle.layout.specs.Layout.Laws.{others-pos}
 use Rattle.exchange.specs.Values.{Key}
 use Rattle.coefficients.specs.Shares.{share_of}
 use Rattle.values.specs.Announced.{announced_of}
 use Rattle.values.specs.Shares.{block_of, Announcements}
+use Rattle.axes.specs.Axes.{rest_count}
 
 pub few-first : (p : Parameters) → p.axes + 1 ≤ sum_count p
 few-first p = let e : 1 * p.axes ≤ others p * p.axes = mul-le-mul_right p.axes (others-pos p) in omega arith
+
+pub record Parted (p : Parameters) (sums blocks : List ℕ) (share row : ℕ) : Type 0 where
+  pub few : p.axes + 1 ≤ 9
+  pub rest-few : rest_count p ≤ 9
+  pub sums-end : (p.axes + 1) * share ≡ (p.axes + 1) * share_length p
+  pub blocks-end : (p.axes + 1) * row ≡ (p.axes + 1) * row_length p
+  pub sums-are : length sums ≡ (p.axes + 1) * share_length p + rest_count p * share_length p
+  pub blocks-are : length blocks ≡ (p.axes + 1) * row_length p + rest_count p * row_length p
+  pub front-sums : length (take ((p.axes + 1) * share) sums) ≡ (p.axes + 1) * share_length p
+  pub front-blocks : length (take ((p.axes + 1) * row) blocks) ≡ (p.axes + 1) * row
+
+pub parted : (p : Parameters) (sums blocks : List ℕ) (share row : ℕ) → Within p → share ≡ share_length p → row ≡ row_length p → length sums ≡ sums_length p
+    → length blocks ≡ blocks_length p → Parted p sums blocks share row
+parted p sums blocks share row w es er ls lb =
+    let n = p.axes + 1 in
+    let e : sum_count p ≡ n + rest_count p = omega (arith, few-first p) in
+    let es' = ap (◌*◌ n) es in
+    let er' = ap (◌*◌ n) er in
+    let ls' = ls ∙ ap (λ (k : ℕ). k * share_length p) e ∙ add-mul n (rest_count p) (share_length p) in
+    let lb' = lb ∙ ap (λ (k : ℕ). k * row_length p) e ∙ add-mul n (rest_count p) (row_length p) in
+    record {
+      few = omega (arith, w.axes-most);
+      rest-few = omega (arith, sums-most p w);
+      sums-end = es';
+      blocks-end = er';
+      sums-are = ls';
+      blocks-are = lb';
+      front-sums = length-take-le _ sums (omega arith) ∙ es';
+      front-blocks = length-take-le _ blocks (omega arith);
+    }
 
 part-behind : (w : List ℕ) (a at n : ℕ) → a ≤ length w → part (drop a w) at n ≡ part w (a + at) n
 part-behind w a at n h =

@@ -1,19 +1,16 @@
-use Rattle.std.proofs.Common.{arith}
-use Rattle.bench_c.specs.Dot.{dot-start, dot-next, dot-end-a, dot-end-b}
+use Rattle.std.proofs.Common.{⊎_elim}
+use Rattle.bench_c.proofs.Left.{left-start, left-next, left-end-a, left-end-b}
 use Rattle.bench_c.proofs.bytefield_c_dot.Goals as goal
 
-pub loop-i-init : goal.loop-i-init
-loop-i-init c = (omega arith, dot-start _ _)
+pub loop-x-init : goal.loop-x-init
+loop-x-init c =
+    let f = c.zip-x-items.ensures in
+    rw c.into_iter-x-iterator.ensures.into_iter_gives (left-start _ _ _ _ (rw f.first c.iter.ensures.rest) f.second.0)
 
-pub returns-then-b-i : goal.returns-then-b-i
-returns-then-b-i c = let l = c.loop-i in dot-end-b _ _ _ l.i c.if-b-i.true l.invariant.1
-
-pub product-term-requires : goal.product-term-requires
-product-term-requires c = c.field_tables-tables.ensures
-
-pub loop-i-preserved : goal.loop-i-preserved
-loop-i-preserved c =
-    (omega arith, dot-next _ _ _ _ _ c.loop-i.i (omega arith) (omega arith) c.product-term.ensures c.sum-next.ensures c.loop-i.invariant.1)
+pub loop-x-preserved : goal.loop-x-preserved
+loop-x-preserved c =
+    let (ea, eb) = c.in-Some.ensures.steps in
+    left-next _ _ _ _ _ _ _ _ _ _ ea eb c.product.ensures c.sum-total.ensures c.loop-x.invariant
 
 pub returns : goal.returns
-returns c = let l = c.loop-i in dot-end-a _ _ _ l.i (omega arith) l.invariant.1
+returns c = ⊎_elim (λ q. left-end-a _ _ _ _ q.1.0 c.loop-x.invariant) (λ q. left-end-b _ _ _ _ q.1.0 c.loop-x.invariant) c.in-None.ensures.steps

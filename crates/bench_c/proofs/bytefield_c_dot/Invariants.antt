@@ -1,10 +1,8 @@
--- The loop's invariant: the total with the sum of the products from place i on is the whole sum.
-use Rattle.std.proofs.Common.{length, ◌-◌, ◌≤◌}
-use Rattle.bench_c.specs.Dot.{Sofar}
+-- The loop's invariant: the total with the sum of the products of what is left is the whole sum.
+use Rattle.std.proofs.Common.{◌≡◌}
+use Rattle.lists.specs.Xor.{◌⊕◌}
+use Rattle.bench_c.specs.Dot.{dot}
 use Rattle.bench_c.proofs.bytefield_c_dot.Given as goal
 
-abbrev pub invariant-loop-i : goal.invariant-loop-i
-invariant-loop-i l = (l.i ≤ length l.a) × Sofar l.a l.b l.total l.i
-
-abbrev pub decreases-loop-i : goal.decreases-loop-i
-decreases-loop-i l = length l.a - l.i
+abbrev pub invariant-loop-x : goal.invariant-loop-x
+invariant-loop-x l = l.total ⊕ dot l.x-iterator.a.rest.now l.x-iterator.b.rest.now ≡ dot l.a l.b

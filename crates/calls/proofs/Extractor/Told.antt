@@ -4,15 +4,14 @@
 -- second-given, first-given, early-given the second opening's checks, before them the first's, before them those before 5, give what is expected
 -- told                                   the call is what is expected: answer, output and work area
 -- number-told                            the number by itself
-use Rattle.std.specs.Prelude.{◌≡◌, Bool, ◌&&◌, not, cond, List, [], ◌∷◌, ◌++◌, ℕ, eqb}
+use Rattle.std.specs.Prelude.{◌≡◌, Bool, ◌&&◌, not, cond, List, [], ◌∷◌, ◌++◌, ℕ, eqb, Ok, Err}
 use Rattle.std.proofs.Math.Path.{refl, ap}
 use Rattle.std.proofs.Common.{sym, ap₂, ◌∙◌, eqb-true, ne_eqb}
 use Rattle.std.proofs.Math.Bool.{true, false}
 use Rattle.lists.specs.Zeroed.{zeroed}
 use Rattle.lists.specs.Equal.{eq_list}
 use Rattle.lists.specs.Checks.{all_true}
-use Rattle.answers.specs.declared.Answer.{Answer as Checked}
-use Rattle.answers.specs.declared.Answer.TheVariants.{Done, Refused}
+use Rattle.answers.specs.Answer.{Answer as Checked}
 use Rattle.answers.specs.declared.Refusal.{Refusal}
 use Rattle.answers.specs.declared.Refusal.TheVariants.{Parameter, Length, Leaf, Exchange as Differs, SameLeaf, SamePoint}
 use Rattle.answers.specs.Number.{refusal_number, answer_number}
@@ -53,14 +52,14 @@ module _ (hash : List ℕ → ℕ → List ℕ) (p : Parameters) (runs : ℕ) (t
 
   second-given : (a : Checked) → judged (answer_number a) ≡ true → second hash p runs t t' key work out a ≡ Given (answer_number a)
   unfolding second
-  second-given Done j = shown-found (extract hash p runs key t t' out)
-  second-given (Refused r) j = refused-given r j
+  second-given (Ok _) j = shown-found (extract hash p runs key t t' out)
+  second-given (Err r) j = refused-given r j
 
   first-given : (a : Checked) → judged (answer_number a) ≡ true
       → first hash p runs t t' key work out a ≡ Given (or_then (answer_number a) (answer_number (verdict hash p runs t' key)))
   unfolding first
-  first-given Done j = second-given (verdict hash p runs t' key) (verdict-judged hash p runs t' key)
-  first-given (Refused r) j = rw (ne_eqb (refusal_number r) 0 (refused-not-0 r)) (refused-given r j)
+  first-given (Ok _) j = second-given (verdict hash p runs t' key) (verdict-judged hash p runs t' key)
+  first-given (Err r) j = rw (ne_eqb (refusal_number r) 0 (refused-not-0 r)) (refused-given r j)
 
   -- the checks before 5 in their order, then those of the openings
   early-given : (a b c d e f : Bool)

@@ -3,15 +3,14 @@
 -- accepted-run, refused-run   a run's verdict, by whether its digests differ
 -- verdict-told       an opening's checks give the number of its conditions by document 01's order
 -- verdict-judged     an opening whose checks are made is judged: accepted, 5 or 7
-use Rattle.std.specs.Prelude.{◌≡◌, Bool, ◌&&◌, ◌||◌, List, [], ◌∷◌, ℕ, ◌<◌, ltb}
+use Rattle.std.specs.Prelude.{◌≡◌, Bool, ◌&&◌, ◌||◌, List, [], ◌∷◌, ℕ, ◌<◌, ltb, Ok, Err}
 use Rattle.std.proofs.Math.Path.{refl}
 use Rattle.std.proofs.Common.{sym, ap, ◌∙◌, true≢false, arith, lt-ltb, le-ltb}
 use Rattle.std.proofs.Math.Bool.{true, false, not}
 use Rattle.std.proofs.lemmas.Bool.{false≢true}
 use Rattle.std.proofs.Math.Decide.{dec_lt}
 use Rattle.lists.specs.Equal.{eq_list}
-use Rattle.answers.specs.declared.Answer.{Answer}
-use Rattle.answers.specs.declared.Answer.TheVariants.{Done, Refused}
+use Rattle.answers.specs.Answer.{Answer}
 use Rattle.answers.specs.declared.Refusal.{Refusal}
 use Rattle.answers.specs.declared.Refusal.TheVariants.{Commitment, Response}
 use Rattle.answers.specs.Number.{answer_number}
@@ -38,19 +37,19 @@ none_told d q = refl
 -- ---- a run
 
 module _ (hash : List ℕ → ℕ → List ℕ) (p : Parameters) (key : Key) (e : Exchange) where
-  accepted-run : (digest_differs hash p e || response_differs hash p key e) ≡ false → run.verdict hash p e key ≡ Done
+  accepted-run : (digest_differs hash p e || response_differs hash p key e) ≡ false → run.verdict hash p e key ≡ Ok tt
   unfolding run.verdict digest_differs response_differs
   accepted-run = go (eq_list (hash (commitment_string hash p e) 32) e.h) (eq_list (hash (response_string hash p e key) 32) e.message3)
     where
-      go : (a b : Bool) → (not a || not b) ≡ false → checks ((a, Commitment) ∷ (b, Response) ∷ []) ≡ Done
+      go : (a b : Bool) → (not a || not b) ≡ false → checks ((a, Commitment) ∷ (b, Response) ∷ []) ≡ Ok tt
       go true true h = refl
       go true false h = absurd (true≢false h)
       go false b h = absurd (true≢false h)
 
   record RefusedRun : Type 0 where
     pub refusal : Refusal
-    pub refuses : run.verdict hash p e key ≡ Refused refusal
-    pub number : answer_number (Refused refusal) ≡ answer_of (conditions_of true (digest_differs hash p e) (response_differs hash p key e))
+    pub refuses : run.verdict hash p e key ≡ Err refusal
+    pub number : answer_number (Err refusal) ≡ answer_of (conditions_of true (digest_differs hash p e) (response_differs hash p key e))
 
   refused-run : (digest_differs hash p e || response_differs hash p key e) ≡ true → RefusedRun
   unfolding run.verdict digest_differs response_differs answer_of first_of holds
@@ -82,7 +81,7 @@ module _ (hash : List ℕ → ℕ → List ℕ) (p : Parameters) (runs : ℕ) (t
   verdict_at e = run.verdict hash p (exchange_at p t e) key
 
   -- the runs before the lowest refused one are accepted
-  before-accepted : (r : ℕ) → Least differs runs r → lowest verdict_at r ≡ Done
+  before-accepted : (r : ℕ) → Least differs runs r → lowest verdict_at r ≡ Ok tt
   before-accepted r least = lowest-all verdict_at r (λ e l. accepted-run hash p key (exchange_at p t e) (least.before e l))
 
   verdict-at : (r : ℕ) → Least differs runs r

@@ -6,7 +6,7 @@
 -- begin-due                   'Begin is due always': neither 11 nor 12
 -- damaged, damaged-closed     a session that is neither fresh nor intact counts as closed and answers every other call with 12
 -- held-repeats                13 wherever the session is not fresh, damaged or not
-use Rattle.std.specs.Prelude.{◌≡◌, refl, Bool, true, false, ◌&&◌, cond, ℕ, ◌+◌, ◌≤◌}
+use Rattle.std.specs.Prelude.{◌≡◌, refl, Bool, true, false, ◌&&◌, cond, ℕ, ◌+◌, ◌≤◌, Ok}
 use Rattle.std.proofs.Common.{sym, ap, ◌∙◌, true≢false}
 use Rattle.std.proofs.lemmas.Bool.{false≢true}
 use mathlib.Core.List.{List, [], ◌∷◌}
@@ -15,7 +15,6 @@ use Rattle.std.proofs.Math.Decide.{ℕ_discrete}
 use Rattle.std.proofs.Math.Dec.{eqb}
 use borrow.Author.Tests.{le-leb, eq-eqb, ne_eqb}
 use Rattle.lists.specs.Equal.Laws.{eq_list-of}
-use Rattle.answers.specs.declared.Answer.TheVariants.{Done}
 use Rattle.answers.specs.Order.{holds, first_of, answer_of}
 use Rattle.parameters.specs.Limits.Laws.{within-test}
 use Rattle.relation.specs.Key.{weight_of}
@@ -145,11 +144,11 @@ begin-refused : {A : Type 0} (n : ℕ) → eqb n 0 ≡ false → n ≡ 0 → A
 begin-refused n h z = absurd (true≢false (sym (eq-eqb n 0 z) ∙ h))
 
 module _ (hash : List ℕ → ℕ → List ℕ) where
-  points-begun : (s : Prover) (m2 : List ℕ) (key : Key) (work out : List ℕ) → points_checks hash s m2 key work out ≡ Done → standing s ≡ Begun
+  points-begun : (s : Prover) (m2 : List ℕ) (key : Key) (work out : List ℕ) → points_checks hash s m2 key work out ≡ Ok tt → standing s ≡ Begun
   unfolding points_due
   points-begun s m2 key work out e = begun-phase (standing s) (points-passed hash s work out key m2 e).0
 
-  leaf-answered : (s : Prover) (is : List ℕ) (key : Key) (work out : List ℕ) → leaf_checks hash s is key work out ≡ Done → standing s ≡ Answered
+  leaf-answered : (s : Prover) (is : List ℕ) (key : Key) (work out : List ℕ) → leaf_checks hash s is key work out ≡ Ok tt → standing s ≡ Answered
   unfolding leaf_due
   leaf-answered s is key work out e = answered-phase (standing s) (leaf-passed hash s work out key is e)
 

@@ -3,13 +3,12 @@
 -- begin-ordered, points-ordered, leaf-ordered   the number is the first of the order whose condition holds
 -- begin-by, points-by, leaf-by                  what a number says of the conditions
 -- begin-allowed, points-passed, leaf-passed     what checks that pass say
-use Rattle.std.specs.Prelude.{◌≡◌, refl, Bool, true, false, ◌&&◌, not, cond, List, [], ◌∷◌, ℕ, leb}
+use Rattle.std.specs.Prelude.{◌≡◌, refl, Bool, true, false, ◌&&◌, not, cond, List, [], ◌∷◌, ℕ, leb, Ok}
 use Rattle.std.proofs.Common.{sym, ap, ◌∙◌, arith, leb-true}
 use Rattle.std.proofs.Math.Bool.{not-not}
 use Rattle.std.proofs.lemmas.Bool.{not-false}
 use Rattle.lists.specs.Checks.{all_true}
 use Rattle.lists.specs.Checks.Laws.{and_left, and_right}
-use Rattle.answers.specs.declared.Answer.TheVariants.{Done}
 use Rattle.answers.specs.declared.Refusal.TheVariants.{Parameter, Length, Weight, Leaf, NotDue, Closed as ExchangeClosed, Repeated, SamePoint}
 use Rattle.answers.specs.Number.{answer_number}
 use Rattle.answers.specs.Checks.{checks}
@@ -123,18 +122,18 @@ allowed-by b work out within sized light = record {
 }
 
 module _ (hash : List ℕ → ℕ → List ℕ) (s : Prover) (work out : List ℕ) where
-  pub begin-allowed : (b : Begin) → begin_checks hash s b.parameters b.runs b.x_a b.salt b.root b.key work out ≡ Done → Allowed b work out
+  pub begin-allowed : (b : Begin) → begin_checks hash s b.parameters b.runs b.x_a b.salt b.root b.key work out ≡ Ok tt → Allowed b work out
   begin-allowed b e =
       let t = begin-by _ _ _ _ false (sym (begin-ordered hash s work out b) ∙ ap answer_number e) in
       allowed-by b work out t.0 t.1 t.2
 
   module _ (key : Key) where
-    pub points-passed : (m2 : List ℕ) → points_checks hash s m2 key work out ≡ Done
+    pub points-passed : (m2 : List ℕ) → points_checks hash s m2 key work out ≡ Ok tt
         → (points_due s ≡ true) × (all_true (points_lengths s.parameters s.runs m2 key work out) ≡ true)
         × (distinct_points s.parameters s.runs m2 ≡ true)
     points-passed m2 e =
         let t = points-by _ _ _ _ (sym (points-ordered hash s work out key m2) ∙ ap answer_number e) in
         (not-false _ t.1, not-false _ t.2, not-false _ t.3)
 
-    pub leaf-passed : (is : List ℕ) → leaf_checks hash s is key work out ≡ Done → leaf_due s ≡ true
+    pub leaf-passed : (is : List ℕ) → leaf_checks hash s is key work out ≡ Ok tt → leaf_due s ≡ true
     leaf-passed is e = not-false _ (leaf-by _ _ _ _ (sym (leaf-ordered hash s work out key is) ∙ ap answer_number e)).1

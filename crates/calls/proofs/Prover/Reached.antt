@@ -8,7 +8,7 @@
 -- reached             so is the session after any calls from a fresh one
 -- secret-held         it holds the x of the last begin
 -- guard-idle          its phase is the one that counts: the guard `intact` changes nothing
-use Rattle.std.specs.Prelude.{◌≡◌, Bool, ℕ, ◌+◌, replicate, take, drop}
+use Rattle.std.specs.Prelude.{◌≡◌, Bool, ℕ, ◌+◌, replicate, take, drop, Ok}
 use Rattle.std.proofs.Math.Path.{refl, ap}
 use Rattle.std.proofs.Common.{sym, subst, ◌∙◌, arith}
 use Rattle.std.proofs.Math.Bool.{true, false, or-true}
@@ -21,7 +21,6 @@ use Rattle.std.proofs.Math.Seq.{take_at}
 use borrow.Author.Tests.{le-leb, eqb-true, eq-eqb, ne_eqb}
 use Rattle.lists.specs.Part.{put_at}
 use Rattle.lists.specs.Checks.Laws.{all-at}
-use Rattle.answers.specs.declared.Answer.TheVariants.{Done}
 use Rattle.parameters.specs.Limits.Laws.{within-test}
 use Rattle.relation.specs.Key.{weight_of}
 use Rattle.relation.proofs.Laws.Key.Vector.{length-vector}
@@ -117,19 +116,19 @@ standing-told o q l (challenged b m2 l' ok sized) = stands (session_told (some b
 
 module _ (hash : List ℕ → ℕ → List ℕ) where
   module _ (o : Option Begin) (q : Option (List ℕ)) (l : Bool) (ok : Orderly o q l) where
-    pub points-begun : (m2 : List ℕ) (key : Key) (work out : List ℕ) → points_checks hash (session_told o q l) m2 key work out ≡ Done
+    pub points-begun : (m2 : List ℕ) (key : Key) (work out : List ℕ) → points_checks hash (session_told o q l) m2 key work out ≡ Ok tt
         → is_begun (session_told o q l).phase ≡ true
     unfolding points_due
     points-begun m2 key work out e = ap is_begun (sym (standing-told o q l ok)) ∙ (points-passed hash (session_told o q l) work out key m2 e).0
 
-    points-sized : (m2 : List ℕ) (key : Key) (work out : List ℕ) → points_checks hash (session_told o q l) m2 key work out ≡ Done
+    points-sized : (m2 : List ℕ) (key : Key) (work out : List ℕ) → points_checks hash (session_told o q l) m2 key work out ≡ Ok tt
         → length m2 ≡ messages2_length (session_told o q l).parameters (session_told o q l).runs
     points-sized m2 key work out e =
         let s = session_told o q l in
         let tests = points_lengths s.parameters s.runs m2 key work out in
         eqb-true (length m2) (messages2_length s.parameters s.runs) (all-at tests (points-passed hash s work out key m2 e).1 0)
 
-    pub leaf-answered : (is : List ℕ) (key : Key) (work out : List ℕ) → leaf_checks hash (session_told o q l) is key work out ≡ Done
+    pub leaf-answered : (is : List ℕ) (key : Key) (work out : List ℕ) → leaf_checks hash (session_told o q l) is key work out ≡ Ok tt
         → is_answered (session_told o q l).phase ≡ true
     unfolding leaf_due
     leaf-answered is key work out e = ap is_answered (sym (standing-told o q l ok)) ∙ leaf-passed hash (session_told o q l) work out key is e

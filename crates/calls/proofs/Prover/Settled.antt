@@ -7,11 +7,10 @@
 -- carried           number 0: all checks passed, and the call was carried out
 -- refused-same      any other number: session, output and work area are as they were
 -- seen_as_lem       number, output and work area of a call, from its number
-use Rattle.std.specs.Prelude.{◌≡◌, cond, List, ℕ, eqb}
+use Rattle.std.specs.Prelude.{◌≡◌, cond, List, ℕ, eqb, Ok, Err}
 use Rattle.std.proofs.Math.Path.{refl}
 use Rattle.std.proofs.Common.{sym, ap, ◌∙◌, ne_eqb}
-use Rattle.answers.specs.declared.Answer.{Answer}
-use Rattle.answers.specs.declared.Answer.TheVariants.{Done, Refused}
+use Rattle.answers.specs.Answer.{Answer}
 use Rattle.answers.specs.Number.{refusal_number, answer_number}
 use Rattle.answers.specs.Number.Laws.{refused-not-0}
 use Rattle.calls.specs.Prover.{Prover, Outcome, settle, begin_checks, points_checks, leaf_checks, begun, answered, opened, begin, points, leaf}
@@ -20,27 +19,27 @@ use Rattle.calls.specs.Prover.History.{Call, begin_call, points_call, leaf_call,
 -- ---- by the answer of the checks
 
 settle-number : (a : Answer) (s : Prover) (out work : List ℕ) (done : Outcome) → done.answer ≡ 0 → (settle a s out work done).answer ≡ answer_number a
-settle-number Done s out work done d = d
-settle-number (Refused r) s out work done d = refl
+settle-number (Ok _) s out work done d = d
+settle-number (Err r) s out work done d = refl
 
 settle-carried : (a : Answer) (s : Prover) (out work : List ℕ) (done : Outcome) → (settle a s out work done).answer ≡ 0
-    → (a ≡ Done) × (settle a s out work done ≡ done)
-settle-carried Done s out work done e = (refl, refl)
-settle-carried (Refused r) s out work done e = absurd (refused-not-0 r e)
+    → (a ≡ Ok tt) × (settle a s out work done ≡ done)
+settle-carried (Ok _) s out work done e = (refl, refl)
+settle-carried (Err r) s out work done e = absurd (refused-not-0 r e)
 
 settle-refused : (a : Answer) (s : Prover) (out work : List ℕ) (done : Outcome) → done.answer ≡ 0 → ((settle a s out work done).answer ≡ 0 → ⊥)
     → settle a s out work done ≡ record { answer = (settle a s out work done).answer; prover = s; out = out; work = work }
-settle-refused Done s out work done d e = absurd (e d)
-settle-refused (Refused r) s out work done d e = refl
+settle-refused (Ok _) s out work done d e = absurd (e d)
+settle-refused (Err r) s out work done d e = refl
 
 abbrev seen_as : ℕ → List ℕ → List ℕ → List ℕ → List ℕ → Seen
 seen_as n message zeros out work = record { number = n; out = cond (eqb n 0) message out; work = cond (eqb n 0) zeros work }
 
 settle-seen : (a : Answer) (s : Prover) (out work : List ℕ) (done : Outcome) (message zeros : List ℕ) → done.answer ≡ 0
-    → (a ≡ Done → (done.out ≡ message) × (done.work ≡ zeros))
+    → (a ≡ Ok tt → (done.out ≡ message) × (done.work ≡ zeros))
     → seen (settle a s out work done) ≡ seen_as (answer_number a) message zeros out work
-settle-seen Done s out work done message zeros d gives = rw (d, (gives refl).0, (gives refl).1)
-settle-seen (Refused r) s out work done message zeros d gives = rw (ne_eqb (refusal_number r) 0 (refused-not-0 r))
+settle-seen (Ok _) s out work done message zeros d gives = rw (d, (gives refl).0, (gives refl).1)
+settle-seen (Err r) s out work done message zeros d gives = rw (ne_eqb (refusal_number r) 0 (refused-not-0 r))
 
 -- ---- of a call
 
@@ -70,7 +69,7 @@ module _ (hash : List ℕ → ℕ → List ℕ) (s : Prover) where
   pub number-of : (c : Call) → (outcome hash s c).answer ≡ answer_number (checks_of c)
   number-of c = ap (λ (o : Outcome). o.answer) (settles c) ∙ settle-number (checks_of c) s (lent_out c) (lent_work c) (done_of c) (done-number c)
 
-  pub carried : (c : Call) → (outcome hash s c).answer ≡ 0 → (checks_of c ≡ Done) × (outcome hash s c ≡ done_of c)
+  pub carried : (c : Call) → (outcome hash s c).answer ≡ 0 → (checks_of c ≡ Ok tt) × (outcome hash s c ≡ done_of c)
   carried c e =
       let q = settle-carried (checks_of c) s (lent_out c) (lent_work c) (done_of c) (ap (λ (o : Outcome). o.answer) (sym (settles c)) ∙ e) in
       (q.0, settles c ∙ q.1)
@@ -83,7 +82,7 @@ module _ (hash : List ℕ → ℕ → List ℕ) (s : Prover) where
       ∙ ap (λ (n : ℕ). record { answer = n; prover = s; out = lent_out c; work = lent_work c }) (sym number)
 
   pub seen_as_lem : (c : Call) (n : ℕ) (message zeros : List ℕ) → answer_number (checks_of c) ≡ n
-      → (checks_of c ≡ Done → ((done_of c).out ≡ message) × ((done_of c).work ≡ zeros))
+      → (checks_of c ≡ Ok tt → ((done_of c).out ≡ message) × ((done_of c).work ≡ zeros))
       → seen (outcome hash s c) ≡ seen_as n message zeros (lent_out c) (lent_work c)
   seen_as_lem c n message zeros e gives =
       ap seen (settles c) ∙ settle-seen (checks_of c) s (lent_out c) (lent_work c) (done_of c) message zeros (done-number c) gives

@@ -7,7 +7,7 @@
 -- told-by-calls                            number, output and work area
 -- number-told                              the number alone
 -- repeated-after                           13 is decided by the last begin carried out
-use Rattle.std.specs.Prelude.{◌≡◌, refl, Bool, true, ◌&&◌, ◌||◌, not, List, [], ◌∷◌, ℕ, ◌+◌, leb, length, replicate, take, drop}
+use Rattle.std.specs.Prelude.{◌≡◌, refl, Bool, true, ◌&&◌, ◌||◌, not, List, [], ◌∷◌, ℕ, ◌+◌, leb, length, replicate, take, drop, Ok}
 use Rattle.std.proofs.Common.{sym, subst, ◌∙◌, take_at}
 use Rattle.std.proofs.Math.Path.{ap}
 use Rattle.std.proofs.Math.Bool.{false}
@@ -16,7 +16,6 @@ use Rattle.std.proofs.Math.Option.{Option, none, some}
 use Rattle.lists.specs.Part.{put_at}
 use Rattle.lists.specs.Zeroed.{zeroed}
 use Rattle.lists.specs.Checks.{all_true}
-use Rattle.answers.specs.declared.Answer.TheVariants.{Done}
 use Rattle.answers.specs.Number.{answer_number}
 use Rattle.answers.specs.Order.{Conditions, holds, first_of, answer_of}
 use Rattle.parameters.specs.Limits.{within_limits}
@@ -156,7 +155,7 @@ module _ (hash : List ℕ → ℕ → List ℕ) where
         → message3 hash b.parameters b.runs x b.salt b.root key m2 ≡ message3_by (some b)
     message3-of b e = ap (λ (x : List ℕ). message3 hash b.parameters b.runs x b.salt b.root key m2) e
 
-    points-gives : (o : Option Begin) (q : Option (List ℕ)) (l : Bool) → Orderly o q l → points_checks hash (session_told o q l) m2 key work out ≡ Done
+    points-gives : (o : Option Begin) (q : Option (List ℕ)) (l : Bool) → Orderly o q l → points_checks hash (session_told o q l) m2 key work out ≡ Ok tt
         → ((answered hash (session_told o q l) m2 key work out).out ≡ message3_by o)
         × ((answered hash (session_told o q l) m2 key work out).work ≡ zeroed (told o 0 (λ b. work_length b.parameters)) work)
     unfolding answered fresh
@@ -169,7 +168,7 @@ module _ (hash : List ℕ → ℕ → List ℕ) where
     message5_by o q =
         told o [] (λ b. told q [] (λ m2. message5 hash b.parameters b.runs (secret_of b) b.salt b.root key m2 is))
 
-    leaf-gives : (o : Option Begin) (q : Option (List ℕ)) (l : Bool) → Orderly o q l → leaf_checks hash (session_told o q l) is key work out ≡ Done
+    leaf-gives : (o : Option Begin) (q : Option (List ℕ)) (l : Bool) → Orderly o q l → leaf_checks hash (session_told o q l) is key work out ≡ Ok tt
         → ((opened hash (session_told o q l) is key work out).out ≡ message5_by o q)
         × ((opened hash (session_told o q l) is key work out).work ≡ zeroed (told o 0 (λ b. work_length b.parameters)) work)
     unfolding opened held_message2 fresh

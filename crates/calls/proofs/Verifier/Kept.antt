@@ -7,7 +7,7 @@
 -- judged-ended     a judged opening closes the session and leaves the named length of the work area zeros: '5, 6, 7 close the verifier',
 --                  'Closing changes nothing else that a session holds'
 -- ended-closed     such a session is closed
-use Rattle.std.specs.Prelude.{◌≡◌, not, cond, ◌||◌, ◌&&◌, List, [], ◌∷◌, length}
+use Rattle.std.specs.Prelude.{◌≡◌, not, cond, ◌||◌, ◌&&◌, List, [], ◌∷◌, length, Ok, Err}
 use Rattle.std.proofs.Math.Path.{refl}
 use Rattle.std.proofs.Common.{sym, ◌∙◌, true≢false, arith}
 use Rattle.std.proofs.Math.Bool.{Bool, true, false}
@@ -16,8 +16,7 @@ use Prim.Native.Nat.{ℕ}
 use Rattle.std.proofs.Math.Dec.{eqb}
 use Rattle.lists.specs.Zeroed.{zeroed}
 use Rattle.lists.specs.Checks.{all_true}
-use Rattle.answers.specs.declared.Answer.{Answer}
-use Rattle.answers.specs.declared.Answer.TheVariants.{Done, Refused}
+use Rattle.answers.specs.Answer.{Answer}
 use Rattle.answers.specs.declared.Refusal.TheVariants.{Parameter, Length, NotDue, Closed as ExchangeClosed}
 use Rattle.answers.specs.Checks.{checks}
 use Rattle.parameters.specs.Limits.{within_limits}
@@ -35,8 +34,8 @@ use Rattle.calls.specs.Verifier.Since.{counted}
 
 settle-same : (a : Answer) (s next : Verifier) → (eqb (settle a s next).answer 0 || (judged (settle a s next).answer && false)) ≡ false
     → (settle a s next).verifier ≡ s
-settle-same Done s next e = absurd (true≢false e)
-settle-same (Refused r) s next e = refl
+settle-same (Ok _) s next e = absurd (true≢false e)
+settle-same (Err r) s next e = refl
 
 module _ (hash : List ℕ → ℕ → List ℕ) (s : Verifier) where
   pub begin-due : (b : Begin) → ((outcome hash s (begin_call b)).answer ≡ 11 → ⊥) × ((outcome hash s (begin_call b)).answer ≡ 12 → ⊥)

@@ -5,11 +5,10 @@
 -- begin-taken, points-taken, response-taken, leaf-taken, opening-judged   the call that is due is carried out, where its message is as it has to be
 use Rattle.std.proofs.Math.Path.{◌≡◌, refl, sym, ap}
 use Rattle.std.proofs.Common.{◌∙◌, arith}
-use Rattle.std.specs.Prelude.{Bool, List, [], ◌∷◌, ◌↔◌, ℕ, length}
+use Rattle.std.specs.Prelude.{Bool, List, [], ◌∷◌, ◌↔◌, ℕ, length, Ok}
 use Rattle.std.proofs.Math.Bool.{true, false}
 use borrow.Author.Tests.{eq-eqb}
 use Rattle.lists.specs.Checks.{all_true}
-use Rattle.answers.specs.declared.Answer.TheVariants.{Done}
 use Rattle.answers.specs.Number.{answer_number}
 use Rattle.answers.specs.Number.Laws.{answers-apart}
 use Rattle.answers.specs.Order.{holds, first_of, answer_of}
@@ -73,7 +72,7 @@ module _ (hash : List ℕ → ℕ → List ℕ) where
           lengths = p;
           accepted =
               accepted-then hash b.parameters b.runs (transcript b.message1 m2 m3 is m5) key
-              (answers-apart (verdict hash b.parameters b.runs (transcript b.message1 m2 m3 is m5) key) Done
+              (answers-apart (verdict hash b.parameters b.runs (transcript b.message1 m2 m3 is m5) key) (Ok tt)
               (sym (opening-told hash b m2 m3 is m5 key work p) ∙ z));
         }
         go false p = absurd (let q : ◌≡◌ {A = ℕ} 2 0 = sym (opening-refused hash b m2 m3 is m5 key work p) ∙ z in omega arith)

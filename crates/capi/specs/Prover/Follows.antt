@@ -3,7 +3,7 @@
 -- Follows r o                 r answers what o answers and gives what o gives, and its bytes are o's session
 -- new-follows, new-size       a fresh session's bytes are one
 -- begin-follows, points-follows, leaf-follows   each call does
-use Rattle.std.specs.Prelude.{◌≡◌, not, ◌&&◌, List, ℕ, ◌≤◌, replicate}
+use Rattle.std.specs.Prelude.{◌≡◌, not, ◌&&◌, List, ℕ, ◌≤◌, replicate, Ok, Err}
 use Rattle.std.proofs.Math.Path.{refl, ap}
 use Rattle.std.proofs.Common.{◌∙◌, arith}
 use Rattle.std.proofs.Math.ListN.{length}
@@ -15,8 +15,7 @@ use Rattle.lists.specs.Part.{put_at}
 use Rattle.lists.specs.Part.Laws.{length_part, length-put_at}
 use Rattle.answers.specs.Number.{refusal_number}
 use Rattle.answers.specs.Number.Laws.{refused-not-0}
-use Rattle.answers.specs.declared.Answer.{Answer}
-use Rattle.answers.specs.declared.Answer.TheVariants.{Done, Refused}
+use Rattle.answers.specs.Answer.{Answer}
 use Rattle.answers.specs.declared.Refusal.TheVariants.{Parameter, Length, NotDue, Closed as ExchangeClosed}
 use Rattle.answers.specs.Checks.Laws.{check-true, check-rest}
 use Rattle.parameters.specs.declared.Parameters.{Parameters}
@@ -74,17 +73,17 @@ module _ (b : List ℕ) (size : length b ≡ prover_size) where
 
   -- ---- any call
 
-  settle-follows : (a : Answer) (out work : List ℕ) (done : Called) → done.answer ≡ 0 → (a ≡ Done → ProverLengths done.prover)
+  settle-follows : (a : Answer) (out work : List ℕ) (done : Called) → done.answer ≡ 0 → (a ≡ Ok tt → ProverLengths done.prover)
       → Follows (prover_after b (settle a s out work done)) (settle a s out work done)
   unfolding prover_after
-  settle-follows Done out work done d lengths = record {
+  settle-follows (Ok _) out work done d lengths = record {
     number = refl;
     session = rw d (prover-back done.prover (lengths refl));
     size = rw d (length-prover_bytes done.prover (lengths refl));
     out = refl;
     work = refl;
   }
-  settle-follows (Refused r) out work done d lengths =
+  settle-follows (Err r) out work done d lengths =
       let stays = refused-stays (refusal_number r) b (prover_bytes s) (refused-not-0 r) in
       record { number = refl; session = ap prover_from stays; size = ap length stays ∙ size; out = refl; work = refl }
 
@@ -95,7 +94,7 @@ module _ (b : List ℕ) (size : length b ≡ prover_size) where
   -- ---- begin
 
   module _ (p : Parameters) (runs : ℕ) (x_a salt root : List ℕ) (key : Key) (work out : List ℕ) where
-    begun-lengths : begin_checks SHAKE256 s p runs x_a salt root key work out ≡ Done → ProverLengths (begun SHAKE256 s p runs x_a salt root key work out).prover
+    begun-lengths : begin_checks SHAKE256 s p runs x_a salt root key work out ≡ Ok tt → ProverLengths (begun SHAKE256 s p runs x_a salt root key work out).prover
     unfolding begin_checks begun
     begun-lengths e =
         let both = check-true (within_limits p && runs_within runs) Parameter _ e in
@@ -121,7 +120,7 @@ module _ (b : List ℕ) (size : length b ≡ prover_size) where
   -- ---- points and leaf
 
   module _ (m2 : List ℕ) (key : Key) (work out : List ℕ) where
-    answered-lengths : points_checks SHAKE256 s m2 key work out ≡ Done → ProverLengths (answered SHAKE256 s m2 key work out).prover
+    answered-lengths : points_checks SHAKE256 s m2 key work out ≡ Ok tt → ProverLengths (answered SHAKE256 s m2 key work out).prover
     unfolding points_checks answered
     answered-lengths e =
         let open-still = check-rest (not (closed s)) ExchangeClosed _ e in

@@ -6,14 +6,13 @@
 -- begin-unnamed, begin-named                 begin with a set of another count of numbers, and with one of five
 -- call-misfit                                a buffer of another length
 -- call_kept                                  the call on a buffer of the length, from what it answered and what was kept
-use Rattle.std.specs.Prelude.{◌≡◌, refl, not, ◌&&◌, List, ℕ, length}
+use Rattle.std.specs.Prelude.{◌≡◌, refl, not, ◌&&◌, List, ℕ, length, Ok, Err}
 use Rattle.std.proofs.Common.{sym, ◌∙◌}
 use Rattle.std.proofs.Math.Path.{ap}
 use Rattle.lists.specs.Checks.Laws.{and_left, and_right}
 use Rattle.answers.specs.Number.{refusal_number}
 use Rattle.answers.specs.Number.Laws.{refused-not-0}
-use Rattle.answers.specs.declared.Answer.{Answer}
-use Rattle.answers.specs.declared.Answer.TheVariants.{Done, Refused}
+use Rattle.answers.specs.Answer.{Answer}
 use Rattle.answers.specs.declared.Refusal.TheVariants.{Parameter, Length, NotDue, Closed as ExchangeClosed}
 use Rattle.answers.specs.Checks.Laws.{check-true, check-rest}
 use Rattle.parameters.specs.declared.Parameters.{Parameters}
@@ -38,10 +37,10 @@ pub record Limits (s : Prover) : Type 0 where
   pub within : Within s.parameters
   pub runs : RunsWithin s.runs
 
-settled : (a : Answer) (s : Prover) (out work : List ℕ) (done : Called) → (a ≡ Done → Limits done.prover)
+settled : (a : Answer) (s : Prover) (out work : List ℕ) (done : Called) → (a ≡ Ok tt → Limits done.prover)
     → (settle a s out work done).answer ≡ 0 → Limits (settle a s out work done).prover
-settled Done s out work done within e = within refl
-settled (Refused r) s out work done within e = absurd (refused-not-0 r e)
+settled (Ok _) s out work done within e = within refl
+settled (Err r) s out work done within e = absurd (refused-not-0 r e)
 
 module _ (hash : List ℕ → ℕ → List ℕ) (s : Prover) where
   pub begin-within : (p : Parameters) (runs : ℕ) (x_a salt root : List ℕ) (key : Key) (work out : List ℕ)

@@ -4,7 +4,7 @@
 -- new-follows, new-size       a fresh session's bytes are one
 -- begin-follows, points-follows, response-follows, leaf-follows   each call does
 -- FollowsJudged r o, opening-follows   and the opening, with the work area
-use Rattle.std.specs.Prelude.{◌≡◌, Bool, not, List, ℕ, replicate}
+use Rattle.std.specs.Prelude.{◌≡◌, Bool, not, List, ℕ, replicate, Ok, Err}
 use Rattle.std.proofs.Math.Path.{refl, ap}
 use Rattle.std.proofs.Common.{◌∙◌, arith}
 use Rattle.std.proofs.Math.Bool.{true, false}
@@ -13,8 +13,7 @@ use Rattle.lists.specs.Checks.{all_true}
 use Rattle.lists.specs.Part.Laws.{length_part, length-put_at}
 use Rattle.answers.specs.Number.{refusal_number}
 use Rattle.answers.specs.Number.Laws.{refused-not-0}
-use Rattle.answers.specs.declared.Answer.{Answer}
-use Rattle.answers.specs.declared.Answer.TheVariants.{Done, Refused}
+use Rattle.answers.specs.Answer.{Answer}
 use Rattle.answers.specs.declared.Refusal.TheVariants.{Length, NotDue, Closed as ExchangeClosed}
 use Rattle.answers.specs.Checks.{check}
 use Rattle.parameters.specs.declared.Parameters.{Parameters}
@@ -58,14 +57,14 @@ module _ (b : List ℕ) (size : length b ≡ verifier_size) where
     leaves = length_part b 4_135 most_runs (omega arith);
   }
 
-  settle-follows : (a : Answer) (next : Verifier) → (a ≡ Done → VerifierLengths next) → Follows (verifier_after b (settle a s next)) (settle a s next)
+  settle-follows : (a : Answer) (next : Verifier) → (a ≡ Ok tt → VerifierLengths next) → Follows (verifier_after b (settle a s next)) (settle a s next)
   unfolding verifier_after
-  settle-follows Done next lengths = record {
+  settle-follows (Ok _) next lengths = record {
     number = refl;
     session = verifier-back next (lengths refl);
     size = length-verifier_bytes next (lengths refl);
   }
-  settle-follows (Refused r) next lengths =
+  settle-follows (Err r) next lengths =
       let stays = refused-stays (refusal_number r) b (verifier_bytes s) (refused-not-0 r) in
       record { number = refl; session = ap verifier_from stays; size = ap length stays ∙ size }
 
@@ -147,8 +146,8 @@ module _ (b : List ℕ) (size : length b ≡ verifier_size) where
     }
 
     judge-follows : (x y z : Bool)
-        → FollowsJudged (opening_after b (judge SHAKE256 s m5 key work (check x ExchangeClosed (check y NotDue (check z Length Done)))))
-        (judge SHAKE256 s m5 key work (check x ExchangeClosed (check y NotDue (check z Length Done))))
+        → FollowsJudged (opening_after b (judge SHAKE256 s m5 key work (check x ExchangeClosed (check y NotDue (check z Length (Ok tt))))))
+        (judge SHAKE256 s m5 key work (check x ExchangeClosed (check y NotDue (check z Length (Ok tt)))))
     unfolding judge opening_after
     judge-follows true true true =
         let judged = verdict-judged SHAKE256 s.parameters s.runs (held_transcript s m5) key in

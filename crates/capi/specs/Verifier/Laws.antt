@@ -8,7 +8,7 @@
 -- begin-unnamed, begin-named      begin with a set of another count of numbers, and with one of five
 -- call-misfit, opening-misfit     a buffer of another length
 -- call_kept, opening-kept         the call on a buffer of the length, from what it answered and what was kept
-use Rattle.std.specs.Prelude.{◌≡◌, Bool, ◌&&◌, not, cond, List, ℕ, length}
+use Rattle.std.specs.Prelude.{◌≡◌, Bool, ◌&&◌, not, cond, List, ℕ, length, Ok, Err}
 use Rattle.std.proofs.Math.Path.{refl, ap}
 use Rattle.std.proofs.Common.{sym, ◌∙◌}
 use Rattle.std.proofs.Math.Bool.{true, false}
@@ -17,8 +17,7 @@ use Rattle.lists.specs.Checks.{all_true}
 use Rattle.lists.specs.Checks.Laws.{and_left, and_right}
 use Rattle.answers.specs.Number.{refusal_number}
 use Rattle.answers.specs.Number.Laws.{refused-not-0}
-use Rattle.answers.specs.declared.Answer.{Answer}
-use Rattle.answers.specs.declared.Answer.TheVariants.{Done, Refused}
+use Rattle.answers.specs.Answer.{Answer}
 use Rattle.answers.specs.declared.Refusal.TheVariants.{Parameter, Length, NotDue, Closed as ExchangeClosed}
 use Rattle.answers.specs.Checks.{check}
 use Rattle.answers.specs.Checks.Laws.{check-true}
@@ -51,11 +50,11 @@ pub record Limits (p : Parameters) (runs : ℕ) : Type 0 where
 abbrev Held : Verifier → Type 0
 Held s = Limits s.parameters s.runs
 
-settled : (a : Answer) (s next : Verifier) → (a ≡ Done → Held next) → (settle a s next).answer ≡ 0 → Held (settle a s next).verifier
-settled Done s next within e = within refl
-settled (Refused r) s next within e = absurd (refused-not-0 r e)
+settled : (a : Answer) (s next : Verifier) → (a ≡ Ok tt → Held next) → (settle a s next).answer ≡ 0 → Held (settle a s next).verifier
+settled (Ok _) s next within e = within refl
+settled (Err r) s next within e = absurd (refused-not-0 r e)
 
-due-within : (s : Verifier) (here : Phase) (rest : Answer) → Inner here → check (not (closed s)) ExchangeClosed (check (due s here) NotDue rest) ≡ Done
+due-within : (s : Verifier) (here : Phase) (rest : Answer) → Inner here → check (not (closed s)) ExchangeClosed (check (due s here) NotDue rest) ≡ Ok tt
     → Held s
 due-within s here rest inner e = let i = due-intact s here rest e inner in record { within = held-within s i; counted = held-runs s i }
 
@@ -116,9 +115,9 @@ module _ (b ns : List ℕ) (runs : ℕ) (m1 : List ℕ) where
 -- ---- the opening
 
 module _ (hash : List ℕ → ℕ → List ℕ) (s : Verifier) (m5 : List ℕ) (key : Key) (work : List ℕ) where
-  judged-within : (a b c : Bool) → (check a ExchangeClosed (check b NotDue (check c Length Done)) ≡ Done → Held s)
-      → judges (judge hash s m5 key work (check a ExchangeClosed (check b NotDue (check c Length Done)))).answer ≡ true
-      → Held (judge hash s m5 key work (check a ExchangeClosed (check b NotDue (check c Length Done)))).verifier
+  judged-within : (a b c : Bool) → (check a ExchangeClosed (check b NotDue (check c Length (Ok tt))) ≡ Ok tt → Held s)
+      → judges (judge hash s m5 key work (check a ExchangeClosed (check b NotDue (check c Length (Ok tt))))).answer ≡ true
+      → Held (judge hash s m5 key work (check a ExchangeClosed (check b NotDue (check c Length (Ok tt))))).verifier
   unfolding judge ended
   judged-within true true true within e = let h = within refl in record { within = h.within; counted = h.counted }
   judged-within true true false within e = absurd (false≢true e)

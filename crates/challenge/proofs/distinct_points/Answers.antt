@@ -42,7 +42,7 @@ run-told c e =
     e ∙ ap (distinct_in c.args.p.t) (run-part _ _ (c.message2_length-size.result) _ (size_is))
 
 pub loop-e-init : goal.loop-e-init
-loop-e-init c = (omega arith, all_none _)
+loop-e-init c = all_none _
 
 pub overflow_mul-at : goal.overflow_mul-at
 overflow_mul-at c = omega (arith, inside (goal.at.overflow_mul-at c).In-loop-e, short (goal.at.overflow_mul-at c).In-loop-e)
@@ -64,11 +64,9 @@ unfolding distinct_points
 returns-then-not-distinct_in c = sym (some-fails _ _ c.loop-e.e c.loop-e-test.true (sym (run-told (goal.at.returns-then-not-distinct_in c).In-loop-e c.distinct_in.ensures) ∙ c.if-not-distinct_in.true))
 
 pub loop-e-preserved : goal.loop-e-preserved
-loop-e-preserved c = (
-  omega (arith, c.loop-e-test.true),
-  all_more _ c.loop-e.e c.loop-e.invariant.1 (sym (run-told (goal.at.loop-e-preserved c).In-loop-e c.distinct_in.ensures) ∙ c.if-not-distinct_in.false),
-)
+loop-e-preserved c =
+    all_more _ c.loop-e.e c.loop-e.invariant (sym (run-told (goal.at.loop-e-preserved c).In-loop-e c.distinct_in.ensures) ∙ c.if-not-distinct_in.false)
 
 pub returns : goal.returns
 unfolding distinct_points
-returns c = all_end _ c.args.runs c.loop-e.e c.loop-e.invariant.0 (omega arith) c.loop-e.invariant.1
+returns c = all_end _ c.args.runs c.loop-e.e (omega arith) (omega arith) c.loop-e.invariant

@@ -9,14 +9,13 @@
 -- pointed_verifier, responded_verifier, chosen_verifier   the verifier's session after points, response and leaf
 -- due-passes                      the checks of a verifier's call that is due: 12 and 11 are past
 -- verifier_begin-is, verifier_points-is, verifier_response-is, verifier_leaf-is, verifier_opening-is   what the verifier's calls give
-use Rattle.std.specs.Prelude.{◌≡◌, Bool, true, false, List, [], ◌∷◌, ℕ, ◌≤◌, eqb, length, take, replicate}
+use Rattle.std.specs.Prelude.{◌≡◌, Bool, true, false, List, [], ◌∷◌, ℕ, ◌≤◌, eqb, length, take, replicate, Ok}
 use Rattle.std.proofs.Math.Path.{refl, ap}
 use Rattle.std.proofs.Common.{◌∙◌, arith, take_at}
 use borrow.Author.Tests.{eq-eqb, le-leb}
 use Rattle.lists.specs.Part.{put_at}
 use Rattle.lists.specs.Checks.{all_true}
 use Rattle.lists.specs.Zeroed.{zeroed}
-use Rattle.answers.specs.declared.Answer.TheVariants.{Done}
 use Rattle.answers.specs.declared.Refusal.{Refusal}
 use Rattle.answers.specs.declared.Refusal.TheVariants.{Length, Leaf, SamePoint}
 use Rattle.answers.specs.Number.{answer_number}
@@ -228,7 +227,7 @@ module _ (p : Parameters) (within : Within p) (runs : ℕ) (counted : RunsWithin
       held-leaves h = held-front runs (replicate most_runs 0) is h.one-a-run
 
       opening-passes : Leaves p runs is → length m5 ≡ messages5_length p is → work_length p ≤ length work
-          → verifier.opening_checks hash (chosen_verifier p runs m1 m2 m3 is) m5 key work ≡ Done
+          → verifier.opening_checks hash (chosen_verifier p runs m1 m2 m3 is) m5 key work ≡ Ok tt
       unfolding verifier.opening_checks verifier.begun verifier.pointed verifier.responded verifier.chosen
       opening-passes h e hw =
           due-passes (chosen_verifier p runs m1 m2 m3 is) phase.Chosen

@@ -4,14 +4,13 @@
 -- part-is, part_stays  the part of a run in the output
 -- same-there           where none are unequal, all that are compared are equal
 -- extracts             the claim, for every hash: of it only the length of what it gives is used
-use Rattle.std.specs.Prelude.{◌≡◌, refl, Bool, true, false, not, ℕ, ◌≤◌, ◌<◌, length}
+use Rattle.std.specs.Prelude.{◌≡◌, refl, Bool, true, false, not, ℕ, ◌≤◌, ◌<◌, length, Ok}
 use Rattle.std.proofs.Common.{sym, ◌∙◌, subst, arith}
 use Rattle.std.proofs.Math.Path.{ap}
 use mathlib.Core.List.{List, [], ◌∷◌, Memᴰ}
 use borrow.Author.Tests.{eq-eqb, le-leb, not-false}
 use Rattle.lists.specs.Equal.{eq_list}
 use Rattle.lists.specs.Equal.Laws.{eq_list-of, eq_list-true}
-use Rattle.answers.specs.declared.Answer.TheVariants.{Done}
 use Rattle.parameters.specs.declared.Parameters.{Parameters}
 use Rattle.parameters.specs.Limits.Laws.{within-test}
 use Rattle.layout.specs.Layout.{work_length, output_length}
@@ -47,7 +46,7 @@ not_equal a b n = go (eq_list a b) refl
 
 module _ (hash : List ℕ → ℕ → List ℕ) (p : Parameters) (runs : ℕ) (key : Key) (t t' : Transcript) (c : Comparable hash p runs key t t') where
   module _ (work out : List ℕ) (work-length : work_length p ≤ length work) (out-length : length out ≡ outputs_length p runs) where
-    checks-pass : early_checks hash p runs t t' key work out ≡ Done
+    checks-pass : early_checks hash p runs t t' key work out ≡ Ok tt
     unfolding early_checks extract_lengths both_distinct same_statement
     checks-pass =
         simp (

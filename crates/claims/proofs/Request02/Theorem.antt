@@ -10,7 +10,7 @@
 -- request02                    it holds
 use Rattle.std.proofs.Math.Path.{◌≡◌, refl, sym, ap}
 use Rattle.std.proofs.Common.{◌∙◌, subst}
-use Rattle.std.specs.Prelude.{Bool, ◌&&◌, not, List, [], ◌∷◌, ◌↔◌, ℕ, suc, ◌*◌, ◌<◌, eqb, length, get_or}
+use Rattle.std.specs.Prelude.{Bool, ◌&&◌, not, List, [], ◌∷◌, ◌↔◌, ℕ, suc, ◌*◌, ◌<◌, eqb, length, get_or, Ok, Err}
 use Rattle.std.proofs.Math.Bool.{true, false}
 use Rattle.std.proofs.lemmas.Bool.{false≢true}
 use native.Mathlib.Omega.{arith}
@@ -21,8 +21,7 @@ use Rattle.lists.specs.Checks.Laws.{and_left, and_right, not_so}
 use Rattle.tower.specs.Field.{point, bytes_of}
 use Rattle.tower.proofs.Field.Laws.{bytes_of-point}
 use Rattle.shake256.specs.Fips.{SHAKE256}
-use Rattle.answers.specs.declared.Answer.{Answer}
-use Rattle.answers.specs.declared.Answer.TheVariants.{Done, Refused}
+use Rattle.answers.specs.Answer.{Answer}
 use Rattle.answers.specs.declared.Refusal.TheVariants.{Parameter, Length, Leaf, Exchange as Differs, SameLeaf, NotDue, Closed as ExchangeClosed, SamePoint}
 use Rattle.answers.specs.Number.{refusal_number, answer_number}
 use Rattle.answers.specs.Checks.{checks}
@@ -135,8 +134,8 @@ unfolding outcome prover.points_checks
 prover-number hash s m2 key work out = number-of hash s (points_call m2 key work out)
 
 settle-number : (a : Answer) (s next : Verifier) → (verifier.settle a s next).answer ≡ answer_number a
-settle-number Done s next = refl
-settle-number (Refused r) s next = refl
+settle-number (Ok _) s next = refl
+settle-number (Err r) s next = refl
 
 verifier-number : (s : Verifier) (m2 : List ℕ) → (verifier.points s m2).answer
     ≡ answer_number (row (not (verifier.closed s)) (verifier.due s Begun) (eqb (length m2) (messages2_length s.parameters s.runs))
@@ -158,13 +157,13 @@ module _ (hash : List ℕ → ℕ → List ℕ) (p : Parameters) (runs : ℕ) (t
 
   second-not : (a : Answer) → judged (answer_number a) ≡ true → number_of (second hash p runs t t' key work out a).answer ≡ 14 → ⊥
   unfolding second
-  second-not Done j e = let z : ◌≡◌ {A = ℕ} 0 14 = sym (found_number (extract hash p runs key t t' out)) ∙ e in omega arith
-  second-not (Refused r) j e = judged-not-14 (refusal_number r) j e
+  second-not (Ok _) j e = let z : ◌≡◌ {A = ℕ} 0 14 = sym (found_number (extract hash p runs key t t' out)) ∙ e in omega arith
+  second-not (Err r) j e = judged-not-14 (refusal_number r) j e
 
   first-not : (a : Answer) → judged (answer_number a) ≡ true → number_of (first hash p runs t t' key work out a).answer ≡ 14 → ⊥
   unfolding first
-  first-not Done j e = second-not (verdict hash p runs t' key) (verdict-judged hash p runs t' key) e
-  first-not (Refused r) j e = judged-not-14 (refusal_number r) j e
+  first-not (Ok _) j e = second-not (verdict hash p runs t' key) (verdict-judged hash p runs t' key) e
+  first-not (Err r) j e = judged-not-14 (refusal_number r) j e
 
   abbrev number_by : Bool → Bool → Bool → Bool → Bool → Bool → ℕ
   number_by a b c d e f =

@@ -74,7 +74,7 @@ pub slice_bounds-interpolate-end : goal.slice_bounds-interpolate-end
 slice_bounds-interpolate-end c = sym (words (goal.at.slice_bounds-interpolate-end c).After-vectors)
 
 pub interpolate-requires : goal.interpolate-requires
-interpolate-requires c = let (r, few, l, et) = c.requires in let w = r.within in (words (goal.at.interpolate-requires c).After-vectors, few, rows-kept (goal.at.interpolate-requires c).After-unpack, omega arith, l, et)
+interpolate-requires c = let (r, few, l) = c.requires in let w = r.within in (words (goal.at.interpolate-requires c).After-vectors, few, rows-kept (goal.at.interpolate-requires c).After-unpack, omega arith, l)
 
 pub unpack-requires-2 : goal.unpack-requires-2
 unpack-requires-2 c = let m = c.args.p.m in

@@ -7,7 +7,7 @@
 -- response-is              the recomputed h' is the prover's
 -- honest-accepted          the verdict on the honest exchange
 -- messages-accepted        the verdict on what is read from the messages
-use Rattle.std.specs.Prelude.{◌≡◌, ℕ, ◌+◌, ◌<◌, length}
+use Rattle.std.specs.Prelude.{◌≡◌, ℕ, ◌+◌, ◌<◌, length, Ok}
 use Rattle.std.proofs.Math.Path.{refl, sym, ap}
 use Rattle.std.proofs.Common.{◌∙◌}
 use Rattle.std.proofs.Math.Bool.{false}
@@ -20,7 +20,6 @@ use Rattle.cube.specs.Party.{replaced}
 use Rattle.cube.specs.Opening as cube
 use Rattle.cube.specs.Opening.Laws.{announced-ext, verified-ext, completeness}
 use Rattle.tower.specs.Field.{Point}
-use Rattle.answers.specs.declared.Answer.TheVariants.{Done}
 use Rattle.parameters.specs.declared.Parameters.{Parameters}
 use Rattle.relation.specs.Key.{vector_of}
 use Rattle.layout.specs.Layout.{side, leaves, y_length, prefix_length}
@@ -156,7 +155,7 @@ module _ (hash : List ℕ → ℕ → List ℕ) (hash-length : (s : List ℕ) (n
   unfolding message3
   response-is = ap (λ (s : List ℕ). hash s 32) response_string-is
 
-  pub honest-accepted : verdict hash p (honest hash p x run key m2 u) key ≡ Done
+  pub honest-accepted : verdict hash p (honest hash p x run key m2 u) key ≡ Ok tt
   honest-accepted =
       accepted-when hash p e key (record {
         commitment = ap (λ (s : List ℕ). hash s 32) (commitment_string-is hash p x run key m2 u hash-length inside);
@@ -165,5 +164,5 @@ module _ (hash : List ℕ → ℕ → List ℕ) (hash-length : (s : List ℕ) (n
       })
 
   pub messages-accepted : length run.prefix ≡ prefix_length
-      → verdict hash p (exchange (message1 hash p x run) m2 (message3 hash p x run key m2) u (message5 hash p x run key m2 u)) key ≡ Done
+      → verdict hash p (exchange (message1 hash p x run) m2 (message3 hash p x run key m2) u (message5 hash p x run key m2 u)) key ≡ Ok tt
   messages-accepted h = ap (λ (e : Exchange). verdict hash p e key) (exchange-is hash p x run key m2 u h) ∙ honest-accepted

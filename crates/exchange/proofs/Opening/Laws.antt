@@ -1,10 +1,10 @@
 -- The laws of an opening's checks.
 --
 -- sums-agree               the sums of α, β and v agree on all axes, whatever the opening holds
--- accepted-then, accepted-when   the verdict is `Done` exactly when the opening is `Accepted`
+-- accepted-then, accepted-when   the verdict is `Ok` exactly when the opening is `Accepted`
 -- commitment-disclosed     the commitment of a disclosed leaf
 -- length-commitments       commitments have 32 bytes, where message 5 has its length
-use Rattle.std.specs.Prelude.{◌≡◌, Bool, cond, ℕ, eqb}
+use Rattle.std.specs.Prelude.{◌≡◌, Bool, cond, ℕ, eqb, Ok}
 use Rattle.std.proofs.Math.Path.{sym, ap, ap₂}
 use Rattle.std.proofs.Common.{◌∙◌, arith, ne_eqb, length-take, length-drop}
 use Rattle.std.proofs.Math.Bool.{true, false}
@@ -13,7 +13,6 @@ use Rattle.std.proofs.Math.ListN.{length}
 use Rattle.lists.specs.Equal.{eq_list}
 use Rattle.lists.specs.Equal.Laws.{eq_list-true, eq_list-of}
 use Rattle.tower.specs.Field.{Point}
-use Rattle.answers.specs.declared.Answer.TheVariants.{Done}
 use Rattle.answers.specs.Checks.Laws.{check-true, check-rest}
 use Rattle.parameters.specs.declared.Parameters.{Parameters}
 use Rattle.layout.specs.Layout.{message5_length}
@@ -36,11 +35,11 @@ module _ (hash : List ℕ → ℕ → List ℕ) (p : Parameters) (e : Exchange) 
 
   -- ---- acceptance
 
-  pub accepted-when : Accepted hash p e key → verdict hash p e key ≡ Done
+  pub accepted-when : Accepted hash p e key → verdict hash p e key ≡ Ok tt
   unfolding verdict
   accepted-when a = rw (eq_list-of _ _ a.commitment, eq_list-of _ _ a.response)
 
-  pub accepted-then : verdict hash p e key ≡ Done → Accepted hash p e key
+  pub accepted-then : verdict hash p e key ≡ Ok tt → Accepted hash p e key
   unfolding verdict
   accepted-then q =
       let rest = check-rest (eq_list (hash (commitment_string hash p e) 32) e.h) _ _ q in

@@ -4,7 +4,7 @@
 use Rattle.std.specs.Prelude.{◌≡◌, List, ◌++◌, ℕ, length, take, drop}
 use Rattle.std.proofs.Common.{sym, ap, ◌∙◌, subst₂, take_at, drop_at}
 use Rattle.lists.specs.Zeroed.Laws.{zeroed-front}
-use Rattle.answers.specs.declared.Answer.{Answer}
+use Rattle.answers.specs.Answer.{Answer}
 use Rattle.parameters.specs.declared.Parameters.{Parameters}
 use Rattle.layout.specs.Layout.{opened_length, work_length}
 use Rattle.exchange.specs.Values.{Key}

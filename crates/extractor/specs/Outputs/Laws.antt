@@ -6,8 +6,10 @@
 -- lent_fits, length-of-lent   a part lent
 -- written_none, written-turn, written-lent, written_all   none is, one more, all are
 -- lent-before       a part before it is written
+-- places-asked, part-small, part-inside, part-length, recalled-asked   what is asked of the part of run n, lent
+-- part-turn         the part of run n is written where it was lent
 use Rattle.std.specs.Prelude.{◌≡◌, ℕ, suc, ◌+◌, ◌*◌, ◌-◌, ◌≤◌, ◌<◌, eqb, ltb, take, drop}
-use Rattle.std.proofs.Math.Path.{sym, ap, ap₂}
+use Rattle.std.proofs.Math.Path.{refl, sym, ap, ap₂}
 use Rattle.std.proofs.Common.{◌∙◌, subst, le_refl, arith, lt-ltb, le-ltb, ne_eqb, take_all}
 use Rattle.std.proofs.Math.Bool.{cond}
 use mathlib.Core.List.{List, ◌++◌}
@@ -18,18 +20,24 @@ use Rattle.std.proofs.Math.Seq.{take-take}
 use Rattle.lists.specs.Part.{part, put_at}
 use Rattle.lists.specs.Part.Laws.{length-put_at, part-fits, lent-part, length-lent, lent_back, part-put_at-same, part-put_at-before, part-put_at-behind}
 use Rattle.parameters.specs.declared.Parameters.{Parameters}
-use Rattle.layout.specs.Layout.{leaves, is_last, states_length, output_length}
+use Rattle.parameters.specs.Limits.{Within}
+use Rattle.layout.specs.Layout.{leaves, is_last, opened_length, states_length, output_length}
+use Rattle.layout.specs.Layout.Bounds.{opened-most}
 use Rattle.layout.specs.Maxima.{most_opened}
+use Rattle.layout.specs.Runs.Laws.{output-most, outputs-most}
 use Rattle.exchange.proofs.Sequences.Laws.{joined-ext}
 use Rattle.reader.specs.Message5.{aux_in}
 use Rattle.openings.specs.Parts.{states_in}
+use Rattle.extractor.specs.declared.opened.Opened.{Opened}
 use Rattle.extractor.specs.declared.pairs.Pair.{Pair}
-use Rattle.extractor.specs.Comparison.{state_of, output_of}
+use Rattle.extractor.specs.Comparison.{View, state_of, output_of}
+use Rattle.extractor.specs.Opened.{seen, view_in}
 use Rattle.extractor.specs.Opened.Laws.{state-front}
 use Rattle.extractor.specs.Output.{blocks-joined}
-use Rattle.extractor.specs.Pairs.{message_in}
-use Rattle.extractor.specs.Recall.{Holds}
-use Rattle.extractor.specs.Outputs.{part_from, part_in, part_of, part_at, written, Written}
+use Rattle.extractor.specs.Pairs.{message_in, pair_at, PlaceAsked}
+use Rattle.extractor.specs.Recall.{prefix_of, Holds}
+use Rattle.extractor.specs.Run.{most_openings}
+use Rattle.extractor.specs.Outputs.{part_from, part_in, part_of, RecalledAsked, part_at, written, Written, EarlierAsked}
 
 pub output-states : (p : Parameters) (u : ℕ) (o aux o' aux' : List ℕ) → output_of p u o aux o' aux' ≡ output_of p u (states_in p o) aux (states_in p o') aux'
 unfolding output_of
@@ -42,21 +50,32 @@ pub held-part : (pair : Pair) (prefix first5 second5 openings : List ℕ) → Ho
     → part_in pair first5 second5 openings out ≡ part_of pair prefix first5 second5 out
 held-part pair prefix first5 second5 openings h out = ap₂ (λ (a b : List ℕ). part_from pair first5 second5 a b out) h.first h.second
 
--- the left side is what the code makes
-pub part-written : (pair : Pair) (first5 second5 openings aux aux' out : List ℕ) (n : ℕ) → states_length pair.p ≤ n
-    → (pair.first.leaf ≡ pair.second.leaf → ⊥) → aux ≡ aux_in pair.p (message_in pair.first first5)
-    → aux' ≡ aux_in pair.p (message_in pair.second second5)
-    → output_of pair.p pair.first.leaf (take n openings) aux (take (most_opened + n - most_opened) (drop most_opened openings)) aux'
-    ≡ part_in pair first5 second5 openings out
+-- two openings of a run, whose states are held
+pub part-written : (pair : Pair) (first5 second5 openings out : List ℕ) → Within pair.p → (x x' : Opened)
+    → seen pair.p x ≡ view_in pair.p pair.first first5 (take most_opened openings) → seen pair.p x' ≡ view_in pair.p pair.second second5 (drop most_opened openings)
+    → (pair.first.leaf ≡ pair.second.leaf → ⊥)
+    → output_of pair.p x.hidden x.made.now x.aux.now x'.made.now x'.aux.now ≡ part_in pair first5 second5 openings out
 unfolding part_from
-part-written pair first5 second5 openings aux aux' out n l other e e' =
-    output-states pair.p pair.first.leaf (take n openings) aux (take (most_opened + n - most_opened) (drop most_opened openings)) aux'
-    ∙ ap₂ (λ (a b : List ℕ). output_of pair.p pair.first.leaf a aux b aux') (front n openings l) (front (most_opened + n - most_opened) (drop most_opened openings) (omega arith))
-    ∙ ap₂ (λ (a b : List ℕ). output_of pair.p pair.first.leaf (states_in pair.p openings) a (states_in pair.p (drop most_opened openings)) b) e e'
+part-written pair first5 second5 openings out within x x' e e' other =
+    ap₂ (λ (v v' : View). output_of pair.p v.leaf v.states v.aux v'.states v'.aux) e e'
+    ∙ output-states pair.p pair.first.leaf (take (opened_length pair.p) (take most_opened openings)) aux (take (opened_length pair.p) (drop most_opened openings)) aux'
+    ∙ ap₂ (λ (a b : List ℕ). output_of pair.p pair.first.leaf a aux b aux') front back
     ∙ sym (rw (ne_eqb pair.first.leaf pair.second.leaf other))
   where
-    front : (m : ℕ) (o : List ℕ) → states_length pair.p ≤ m → states_in pair.p (take m o) ≡ states_in pair.p o
-    front m o h = unfold states_in in take-take (states_length pair.p) m o h
+    aux : List ℕ
+    aux = aux_in pair.p (message_in pair.first first5)
+
+    aux' : List ℕ
+    aux' = aux_in pair.p (message_in pair.second second5)
+
+    front : states_in pair.p (take (opened_length pair.p) (take most_opened openings)) ≡ states_in pair.p openings
+    front =
+        unfold states_in in
+        take-take (states_length pair.p) (opened_length pair.p) (take most_opened openings) (omega arith)
+        ∙ take-take (states_length pair.p) most_opened openings (omega (arith, opened-most pair.p within))
+
+    back : states_in pair.p (take (opened_length pair.p) (drop most_opened openings)) ≡ states_in pair.p (drop most_opened openings)
+    back = unfold states_in in take-take (states_length pair.p) (opened_length pair.p) (drop most_opened openings) (omega arith)
 
 -- a part lent
 module _ (first4 out' : List ℕ) (size n at s : ℕ) (l : n < length first4) (room : length out' ≡ length first4 * size) (place : at ≡ n * size) (sized : s ≡ size) where
@@ -123,3 +142,49 @@ module _ (p : Parameters) (m1 first4 first5 second4 second5 out : List ℕ) wher
       sym (take_all (size * length first4) out' (let a = w.sized in let b = mul_comm (length first4) size in omega (arith, a, b)))
       ∙ blocks-joined final out' (length first4) size
       (λ e l. ap (λ (k : ℕ). part out' k size) (mul_comm size e) ∙ w.parts e l ∙ rw (le-ltb e 0 (omega arith)))
+
+-- the part of run n, lent; k is the length of a part, as the code has it
+module _ (p : Parameters) (m1 first4 first5 second4 second5 openings out : List ℕ) (asked : EarlierAsked p m1 first4 first5 second4 second5 openings out)
+    (k : ℕ) (sized : k ≡ output_length p) (n : ℕ) (l : n < length first4) where
+  pub places-asked : PlaceAsked p first4 n × PlaceAsked p second4 n
+  places-asked = (
+    record { within = asked.within; few = asked.few; inside = l },
+    record { within = asked.within; few = omega (arith, asked.few, asked.same); inside = omega (arith, l, asked.same) },
+  )
+
+  at-place : n * k ≡ n * output_length p
+  at-place = ap (◌*◌ n) sized
+
+  pub part-small : n * k + k ≤ 300_000
+  part-small =
+      omega (arith, at-place, outputs-most p asked.within n (omega (arith, l, asked.few)), output-most p asked.within, sized)
+
+  module _ (out' : List ℕ) (room : length out' ≡ length out) where
+    pub part-inside : n * k + k ≤ length out'
+    part-inside = lent_fits first4 out' (output_length p) n (n * k) k l (room ∙ asked.room) at-place sized
+
+    pub part-length : length (take (n * k + k - n * k) (drop (n * k) out')) ≡ output_length p
+    part-length = length-of-lent first4 out' (output_length p) n (n * k) k l (room ∙ asked.room) at-place sized
+
+    pub recalled-asked : (openings' : List ℕ) → length openings' ≡ most_openings
+        → RecalledAsked (pair_at p first4 second4 n) m1 first5 second5 openings' (take (n * k + k - n * k) (drop (n * k) out'))
+    recalled-asked openings' held = record {
+      recall = record {
+        within = asked.within;
+        reaches = asked.reaches;
+        first = asked.first n l;
+        second = asked.second n l;
+        room = held;
+      };
+      room = part-length;
+    }
+
+    -- ys is what came back
+    pub part-turn : (o : List ℕ) → Written p m1 first4 first5 second4 second5 o (suc n) out' → (ys : List ℕ)
+        → length ys ≡ length (take (n * k + k - n * k) (drop (n * k) out'))
+        → ys ≡ part_of (pair_at p first4 second4 n) (prefix_of m1 n) first5 second5 (take (n * k + k - n * k) (drop (n * k) out'))
+        → Written p m1 first4 first5 second4 second5 o n (take (n * k) out' ++ (ys ++ drop (n * k + k - n * k) (drop (n * k) out')))
+    part-turn o w ys long is =
+        written-lent p m1 first4 first5 second4 second5 o n (suc n) (n * k) k out' l refl w at-place sized ys (long ∙ part-length)
+        (is ∙ ap (part_of (pair_at p first4 second4 n) (prefix_of m1 n) first5 second5)
+        (lent-before p m1 first4 first5 second4 second5 o n (suc n) (n * k) k out' l refl w at-place sized))

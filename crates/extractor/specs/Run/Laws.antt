@@ -2,20 +2,20 @@
 --
 -- zeroed-twice     the named length zeroed twice
 -- both_halves      both halves were lent and came back
--- comparing        what is asked of the comparison
+-- front-long, back-long, first-half, second-half, whole_long   how long they are as they are lent, and what each then holds
+-- gives-front, gives-back   either half is as long as what an opening gives
 -- run-checked      two openings that were judged, and compared
-use Rattle.std.specs.Prelude.{◌≡◌, List, ◌++◌, ℕ, ◌-◌, eqb, length, take, drop, replicate}
+use Rattle.std.specs.Prelude.{◌≡◌, List, ◌++◌, ℕ, ◌-◌, eqb, length, take, drop, replicate, Option, None, Ok}
 use Rattle.std.proofs.Math.Path.{refl, sym}
 use Rattle.std.proofs.Common.{ap, ◌∙◌, arith, eq-eqb, ne_eqb, length-append, length-drop, length-take-le, take_at, drop_at}
 use Rattle.std.proofs.Math.Bool.{cond}
 use Rattle.std.proofs.Math.Decide.{ℕ_discrete}
 use Rattle.std.proofs.lemmas.List.{length-replicate}
 use Rattle.std.proofs.Math.Seq.{take-take}
-use Rattle.lists.specs.Part.Laws.{tail-back}
+use Rattle.lists.specs.Part.Laws.{tail-back, tail-part}
 use Rattle.lists.specs.Zeroed.{zeroed}
 use Rattle.shake256.specs.Fips.{SHAKE256}
-use Rattle.answers.specs.declared.Answer.{Answer}
-use Rattle.answers.specs.declared.Answer.TheVariants.{Done}
+use Rattle.answers.specs.Answer.{Answer}
 use Rattle.parameters.specs.Limits.{Within}
 use Rattle.layout.specs.Layout.{opened_length, states_length, work_length}
 use Rattle.layout.specs.Layout.Bounds.{opened-most}
@@ -23,18 +23,18 @@ use Rattle.layout.specs.Maxima.{most_opened}
 use Rattle.exchange.specs.Values.{Key}
 use Rattle.exchange.specs.Opening.{Exchange}
 use Rattle.exchange.specs.Extractor.{extract}
-use Rattle.reader.proofs.Laws.Message5.{aux-inside, all-aux}
 use Rattle.openings.specs.Statement.{prefix_in, exchange_in}
 use Rattle.openings.specs.Parts.{states_in}
 use Rattle.extractor.specs.declared.findings.Difference.{Difference}
+use Rattle.extractor.specs.declared.pairs.Place.{Place}
 use Rattle.extractor.specs.declared.pairs.Pair.{Pair}
-use Rattle.extractor.specs.Compared.{Comparing}
 use Rattle.extractor.specs.Comparison.{comparison}
 use Rattle.extractor.specs.Comparison.Laws.{comparison-is}
-use Rattle.extractor.specs.Difference.{none, difference_of}
+use Rattle.extractor.specs.Difference.{named, difference_of}
 use Rattle.extractor.specs.Judged.{Judged, shows}
+use Rattle.extractor.specs.Opened.{view_in, Gives}
 use Rattle.extractor.specs.Pairs.{message_in, Lies, length-message}
-use Rattle.extractor.specs.Run.{view_in, difference_in, Compared, difference_at, Checked}
+use Rattle.extractor.specs.Run.{most_openings, difference_in, difference_at, Checked}
 
 pub zeroed-twice : (n : ℕ) (d : List ℕ) → zeroed n (zeroed n d) ≡ zeroed n d
 unfolding zeroed
@@ -48,37 +48,58 @@ both_halves o a b h =
     tail-back (a ++ drop most_opened o) b most_opened (omega (arith, length-append a (drop most_opened o), h))
     ∙ ap (λ (l : List ℕ). l ++ b) (take_at a (drop most_opened o) most_opened h)
 
-module _ (pair : Pair) (s first5 second5 openings : List ℕ) (a : Compared pair s first5 second5 openings)
-    (other : pair.first.leaf ≡ pair.second.leaf → ⊥) where
-  pub comparing : Comparing pair.p (record { first = pair.first.leaf; second = pair.second.leaf }) (message_in pair.first first5)
-      (take most_opened openings) (message_in pair.second second5) (drop most_opened openings)
-  comparing =
-      let most = opened-most pair.p a.within in
-      let room = a.room in
-      let one = length-message pair.p pair.first first5 a.first in
-      let two = length-message pair.p pair.second second5 a.second in
-      let front = length-take-le most_opened openings (omega arith) in
-      let back = length-drop most_opened openings in
-      record {
-        first-aux = aux-inside pair.p pair.first.leaf (message_in pair.first first5) one;
-        second-aux = aux-inside pair.p pair.second.leaf (message_in pair.second second5) two;
-        first_fits = omega arith;
-        second_fits = omega arith;
-        views = record {
-          within = a.within;
-          first = record {
-            below = a.first.below;
-            aux-size = all-aux pair.p pair.first.leaf (message_in pair.first first5) one;
-            size = length-take-le (opened_length pair.p) (take most_opened openings) (omega arith);
-          };
-          second = record {
-            below = a.second.below;
-            aux-size = all-aux pair.p pair.second.leaf (message_in pair.second second5) two;
-            size = length-take-le (opened_length pair.p) (drop most_opened openings) (omega arith);
-          };
-          other = other;
-        };
-      }
+-- the halves of `openings`, lent one after the other; a and b are what came back, `whole` is what the borrow checker has
+pub front-long : (o : List ℕ) → length o ≡ most_openings → length (take most_opened o) ≡ most_opened
+front-long o room = length-take-le most_opened o (omega (arith, room))
+
+module _ (o a : List ℕ) (room : length o ≡ most_openings) (long : length a ≡ length (take most_opened o)) where
+  abbrev after : List ℕ
+  after = a ++ drop most_opened o
+
+  abbrev lent : List ℕ
+  lent = take (length after - most_opened) (drop most_opened after)
+
+  a-long : length a ≡ most_opened
+  a-long = long ∙ front-long o room
+
+  pub back-long : length lent ≡ most_opened
+  back-long =
+      omega (
+        arith,
+        ap length (tail-part after most_opened),
+        length-drop most_opened after,
+        length-append a (drop most_opened o),
+        length-drop most_opened o,
+        a-long,
+        room,
+      )
+
+  module _ (b : List ℕ) (long-too : length b ≡ length lent) where
+    abbrev whole : List ℕ
+    whole = take most_opened after ++ (b ++ drop (length after - most_opened) (drop most_opened after))
+
+    whole_is : whole ≡ a ++ b
+    whole_is = both_halves o a b a-long
+
+    pub first-half : a ≡ take most_opened whole
+    first-half = sym (ap (take most_opened) whole_is ∙ take_at a b most_opened a-long)
+
+    pub second-half : b ≡ drop most_opened whole
+    second-half = sym (ap (drop most_opened) whole_is ∙ drop_at a b most_opened a-long)
+
+    pub whole_long : length whole ≡ most_openings
+    whole_long = ap length whole_is ∙ omega (arith, length-append a b, a-long, long-too, back-long)
+
+module _ (pair : Pair) (m5 openings : List ℕ) (place : Place) (within : Within pair.p) (lies : Lies pair.p place m5) (room : length openings ≡ most_openings) where
+  pub gives-front : Gives pair.p place m5 (take most_opened openings)
+  gives-front = record {
+    within = within;
+    lies = lies;
+    room = omega (arith, opened-most pair.p within, length-take-le most_opened openings (omega (arith, room)));
+  }
+
+  pub gives-back : Gives pair.p place m5 (drop most_opened openings)
+  gives-back = record { within = within; lies = lies; room = omega (arith, opened-most pair.p within, length-drop most_opened openings, room) }
 
 module _ (pair : Pair) (s first5 second5 : List ℕ) (key : Key) (within : Within pair.p) (lies : Lies pair.p pair.first first5)
     (lies' : Lies pair.p pair.second second5) where
@@ -95,10 +116,10 @@ module _ (pair : Pair) (s first5 second5 : List ℕ) (key : Key) (within : Withi
     difference-is = go (ℕ_discrete pair.first.leaf pair.second.leaf)
       where
         go : Dec (pair.first.leaf ≡ pair.second.leaf)
-            → cond (eqb pair.first.leaf pair.second.leaf) none
+            → cond (eqb pair.first.leaf pair.second.leaf) None
             (difference_of (comparison pair.p (prefix_in pair.p s) (view_in pair.p pair.first first5 (take most_opened openings))
             (view_in pair.p pair.second second5 (drop most_opened openings))))
-            ≡ cond (eqb pair.first.leaf pair.second.leaf) none (difference_of (extract SHAKE256 pair.p key one two))
+            ≡ cond (eqb pair.first.leaf pair.second.leaf) None (difference_of (extract SHAKE256 pair.p key one two))
         go (yes q) = rw (eq-eqb _ _ q)
         go (no q) =
             rw (ne_eqb _ _ q)
@@ -118,12 +139,12 @@ module _ (pair : Pair) (s first5 second5 : List ℕ) (key : Key) (within : Withi
     unfolding states_in
     back-states = sym (take-take (states_length pair.p) (opened_length pair.p) (drop most_opened openings) (omega arith))
 
-    pub run-checked : r ≡ Done → (d : Difference) → d ≡ difference_in pair s first5 second5 openings
-        → Checked pair.p key one two w (record { first = Done; second = r'; layer = d.layer; number = d.number }) w'' openings
+    pub run-checked : r ≡ Ok tt → (d : Option Difference) → named d ≡ difference_in pair s first5 second5 openings
+        → Checked pair.p key one two w (Ok (record { second = r'; difference = d })) w'' openings
     run-checked q d e = record {
-      first = sym q ∙ j.checked.answer;
       zeros = j'.zeros ∙ ap (zeroed (work_length pair.p)) j.zeros ∙ zeroed-twice (work_length pair.p) w;
-      found = λ _. record {
+      found = record {
+        accepted = sym j.checked.answer ∙ q;
         second = j'.checked.answer;
         difference = e ∙ difference-is;
         states = front-states ∙ j.checked.states-are;

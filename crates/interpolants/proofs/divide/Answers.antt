@@ -1,19 +1,16 @@
-use Rattle.std.proofs.Common.{arith, refl, ◌∙◌}
+use Rattle.std.proofs.Common.{arith, length, refl, ◌-◌}
 use Rattle.interpolants.proofs.Laws.Division.{divided-start, divided-turn, divided-end}
 use Rattle.interpolants.proofs.divide.Goals as goal
 
 pub loop-i-init : goal.loop-i-init
-loop-i-init c =
-    (omega arith, omega arith, divided-start c.args.g.now c.args.t.now _ refl, refl)
+loop-i-init c = (omega arith, divided-start c.args.g.now c.args.t.now _ refl)
 
 pub loop-i-preserved : goal.loop-i-preserved
-loop-i-preserved c = (
+loop-i-preserved c = let g = c.args.g.now in let i = c.loop-i.i in (
   omega arith,
-  omega arith,
-  divided-turn c.args.g.now c.loop-i.t c.args.t.now c.add_multiples.new.acc _ c.loop-i.i
-      (omega arith) (omega arith) (omega arith) (c.add_multiples.ensures _ c.multiples-table.ensures) c.loop-i.invariant.2,
-  c.t-1.given.1 ∙ c.loop-i.invariant.3,
+  divided-turn g c.loop-i.t c.args.t.now c.add_multiples.new.acc (i - 1 - length g) i (omega arith) (omega arith) (omega arith)
+      (c.add_multiples.ensures _ c.multiples-table.ensures) c.loop-i.invariant.1,
 )
 
 pub returns : goal.returns
-returns c = divided-end c.args.g.now c.loop-i.t c.args.t.now c.loop-i.i (omega arith) c.loop-i.invariant.2
+returns c = divided-end c.args.g.now c.loop-i.t c.args.t.now c.loop-i.i (omega arith) c.loop-i.invariant.1

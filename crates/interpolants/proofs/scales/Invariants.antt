@@ -1,12 +1,9 @@
 -- The loop's invariant: the first i scales are written, f is the last point that has one, the scales of the points above f complete them (`scales-turn`),
 -- and the complement stands behind.
-use Rattle.std.proofs.Common.{drop, length, ◌-◌, ◌≡◌, ◌≤◌}
+use Rattle.std.proofs.Common.{drop, length, ◌≡◌}
 use Rattle.interpolants.specs.Complement.{complement_of}
 use Rattle.interpolants.proofs.Laws.Loops.{Weighted}
 use Rattle.interpolants.proofs.scales.Given as goal
 
 abbrev pub invariant-loop-i : goal.invariant-loop-i
-invariant-loop-i l = (l.i ≤ l.m) × (l.f ≡ l.i) × Weighted (complement_of l.m) l.m l.i l.f l.out × (length l.out ≡ length l.initial.out) × (drop l.m l.out ≡ complement_of l.m)
-
-abbrev pub decreases-loop-i : goal.decreases-loop-i
-decreases-loop-i l = l.m - l.i
+invariant-loop-i l = Weighted (complement_of l.m) l.m l.i l.i l.out × (length l.out ≡ length l.initial.out) × (drop l.m l.out ≡ complement_of l.m)

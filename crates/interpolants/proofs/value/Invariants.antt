@@ -1,11 +1,8 @@
 -- The loop's invariant: v is the value at f of the coefficients from i on (`horner-turn`).
-use Rattle.std.proofs.Common.{drop, length, ◌≡◌, ◌≤◌}
+use Rattle.std.proofs.Common.{drop, ◌≡◌}
 use Rattle.algebra.specs.Polynomial.{eval}
 use Rattle.bytefield.specs.Product.{byte_ops}
 use Rattle.interpolants.proofs.value.Given as goal
 
 abbrev pub invariant-loop-i : goal.invariant-loop-i
-invariant-loop-i l = (l.i ≤ length l.g) × (l.v ≡ eval byte_ops (drop l.i l.g) l.f)
-
-abbrev pub decreases-loop-i : goal.decreases-loop-i
-decreases-loop-i l = l.i
+invariant-loop-i l = l.v ≡ eval byte_ops (drop l.i l.g) l.f

@@ -1,33 +1,19 @@
 -- The words become X^255 + 1 less X^m·G; divided by the complement they leave F but its leading one (`vanishing-made`).
-use Rattle.std.proofs.Common.{arith, length, length-append, length-drop, length-take, rules, sym, take, ◌-◌, ◌∙◌, ◌≡◌}
+use Rattle.std.proofs.Common.{arith, length, sym, take, ◌-◌, ◌≡◌}
 use Rattle.interpolants.proofs.Laws.Shares.{length-low}
 use Rattle.interpolants.proofs.Laws.Vanishing.{vanishing-made}
 use Rattle.interpolants.proofs.vanishing.Goals as goal
-use Rattle.interpolants.proofs.vanishing.Goals.{After-add_share, Start}
+use Rattle.interpolants.proofs.vanishing.Goals.{Start}
 
 low : (c : Start) → length (take (255 - (length c.args.out.now)) c.args.g.now) ≡ 255 - (length c.args.out.now)
 low c =
     let (some, few, eg) = c.requires in length-low ((length c.args.out.now)) few c.args.g.now eg
 
--- the words keep their number
-words : (c : After-add_share) → length c.add_share.new.words ≡ 255 - (length c.args.out.now)
-words c =
-    c.add_share.auto.words ∙ simp (length-take, length-drop) (omega arith)
-
 pub slice_bounds-add_share-end : goal.slice_bounds-add_share-end
 slice_bounds-add_share-end c = sym (low (goal.at.slice_bounds-add_share-end c).Start)
 
-pub add_share-requires : goal.add_share-requires
-add_share-requires c = (simp (length-take, length-drop) (omega arith), search rules)
-
-pub slice_bounds-divide-end : goal.slice_bounds-divide-end
-slice_bounds-divide-end c = simp (length-append, length-take, length-drop) (omega (arith, words (goal.at.slice_bounds-divide-end c).After-add_share))
-
 pub slice_bounds-divide-end-2 : goal.slice_bounds-divide-end-2
 slice_bounds-divide-end-2 c = sym (low (goal.at.slice_bounds-divide-end-2 c).Start)
-
-pub divide-requires : goal.divide-requires
-divide-requires c = simp (length-append, length-take, length-drop) (omega (arith, words (goal.at.divide-requires c).After-add_share))
 
 pub returns : goal.returns
 returns c = let (some, few, eg) = c.requires in

@@ -1,12 +1,8 @@
 -- The loop's invariant: the first i rows are written, and a is where row i starts (`rows-turn`).
-use Rattle.std.proofs.Common.{length, ◌*◌, ◌-◌, ◌≡◌, ◌≤◌}
+use Rattle.std.proofs.Common.{length, ◌≡◌}
 use Rattle.lists.specs.Blend.{blend}
 use Rattle.relation.specs.Key.{rows}
 use Rattle.key.proofs.image.Given as goal
 
 abbrev pub invariant-loop-i : goal.invariant-loop-i
-invariant-loop-i l =
-    (l.i ≤ l.n) × (l.a ≡ l.i * length l.x) × (l.out ≡ blend l.i (rows (length l.initial.out) l.matrix l.x) l.initial.out) × (length l.out ≡ length l.initial.out)
-
-abbrev pub decreases-loop-i : goal.decreases-loop-i
-decreases-loop-i l = l.n - l.i
+invariant-loop-i l = l.out ≡ blend l.i (rows (length l.initial.out) l.matrix l.x) l.initial.out

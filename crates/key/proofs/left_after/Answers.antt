@@ -6,8 +6,5 @@ use Rattle.key.proofs.left_after.Goals as goal
 pub returns-then-b-ne0 : goal.returns-then-b-ne0
 returns-then-b-ne0 c = spared_other _ _ c.if-b-ne0.true
 
-pub returns-then-left-eq0 : goal.returns-then-left-eq0
-returns-then-left-eq0 c = spared-zero _ _ _ (omega arith) (omega arith)
-
 pub returns : goal.returns
-returns c = spared-zero _ _ _ (omega arith) (omega arith)
+returns c = spared-zero _ _ _ (omega arith) c.saturating_sub.ensures

@@ -3,9 +3,6 @@ use Rattle.std.proofs.Common.{refl}
 use Rattle.key.specs.Loops.Gather.{put-hit, put-miss}
 use Rattle.key.proofs.put_if.Goals as goal
 
-pub bounds-out-at : goal.bounds-out-at
-bounds-out-at c = c.requires.0 c.if-hit.true
-
 pub returns-then-hit : goal.returns-then-hit
 returns-then-hit c = let a = c.args in put-hit a.hit a.out.now a.at a.b _ c.if-hit.true refl
 

@@ -16,7 +16,6 @@ through_ratios-requires c =
       omega (arith, f.fits, c.requires.2, c.split.auto.out),
       omega (arith, f.short, c.requires.2, c.split.auto.out),
       split-apart c.args.w c.args.x.now f.light f.fits c.split.new.out c.split.ensures,
-      c.requires.4,
     )
 
 pub returns : goal.returns

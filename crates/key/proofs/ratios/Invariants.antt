@@ -1,5 +1,5 @@
 -- The loop's invariant: the first i values are divided and the others as they were (`ratios-turn`).
-use Rattle.std.proofs.Common.{length, ◌-◌, ◌≡◌, ◌≤◌}
+use Rattle.std.proofs.Common.{◌≡◌}
 use Rattle.lists.specs.Blend.{blend}
 use Rattle.algebra.specs.Polynomial.Ratios.{ratios}
 use Rattle.bytefield.specs.Product.{byte_ops}
@@ -7,7 +7,4 @@ use Rattle.bytefield.specs.Inverse.{inverse}
 use Rattle.key.proofs.ratios.Given as goal
 
 abbrev pub invariant-loop-i : goal.invariant-loop-i
-invariant-loop-i l = (l.i ≤ l.n) × (l.ys ≡ blend l.i (ratios byte_ops inverse l.gs l.fs l.initial.ys) l.initial.ys) × (length l.ys ≡ length l.initial.ys)
-
-abbrev pub decreases-loop-i : goal.decreases-loop-i
-decreases-loop-i l = l.n - l.i
+invariant-loop-i l = l.ys ≡ blend l.i (ratios byte_ops inverse l.gs l.fs l.initial.ys) l.initial.ys

@@ -1,10 +1,7 @@
 -- By cases: `root-hit` and `root-miss`.
-use Rattle.std.proofs.Common.{arith, refl}
+use Rattle.std.proofs.Common.{refl}
 use Rattle.key.specs.Loops.Locator.{root-hit, root-miss}
 use Rattle.key.proofs.root_if.Goals as goal
-
-pub overflow_sub-a : goal.overflow_sub-a
-overflow_sub-a c = omega (arith, c.requires.0 c.if-hit.true)
 
 pub returns-then-hit : goal.returns-then-hit
 returns-then-hit c = let a = c.args in

@@ -2,5 +2,5 @@
 use Rattle.keyinput.specs.Read.{read-on}
 use Rattle.keyinput.proofs.feed_rest.Goals as goal
 
-pub loop-turns-preserved : goal.loop-turns-preserved
-loop-turns-preserved g c = read-on c.loop-turns.invariant c.in_ok-fed.ensures.read
+pub loop-preserved : goal.loop-preserved
+loop-preserved g c = read-on c.loop.invariant (rw c.in-Some.is at c.in_ok-next.ensures.read)

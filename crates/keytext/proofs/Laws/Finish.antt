@@ -2,14 +2,14 @@
 --
 -- finished h           the output from a scanner's state and the slices
 -- finish-listing       the output after a text t, from slices that hold the largest matrix, y and x_A, is the listing of t
--- read-malformed, read-parameter, read_length, read-passed     the checks 10, 1 and 2 by their cases
+-- read-row             the checks 10, 1 and 2 from their tests
 -- Read, read_done      what is known where they pass
 -- read-within, read_held       the parameters are within their limits, and the slices hold what they say
 -- finish-malformed, finish-refused, finish-weighed, weighed-light, weighed-heavy      the output by its cases
 -- read_fits            the slices hold what the parameters say
 -- room                 zeros have room for as many bytes
 -- fits-room            a listing lies within what it was written to
-use Rattle.std.specs.Prelude.{◌≡◌, false, ◌&&◌, length, take, drop, get_or, replicate}
+use Rattle.std.specs.Prelude.{◌≡◌, false, Ok, Err, ◌&&◌, length, take, drop, get_or, replicate}
 use Rattle.std.proofs.Math.Path.{refl, ap}
 use Rattle.std.proofs.Common.{sym, ◌∙◌, arith, length-append, le-leb, ne_eqb, eqb-true, leb-true}
 use Prim.Native.Nat.{ℕ, ◌+◌, ◌≤◌}
@@ -21,11 +21,10 @@ use Rattle.lists.specs.Part.{put_at}
 use Rattle.std.proofs.lemmas.List.{length-replicate}
 use Rattle.lists.specs.Checks.Laws.{and_left, and_right}
 use Rattle.answers.specs.declared.Refusal.{Refusal}
-use Rattle.answers.specs.declared.Answer.{Answer}
-use Rattle.answers.specs.declared.Answer.TheVariants.{Done, Refused}
+use Rattle.answers.specs.Answer.{Answer}
 use Rattle.answers.specs.declared.Refusal.TheVariants.{Parameter, Length, Weight, Malformed}
-use Rattle.answers.specs.Checks.{checks}
-use Rattle.answers.specs.Checks.Laws.{Done≢Refused}
+use Rattle.answers.specs.Checks.{check, checks}
+use Rattle.answers.specs.Checks.Laws.{Ok≢Err}
 use Rattle.parameters.specs.declared.Parameters.{Parameters}
 use Rattle.parameters.specs.Limits.{within_limits, Within}
 use Rattle.parameters.specs.Limits.Laws.{test-within}
@@ -168,24 +167,12 @@ read_fits p ls m y x e =
       leb-true p.k x (and_right (eqb (get_or ls 2 0) p.k) (leb p.k x) (and_right (A && B) C e)),
     )
 
--- the checks 10, 1 and 2 by the first that fails, with the parameters p that were read
-pub read-malformed : (s : KeyScan) (m y x : ℕ) → complete s ≡ false → Refused Malformed ≡ read_checks s m y x
+-- the checks 10, 1 and 2 from their tests, with the parameters p that were read
+pub read-row : (s : KeyScan) (m y x : ℕ) {p : Parameters} → p ≡ parameters_of s.numbers → (a b c : Bool) → a ≡ complete s → b ≡ within_limits p
+    → c ≡ lengths_read p s.lengths m y x → check a Malformed (check b Parameter (check c Length (Ok tt))) ≡ read_checks s m y x
 unfolding read_checks
-read-malformed s m y x e = rw e
-
-module _ (s : KeyScan) (m y x : ℕ) (c : complete s ≡ true) {p : Parameters} (r : p ≡ parameters_of s.numbers) where
-  pub read-parameter : within_limits p ≡ false → Refused Parameter ≡ read_checks s m y x
-  unfolding read_checks
-  read-parameter e = rw (c, ap within_limits (sym r) ∙ e)
-
-  module _ (l : within_limits p ≡ true) where
-    pub read_length : lengths_read p s.lengths m y x ≡ false → Refused Length ≡ read_checks s m y x
-    unfolding read_checks
-    read_length e = rw (c, ap within_limits (sym r) ∙ l, ap (λ (q : Parameters). lengths_read q s.lengths m y x) (sym r) ∙ e)
-
-    pub read-passed : lengths_read p s.lengths m y x ≡ true → Done ≡ read_checks s m y x
-    unfolding read_checks
-    read-passed e = rw (c, ap within_limits (sym r) ∙ l, ap (λ (q : Parameters). lengths_read q s.lengths m y x) (sym r) ∙ e)
+read-row s m y x r a b c ea eb ec =
+    rw (ea, eb ∙ ap within_limits r, ec ∙ ap (λ (q : Parameters). lengths_read q s.lengths m y x) r)
 
 -- what was read, where the three pass
 pub record Read (s : KeyScan) (m y x : ℕ) : Type 0 where
@@ -193,13 +180,13 @@ pub record Read (s : KeyScan) (m y x : ℕ) : Type 0 where
   pub limits : within_limits (parameters_of s.numbers) ≡ true
   pub lengths : lengths_read (parameters_of s.numbers) s.lengths m y x ≡ true
 
-three-pass : (a b c : Bool) → checks ((a, Malformed) ∷ (b, Parameter) ∷ (c, Length) ∷ []) ≡ Done → (a ≡ true) × (b ≡ true) × (c ≡ true)
-three-pass false b c h = absurd (Done≢Refused (sym h))
-three-pass true false c h = absurd (Done≢Refused (sym h))
-three-pass true true false h = absurd (Done≢Refused (sym h))
+three-pass : (a b c : Bool) → checks ((a, Malformed) ∷ (b, Parameter) ∷ (c, Length) ∷ []) ≡ Ok tt → (a ≡ true) × (b ≡ true) × (c ≡ true)
+three-pass false b c h = absurd (Ok≢Err (sym h))
+three-pass true false c h = absurd (Ok≢Err (sym h))
+three-pass true true false h = absurd (Ok≢Err (sym h))
 three-pass true true true h = (refl, refl, refl)
 
-pub read_done : (s : KeyScan) (m y x : ℕ) → read_checks s m y x ≡ Done → Read s m y x
+pub read_done : (s : KeyScan) (m y x : ℕ) → read_checks s m y x ≡ Ok tt → Read s m y x
 unfolding read_checks
 read_done s m y x h =
     let f = three-pass (complete s) (within_limits (parameters_of s.numbers)) (lengths_read (parameters_of s.numbers) s.lengths m y x) h in
@@ -213,15 +200,15 @@ module _ (s : KeyScan) {m y x : ℕ} {p : Parameters} (r : p ≡ parameters_of s
   read_held = read_fits p s.lengths m y x (ap (λ (q : Parameters). lengths_read q s.lengths m y x) r ∙ d.lengths)
 
 -- one of the three fails, whatever a fourth says
-first-refused : (w : ℕ) (v : List ℕ) (a b c e : Bool) {r : Refusal} → checks ((a, Malformed) ∷ (b, Parameter) ∷ (c, Length) ∷ []) ≡ Refused r
+first-refused : (w : ℕ) (v : List ℕ) (a b c e : Bool) {r : Refusal} → checks ((a, Malformed) ∷ (b, Parameter) ∷ (c, Length) ∷ []) ≡ Err r
     → printed (checks ((a, Malformed) ∷ (b, Parameter) ∷ (c, Length) ∷ (e, Weight) ∷ [])) w v ≡ refused_line r
 first-refused w v false b c e h = ap (λ (z : Answer). printed z w v) h
 first-refused w v true false c e h = ap (λ (z : Answer). printed z w v) h
 first-refused w v true true false e h = ap (λ (z : Answer). printed z w v) h
-first-refused w v true true true e h = absurd (Done≢Refused h)
+first-refused w v true true true e h = absurd (Ok≢Err h)
 
 module _ (s : KeyScan) (m y x : List ℕ) where
-  pub finish-refused : {r : Refusal} → read_checks s (length m) (length y) (length x) ≡ Refused r → finish_of s m y x ≡ refused_line r
+  pub finish-refused : {r : Refusal} → read_checks s (length m) (length y) (length x) ≡ Err r → finish_of s m y x ≡ refused_line r
   unfolding finish_of read_checks
   finish-refused h =
       let p : Parameters = parameters_of s.numbers in

@@ -1,19 +1,20 @@
-use Rattle.std.proofs.Common.{List, ap, arith, length-set, refl, rules, set, ℕ, ◌∙◌, ◌≡◌}
+use Rattle.std.proofs.Common.{List, ap, arith, length, length-take-le, set, take, ℕ, ◌∙◌, ◌≡◌}
 use Rattle.lists.specs.Zeroed.{zeroed}
-use Rattle.lists.specs.Zeroed.Laws.{zeroed-none, zeroed-more}
+use Rattle.lists.specs.Zeroed.Laws.{zeroed-none, zeroed-more, zeroed-all, zeroed-front}
 use Rattle.lists.proofs.zero_front.Goals as goal
 
-pub loop-i-init : goal.loop-i-init
-loop-i-init c = (search rules, zeroed-none _, refl)
+pub loop-x-init : goal.loop-x-init
+loop-x-init c = zeroed-none _
 
-pub loop-i-preserved : goal.loop-i-preserved
-loop-i-preserved c = (
-  omega arith,
-  ap (λ (l : List ℕ). set l c.loop-i.i 0) c.loop-i.invariant.1 ∙ zeroed-more c.loop-i.i c.args.w.now (omega arith),
-  simp length-set c.loop-i.invariant.2,
-)
+pub loop-x-preserved : goal.loop-x-preserved
+loop-x-preserved c =
+    ap (λ (l : List ℕ). set l c.loop-x.x-index 0) c.loop-x.invariant ∙ zeroed-more c.loop-x.x-index _ (omega arith)
 
 pub returns : goal.returns
 returns c =
-    let e : c.loop-i.i ≡ c.args.n = omega arith in
-    c.loop-i.invariant.1 ∙ ap (λ (k : ℕ). zeroed k c.args.w.now) e
+    let w = c.args.w.now in
+    let n = c.args.n in
+    let front : length (take n w) ≡ n = length-take-le n w c.requires in
+    let all : c.loop-x.x-index ≡ n = omega arith in
+    zeroed-front w c.loop-x.x-items n
+    (c.loop-x.invariant ∙ ap (λ (k : ℕ). zeroed k (take n w)) all ∙ zeroed-all (take n w) n front)

@@ -6,6 +6,7 @@
 -- Placed s d₀ d at      s was written to the first `at` places of d₀, the rest is as it was
 -- placed-none, -front, -behind   no part yet; what stands at the front; no part yet behind it
 -- placed-turn, turn-kept         one part more, at its place; the whole keeps its length
+-- placed-next                    one part more, where the place behind it is told otherwise
 -- prefix-digest         h of run e
 -- points-inside, -next  where message 2 of run e stands
 -- response e, opening is e       messages 3 and 5 of run e
@@ -100,6 +101,13 @@ placed-turn f e s d₀ d at end h ys q l k m =
     let next = placed-more (s ++ joined f e) d₀ d at end h ys l k m in
     let same : (s ++ joined f e) ++ ys ≡ s ++ joined f (e + 1) = append_assoc s (joined f e) ys ∙ ap (◌++◌ s) (joined-more f e ys q) in
     record { is = next.is ∙ ap (λ (z : List ℕ). z ++ drop end d₀) same; size = ap length (sym same) ∙ next.size }
+
+pub placed-next : (f : ℕ → List ℕ) (e : ℕ) (s d₀ d : List ℕ) (at end next : ℕ) → end ≡ next → Placed (s ++ joined f e) d₀ d at → (ys : List ℕ) → ys ≡ f e → at ≤ end
+    → end ≤ length d → length ys ≡ length (take (end - at) (drop at d))
+    → Placed (s ++ joined f (e + 1)) d₀ (take at d ++ (ys ++ drop (end - at) (drop at d))) next
+placed-next f e s d₀ d at end next z h ys q l k m =
+    let p = placed-turn f e s d₀ d at end h ys q l k m in
+    record { is = p.is ∙ ap (λ (n : ℕ). (s ++ joined f (e + 1)) ++ drop n d₀) z; size = p.size ∙ z }
 
 -- the whole keeps its length
 pub turn-kept : (d ys : List ℕ) (at end : ℕ) → at ≤ end → end ≤ length d → length ys ≡ length (take (end - at) (drop at d))

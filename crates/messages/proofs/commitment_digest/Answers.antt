@@ -29,12 +29,6 @@ slice_bounds-states-end c = (room (goal.at.slice_bounds-states-end c).After-aux_
 pub slice_bounds-own_leaves-end : goal.slice_bounds-own_leaves-end
 slice_bounds-own_leaves-end c = front_length _ _ (room (goal.at.slice_bounds-own_leaves-end c).After-aux_length-length).states
 
-pub slice_bounds-aux-end : goal.slice_bounds-aux-end
-slice_bounds-aux-end c = (room (goal.at.slice_bounds-aux-end c).After-aux_length-length).aux
-
-pub slice_bounds-own_leaves-end-2 : goal.slice_bounds-own_leaves-end-2
-slice_bounds-own_leaves-end-2 c = front_length _ _ (room (goal.at.slice_bounds-own_leaves-end-2 c).After-aux_length-length).aux
-
 pub own_leaves-requires : goal.own_leaves-requires
 own_leaves-requires c = (c.requires.0, (room (goal.at.own_leaves-requires c).After-aux_length-length).states-are, (room (goal.at.own_leaves-requires c).After-aux_length-length).aux-is)
 
@@ -43,12 +37,6 @@ slice_bounds-states-end-2 c = (states-back (goal.at.slice_bounds-states-end-2 c)
 
 pub slice_bounds-digest_commitments-end-2 : goal.slice_bounds-digest_commitments-end-2
 slice_bounds-digest_commitments-end-2 c = (states-back (goal.at.slice_bounds-digest_commitments-end-2 c).After-own_leaves).lent
-
-pub slice_bounds-aux-end-2 : goal.slice_bounds-aux-end-2
-slice_bounds-aux-end-2 c = (aux-back (goal.at.slice_bounds-aux-end-2 c).After-own_leaves).there
-
-pub slice_bounds-digest_commitments-end-4 : goal.slice_bounds-digest_commitments-end-4
-slice_bounds-digest_commitments-end-4 c = (aux-back (goal.at.slice_bounds-digest_commitments-end-4 c).After-own_leaves).lent
 
 pub digest_commitments-requires : goal.digest_commitments-requires
 digest_commitments-requires c = record { within = c.requires.0.within; states = sym (states-back (goal.at.digest_commitments-requires c).After-own_leaves).lent ∙ c.states_length-size.ensures }

@@ -5,7 +5,7 @@ use Rattle.lists.specs.Zeroed.{zeroed}
 use Rattle.layout.specs.Layout.Bounds.{sums-fit}
 use Rattle.points.specs.Written.{front_length}
 use Rattle.exchange.specs.Values.{key_of}
-use Rattle.messages.proofs.Laws.Fronts.{x_fits, x-length, x-light, front-zeroed, Front, front-back}
+use Rattle.messages.proofs.Laws.Fronts.{x-length, x-light, front-zeroed, Front, front-back}
 use Rattle.messages.specs.Response.{response_of}
 use Rattle.messages.proofs.Laws.Response.{response-made}
 use Rattle.messages.specs.Run.{run_in, root-length}
@@ -27,9 +27,6 @@ back c =
     let short : c.sums_length-end.result ≤ c.work_length-n.result = omega (arith, c.work_length-n.ensures, c.sums_length-end.ensures, sums-fit c.args.p c.requires.0.within) in
     let fits : c.sums_length-end.result ≤ length c.args.work.now = omega (arith, short, c.work_length-n.ensures, c.requires.0.work-fits) in
     front-back _ _ _ c.fill.auto.sums (fits)
-
-pub slice_bounds-fill-end : goal.slice_bounds-fill-end
-slice_bounds-fill-end c = front_length _ _ (x_fits _ _ _ _ c.requires.0)
 
 pub slice_bounds-fill-end-2 : goal.slice_bounds-fill-end-2
 slice_bounds-fill-end-2 c = fits (goal.at.slice_bounds-fill-end-2 c).After-sums_length-end
@@ -55,9 +52,6 @@ slice_bounds-respond-end-3 c = (back (goal.at.slice_bounds-respond-end-3 c).Afte
 pub respond-requires : goal.respond-requires
 respond-requires c = let h = c.requires in
     (record { within = h.0.within; keyed = h.1; sums-are = sym (back (goal.at.respond-requires c).After-fill).lent ∙ c.sums_length-end.ensures }, h.2)
-
-pub zero_front-requires : goal.zero_front-requires
-zero_front-requires c = omega (arith, (back (goal.at.zero_front-requires c).After-fill).rest, c.work_length-n.ensures, c.requires.0.work-fits)
 
 pub returns : goal.returns
 returns c = let a = c.args in let h = c.requires.0 in let key = key_of a.matrix.now a.y.now in

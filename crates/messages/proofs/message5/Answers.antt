@@ -39,26 +39,11 @@ aux-back c =
     let aux-fits : c.aux_length-length.result ≤ longest_aux = omega (arith, c.aux_length-length.ensures, aux-most c.args.p c.requires.0.within) in
     front-back _ _ _ c.hidden_leaf.auto.aux (aux-fits)
 
-pub overflow_add-size : goal.overflow_add-size
-overflow_add-size c = omega (arith, c.share_length-size.ensures, share-most c.args.p c.requires.0.within)
-
 pub slice_bounds-hidden_leaf-end : goal.slice_bounds-hidden_leaf-end
 slice_bounds-hidden_leaf-end c = out-fits (goal.at.slice_bounds-hidden_leaf-end c).After-aux_length-length
 
 pub slice_bounds-hidden_leaf-end-2 : goal.slice_bounds-hidden_leaf-end-2
 slice_bounds-hidden_leaf-end-2 c = front_length _ _ (out-fits (goal.at.slice_bounds-hidden_leaf-end-2 c).After-aux_length-length)
-
-pub slice_bounds-own-end : goal.slice_bounds-own-end
-slice_bounds-own-end c = own-fits (goal.at.slice_bounds-own-end c).After-aux_length-length
-
-pub slice_bounds-hidden_leaf-end-3 : goal.slice_bounds-hidden_leaf-end-3
-slice_bounds-hidden_leaf-end-3 c = front_length _ _ (own-fits (goal.at.slice_bounds-hidden_leaf-end-3 c).After-aux_length-length)
-
-pub slice_bounds-aux-end : goal.slice_bounds-aux-end
-slice_bounds-aux-end c = aux-fits (goal.at.slice_bounds-aux-end c).After-aux_length-length
-
-pub slice_bounds-hidden_leaf-end-4 : goal.slice_bounds-hidden_leaf-end-4
-slice_bounds-hidden_leaf-end-4 c = front_length _ _ (aux-fits (goal.at.slice_bounds-hidden_leaf-end-4 c).After-aux_length-length)
 
 pub hidden_leaf-requires : goal.hidden_leaf-requires
 hidden_leaf-requires c = (
@@ -70,18 +55,6 @@ hidden_leaf-requires c = (
     aux-is = length-take-le _ (replicate longest_aux 0) (aux-fits (goal.at.hidden_leaf-requires c).After-aux_length-length) ∙ c.aux_length-length.ensures;
   },
 )
-
-pub slice_bounds-own-end-2 : goal.slice_bounds-own-end-2
-slice_bounds-own-end-2 c = (own_back (goal.at.slice_bounds-own-end-2 c).After-hidden_leaf).there
-
-pub slice_bounds-put_opening-end-2 : goal.slice_bounds-put_opening-end-2
-slice_bounds-put_opening-end-2 c = (own_back (goal.at.slice_bounds-put_opening-end-2 c).After-hidden_leaf).lent
-
-pub slice_bounds-aux-end-2 : goal.slice_bounds-aux-end-2
-slice_bounds-aux-end-2 c = (aux-back (goal.at.slice_bounds-aux-end-2 c).After-hidden_leaf).there
-
-pub slice_bounds-put_opening-end-3 : goal.slice_bounds-put_opening-end-3
-slice_bounds-put_opening-end-3 c = (aux-back (goal.at.slice_bounds-put_opening-end-3 c).After-hidden_leaf).lent
 
 pub put_opening-requires : goal.put_opening-requires
 put_opening-requires c = let h = c.requires.0 in

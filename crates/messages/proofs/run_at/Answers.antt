@@ -1,6 +1,6 @@
 -- The prefix is written behind the place of the root's seed, which is hashed from it.
 -- room for the root's seed stands at the front
-use Rattle.std.proofs.Common.{arith, drop, length, length-drop, length-take-le, refl, replicate, sym, take, take_all, ◌∙◌, ◌≡◌, ◌≤◌}
+use Rattle.std.proofs.Common.{arith, drop, length, length-drop, length-take-le, refl, replicate, take, take_all, ◌∙◌, ◌≡◌, ◌≤◌}
 use Rattle.lists.specs.Part.Laws.{tail-part}
 use Rattle.points.specs.Written.{front_length, front_kept}
 use Rattle.runs.specs.Run.{run_prefix}
@@ -22,9 +22,6 @@ slice_bounds-put_at-end-2 c = front_length 32 c.args.seeds.now (omega arith)
 
 pub put_at-requires : goal.put_at-requires
 put_at-requires c = let l = length-take-le 32 c.args.seeds.now (omega arith) in omega arith
-
-pub slice_bounds-hash-end-4 : goal.slice_bounds-hash-end-4
-slice_bounds-hash-end-4 c = sym (front (goal.at.slice_bounds-hash-end-4 c).After-put_at-2)
 
 pub returns : goal.returns
 returns c = let seeds = c.args.seeds.now in

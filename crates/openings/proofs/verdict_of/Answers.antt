@@ -1,18 +1,17 @@
--- Each early return has a digest that differs.
+-- Each check has the value of its test.
 use Rattle.std.proofs.Common.{sym, ◌∙◌}
+use Rattle.answers.specs.Checks.Laws.{require-passed, require-refused}
 use Rattle.openings.specs.From.{judged}
 use Rattle.openings.proofs.verdict_of.Goals as goal
 
-pub returns-then-not-commitment_agrees : goal.returns-then-not-commitment_agrees
+pub returns-in_err-require : goal.returns-in_err-require
 unfolding judged
-returns-then-not-commitment_agrees c = rw (sym c.commitment_agrees.ensures ∙ c.if-not-commitment_agrees.true)
-
-pub returns-then-not-response_agrees : goal.returns-then-not-response_agrees
-unfolding judged
-returns-then-not-response_agrees c = rw
-    (sym c.commitment_agrees.ensures ∙ c.if-not-commitment_agrees.false, sym c.response_agrees.ensures ∙ c.if-not-response_agrees.true)
+returns-in_err-require c = rw (← c.commitment_agrees.ensures) (require-refused _ _ _ c.require.ensures c.in_err-require.was c.from_residual.ensures.1)
 
 pub returns : goal.returns
 unfolding judged
-returns c = rw
-    (sym c.commitment_agrees.ensures ∙ c.if-not-commitment_agrees.false, sym c.response_agrees.ensures ∙ c.if-not-response_agrees.false)
+returns c =
+    rw (
+      sym c.commitment_agrees.ensures ∙ require-passed c.commitment_agrees.result _ c.require.ensures c.in_ok-require.was,
+      ← c.response_agrees.ensures,
+    ) c.require-2.ensures

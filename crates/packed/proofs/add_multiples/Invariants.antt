@@ -1,5 +1,5 @@
 -- The loop's invariant: the products by the first j entries are added; a turn adds the product by entry j (`xor_list-more`).
-use Rattle.std.proofs.Common.{length, map, take, ℕ, ◌-◌, ◌≡◌, ◌≤◌}
+use Rattle.std.proofs.Common.{map, take, ℕ, ◌≡◌}
 use Rattle.lists.specs.Sum.{xor_list}
 use Rattle.packed.specs.Word.{scaled}
 use Rattle.packed.specs.Table.{multiples}
@@ -7,7 +7,4 @@ use Rattle.packed.proofs.add_multiples.Given as goal
 
 abbrev pub invariant-loop-j : goal.invariant-loop-j
 invariant-loop-j l =
-    (l.j ≤ length l.by) × ((v : ℕ) → l.table ≡ multiples v → l.acc ≡ xor_list l.initial.acc (take l.j (map (scaled v) l.by))) × (length l.acc ≡ length l.initial.acc)
-
-abbrev pub decreases-loop-j : goal.decreases-loop-j
-decreases-loop-j l = length l.by - l.j
+    (v : ℕ) → l.table ≡ multiples v → l.acc ≡ xor_list l.initial.acc (take l.j (map (scaled v) l.by))

@@ -1,10 +1,6 @@
--- The loop's invariant: the first i entries are zero (`blend`).
-use Rattle.std.proofs.Common.{length, replicate, ◌-◌, ◌≡◌, ◌≤◌}
-use Rattle.lists.specs.Blend.{blend}
+-- The loop's invariant: the first entries are zero.
+use Rattle.std.proofs.Common.{drop, replicate, ◌++◌, ◌≡◌}
 use Rattle.packed.proofs.clear.Given as goal
 
-abbrev pub invariant-loop-i : goal.invariant-loop-i
-invariant-loop-i l = (l.i ≤ length l.initial.words) × (l.words ≡ blend l.i (replicate (length l.initial.words) 0) l.initial.words) × (length l.words ≡ length l.initial.words)
-
-abbrev pub decreases-loop-i : goal.decreases-loop-i
-decreases-loop-i l = length l.initial.words - l.i
+abbrev pub invariant-loop-w : goal.invariant-loop-w
+invariant-loop-w l = l.words ≡ replicate l.w-index 0 ++ drop l.w-index l.words

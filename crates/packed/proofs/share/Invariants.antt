@@ -1,11 +1,8 @@
 -- The loop's invariant: the first j entries are written (`blend`).
-use Rattle.std.proofs.Common.{length, ◌-◌, ◌≡◌, ◌≤◌}
+use Rattle.std.proofs.Common.{◌≡◌}
 use Rattle.lists.specs.Blend.{blend}
 use Rattle.packed.specs.Share.{share}
 use Rattle.packed.proofs.share.Given as goal
 
 abbrev pub invariant-loop-j : goal.invariant-loop-j
-invariant-loop-j l = (l.j ≤ length l.words) × (l.out ≡ blend l.j (share l.i l.words) l.initial.out) × (length l.out ≡ length l.initial.out)
-
-abbrev pub decreases-loop-j : goal.decreases-loop-j
-decreases-loop-j l = length l.words - l.j
+invariant-loop-j l = l.out ≡ blend l.j (share l.i l.words) l.initial.out

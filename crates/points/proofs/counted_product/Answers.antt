@@ -6,4 +6,4 @@ use Rattle.points.proofs.counted_product.Goals as goal
 
 pub returns : goal.returns
 returns c =
-    ((λ b m. c.point_of-point.ensures ∙ ap (bytes 4) (c.by_table.ensures b m) ∙ bytes-word_of _), search rules)
+    ((λ b m. c.point_of.ensures ∙ ap (bytes 4) (c.by_table.ensures b m) ∙ bytes-word_of _), search rules)

@@ -2,7 +2,7 @@
 --
 --   bytes-word_of                    the bytes of the word of a point
 --   word_of-sum                      the word of a sum
---   four_bytes, word-parts          four bytes as a point, and as its word
+--   four_bytes, word-parts, number-word   four bytes as a point, and as its word
 --   x-step, z-step                  the products with X and Z by bytes
 --   byte-read                       the product of a byte and a point, from a table that starts with the point's multiples
 --   short-product, whole-product    the product of four bytes and a point, from one and from four tables
@@ -10,6 +10,7 @@
 --   tables-made                     the four tables written one behind the other
 use Rattle.std.specs.Prelude.{◌≡◌, refl, List, [], ◌∷◌, ◌++◌, map, ℕ, ◌+◌, ◌*◌, ◌/◌, ◌%◌, ◌≤◌, ◌<◌, length, get_or, take, drop}
 use Rattle.std.proofs.Common.{sym, ap₂, ◌∙◌, ⊎_elim, append_assoc, arith, lit<, length-append, get_or-take}
+use Rattle.std.specs.Int.{w32, from_le_bytes}
 use Rattle.std.proofs.Math.Path.{ap}
 use Rattle.algebra.specs.Ring.{Ring2}
 use Rattle.algebra.specs.Ring.Laws.{ring}
@@ -29,7 +30,7 @@ use Rattle.tower.specs.Field.{Point, point, bytes_of, point_of}
 use Rattle.tower.proofs.Field.Laws.{point-bytes_of}
 use Rattle.tower.proofs.Field.Laws.{bytes_of-point, point-sum, point-times}
 use Rattle.packed.specs.Word.{bytes, word, scaled}
-use Rattle.packed.specs.Word.Laws.{⊕-shl, first_byte, other-bytes}
+use Rattle.packed.specs.Word.Laws.{⊕-shl, ⊕-below, first_byte, other-bytes}
 use Rattle.packed.specs.Table.{nibbles, multiples, picked}
 use Rattle.packed.specs.Table.Laws.{picked-multiples}
 use Rattle.polynomial.specs.Bytes.{Bytes}
@@ -73,6 +74,16 @@ pub word-parts : (a : List ℕ) (b c d e : ℕ) → ((i : ℕ) → get_or a i 0 
     → b ⊕ (c * 256 ⊕ (d * 65536 ⊕ e * 16777216)) ≡ word_of (point a)
 unfolding word_of
 word-parts a b c d e h eb ec ed ee = sym (word-shifts b c d e) ∙ ap word (four-path eb ec ed ee ∙ four_bytes a h)
+
+pub number-word : (a : List ℕ) → ((i : ℕ) → get_or a i 0 < 256) → from_le_bytes w32 a ≡ word_of (point a)
+unfolding word_of word
+number-word a h =
+    let w₃ = get_or a 3 0 ⊕ 0 in
+    let w₂ = get_or a 2 0 ⊕ w₃ * 256 in
+    let w₁ = get_or a 1 0 ⊕ w₂ * 256 in
+    let e : from_le_bytes w32 a ≡ word (get_or a 0 0 ∷ get_or a 1 0 ∷ get_or a 2 0 ∷ get_or a 3 0 ∷ [])
+    = omega (arith, ⊕-zero (get_or a 3 0), ⊕-below w₃ (get_or a 2 0) (h 2), ⊕-below w₂ (get_or a 1 0) (h 1), ⊕-below w₁ (get_or a 0 0) (h 0)) in
+    e ∙ ap word (four_bytes a h)
 
 -- ---- the steps of the tower
 

@@ -6,16 +6,13 @@ use Rattle.polynomial.specs.Loops.Newton.{expanded-start, expanded-turn, expande
 use Rattle.polynomial.proofs.from_newton.Goals as goal
 
 pub loop-j-init : goal.loop-j-init
-loop-j-init c = (omega arith, expanded-start c.args.points.now _ c.requires.0, refl)
+loop-j-init c = expanded-start c.args.points.now _ c.requires
 
 pub loop-j-preserved : goal.loop-j-preserved
 loop-j-preserved c = let x = c.loop-j.x in
-    let j = c.loop-j.j in let d = c.expand in (
-      omega arith,
-      expanded-turn c.args.points.now j _ x c.args.x.now _ d.new.p (omega arith) (omega (arith, c.requires.0)) (omega arith) refl
-          (tail-back x d.new.p (j - 1) (omega arith)) (d.ensures ∙ ap (expand byte_ops _) (tail-part x (j - 1))) c.loop-j.invariant.1,
-      c.x-1.given.1 ∙ c.loop-j.invariant.2,
-    )
+    let j = c.loop-j.j in let d = c.expand in
+    expanded-turn c.args.points.now j _ x c.args.x.now _ d.new.p (omega arith) (omega (arith, c.requires)) (omega arith) refl
+    (tail-back x d.new.p (j - 1) (omega arith)) (d.ensures ∙ ap (expand byte_ops _) (tail-part x (j - 1))) c.loop-j.invariant
 
 pub returns : goal.returns
-returns c = expanded-end c.args.points.now c.loop-j.j c.loop-j.x c.args.x.now (omega arith) c.loop-j.invariant.1
+returns c = expanded-end c.args.points.now c.loop-j.j c.loop-j.x c.args.x.now (omega arith) c.loop-j.invariant

@@ -1,5 +1,5 @@
 -- The loop's invariant: the first i values are their slopes and the others as they were (`slopes-turn`).
-use Rattle.std.proofs.Common.{length, ◌-◌, ◌≡◌, ◌≤◌}
+use Rattle.std.proofs.Common.{◌≡◌}
 use Rattle.lists.specs.Blend.{blend}
 use Rattle.algebra.specs.Polynomial.{slopes}
 use Rattle.bytefield.specs.Product.{byte_ops}
@@ -7,7 +7,4 @@ use Rattle.bytefield.specs.Inverse.{inverse}
 use Rattle.polynomial.proofs.slopes.Given as goal
 
 abbrev pub invariant-loop-i : goal.invariant-loop-i
-invariant-loop-i l = (l.i ≤ l.n) × (l.zs ≡ blend l.i (slopes byte_ops inverse l.f l.y l.gs l.initial.zs) l.initial.zs) × (length l.zs ≡ length l.initial.zs)
-
-abbrev pub decreases-loop-i : goal.decreases-loop-i
-decreases-loop-i l = l.n - l.i
+invariant-loop-i l = l.zs ≡ blend l.i (slopes byte_ops inverse l.f l.y l.gs l.initial.zs) l.initial.zs

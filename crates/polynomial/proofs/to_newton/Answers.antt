@@ -6,18 +6,12 @@ use Rattle.bytefield.specs.Inverse.{inverse}
 use Rattle.polynomial.specs.Loops.Newton.{newton-turn, newton-end}
 use Rattle.polynomial.proofs.to_newton.Goals as goal
 
-pub loop-j-init : goal.loop-j-init
-loop-j-init c = (omega arith, refl, refl)
-
 pub loop-j-preserved : goal.loop-j-preserved
 loop-j-preserved c = let fs = c.args.points.now in
-    let x = c.loop-j.x in let j = c.loop-j.j in let d = c.slopes in (
-      omega arith,
-      newton-turn fs j _ _ x c.args.x.now d.new.zs _ (omega (arith, c.requires.0)) (omega arith) refl refl (tail-back x d.new.zs (j + 1) (omega arith))
-          (d.ensures ∙ ap₂ (slopes byte_ops inverse _ _) (tail-part fs (j + 1)) (tail-part x (j + 1))) c.loop-j.invariant.1,
-      c.x-1.given.1 ∙ c.loop-j.invariant.2,
-    )
+    let x = c.loop-j.x in let j = c.loop-j.j in let d = c.slopes in
+    newton-turn fs j _ _ x c.args.x.now d.new.zs _ (omega arith) (omega (arith, c.requires)) refl refl (tail-back x d.new.zs (j + 1) (omega (arith, c.requires)))
+    (d.ensures ∙ ap₂ (slopes byte_ops inverse _ _) (tail-part fs (j + 1)) (tail-part x (j + 1))) c.loop-j.invariant
 
 pub returns : goal.returns
 returns c = let l = c.loop-j in
-    newton-end c.args.points.now l.j l.x c.args.x.now (omega (arith, c.requires.0)) (omega arith) l.invariant.1
+    newton-end c.args.points.now l.j l.x c.args.x.now (omega arith) (omega (arith, c.requires)) l.invariant

@@ -1,37 +1,23 @@
 -- The laws of the checks of begin.
 --
--- passed, failed     what a branch on a negated test says
--- begin-row          the checks from the values of their tests
 -- limited            what the test of the limits says
 -- begin-sized        what the test of the lengths says
 -- padded-back        x lent at the front of 255 zeros, and back
-use Rattle.std.specs.Prelude.{◌≡◌, Bool, true, false, ◌&&◌, not, List, ◌++◌, ℕ, eqb, leb, length, replicate, drop}
-use Rattle.std.proofs.Common.{sym, ◌∙◌, zero-add}
-use borrow.Author.Tests.{eqb-true, not-true, not-false}
+use Rattle.std.specs.Prelude.{◌≡◌, Bool, true, ◌&&◌, List, ◌++◌, ℕ, eqb, length, replicate, drop}
+use Rattle.std.proofs.Common.{zero-add}
+use borrow.Author.Tests.{eqb-true}
 use Rattle.lists.specs.Part.{put_at}
 use Rattle.lists.specs.Checks.{all_true}
 use Rattle.lists.specs.Checks.Laws.{all-at, and_left, and_right}
-use Rattle.answers.specs.declared.Answer.TheVariants.{Done}
-use Rattle.answers.specs.declared.Refusal.TheVariants.{Parameter, Length, Weight, Repeated}
-use Rattle.answers.specs.Checks.{check, checks}
 use Rattle.parameters.specs.declared.Parameters.{Parameters}
 use Rattle.parameters.specs.Limits.{within_limits}
 use Rattle.parameters.specs.Limits.Laws.{test-within}
 use Rattle.layout.specs.Runs.{runs_within, message1_length}
 use Rattle.layout.specs.Runs.Laws.{runs-within}
-use Rattle.relation.specs.Key.{weight_of, vector_of}
 use Rattle.layout.specs.Lent.{lent}
 use Rattle.layout.specs.Lent.Laws.{test-lent}
 use Rattle.prover.specs.declared.arguments.Lengths.{Lengths}
-use Rattle.prover.specs.Arguments.{Limited, begin_tests, begin_row, Sized}
-
--- ---- a test that the code made, negated and branched on
-
-pub passed : {r b : Bool} → r ≡ b → not r ≡ false → b ≡ true
-passed {r} e h = sym e ∙ not-false r h
-
-pub failed : {r b : Bool} → r ≡ b → not r ≡ true → b ≡ false
-failed {r} e h = sym e ∙ not-true r h
+use Rattle.prover.specs.Arguments.{Limited, begin_tests, Sized}
 
 -- ---- the checks
 
@@ -44,12 +30,6 @@ limited p runs e = record {
 module _ (p : Parameters) (runs : ℕ) (x_a matrix y : List ℕ) (l : Lengths) where
   abbrev tests : List Bool
   tests = begin_tests p runs (length x_a) (length matrix) (length y) l
-
-  pub begin-row : (again limits lengths light same : Bool) → (within_limits p && runs_within runs) ≡ limits → all_true tests ≡ lengths
-      → leb (weight_of (vector_of matrix y x_a)) p.w ≡ light → again ≡ same
-      → check limits Parameter (check lengths Length (check light Weight (check (not same) Repeated Done))) ≡ checks (begin_row p runs x_a matrix y l again)
-  unfolding begin_row
-  begin-row again limits lengths light same e f g h = rw (← e, ← f, ← g, ← h)
 
   pub begin-sized : all_true tests ≡ true → Sized p runs (length x_a) (length matrix) (length y) l
   unfolding begin_tests lent

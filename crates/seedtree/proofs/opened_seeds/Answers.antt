@@ -18,7 +18,11 @@ skipped-fits c =
 
 last-level : (c : After-loop-k) → c.loop-k.k ≡ c.args.d
 last-level c =
-    omega (arith, c.loop-k.invariant.on.within)
+    omega arith
+
+-- the place of the hidden leaf
+last-place : (c : After-loop-k) → c.loop-k.at + 16 ≤ length c.loop-k.seeds
+last-place c = omega (arith, c.loop-k.invariant.room, c.loop-k.invariant.on.leaf)
 
 pub loop-k-init : goal.loop-k-init
 loop-k-init c = let args = c.args in let shape = c.requires in
@@ -50,14 +54,14 @@ overflow_mul-at c = omega (arith, skipped-fits (goal.at.overflow_mul-at c).After
 pub overflow_add-at : goal.overflow_add-at
 overflow_add-at c = omega (arith, skipped-fits (goal.at.overflow_add-at c).After-skipped, c.loop-k.invariant.long)
 
-pub next-next-requires : goal.next-next-requires
-next-next-requires c = omega (arith, on_way-node c.args.d c.loop-k.k c.loop-k.way c.loop-k-test.true c.loop-k.invariant.on c.requires.levels)
+pub next-way-requires : goal.next-way-requires
+next-way-requires c = omega (arith, on_way-node c.args.d c.loop-k.k c.loop-k.way c.loop-k-test.true c.loop-k.invariant.on c.requires.levels)
 
 pub loop-k-preserved : goal.loop-k-preserved
 loop-k-preserved c = let filled = c.open_sibling in let args = c.args in
     let prefix = args.prefix.now in let d = args.d in let k = c.loop-k.k in let w = c.loop-k.way in let seeds = c.loop-k.seeds in
     let s = args.siblings.now in let inv = c.loop-k.invariant in let less = c.loop-k-test.true in let begun-is = c.begin-nodes.ensures in
-    let next-is : c.next-next.result ≡ next w = c.next-next.ensures in let halved : (next w).size ≡ w.size / 2 = unfold next in refl in
+    let next-is : c.next-way.result ≡ next w = c.next-way.ensures in let halved : (next w).size ≡ w.size / 2 = unfold next in refl in
     let skipped-is : c.skipped.result ≡ skipped w = c.skipped.ensures in
     let seeds-is : filled.new.seeds ≡ put_at seeds (c.loop-k.at + 16 * (w.size / 2 - skipped w))
     (beside SHAKE256 prefix length-SHAKE256 d s k w) =

@@ -1,6 +1,6 @@
 -- The loop's invariant: the seeds below the siblings of k levels stand around the leaves on the way, and with these as they
 -- will be, the buffer is the whole. A turn adds the leaves below one sibling (`opened-more`).
-use Rattle.std.proofs.Common.{List, length, ℕ, ◌*◌, ◌+◌, ◌-◌, ◌≡◌, ◌≤◌}
+use Rattle.std.proofs.Common.{List, length, ℕ, ◌*◌, ◌+◌, ◌≡◌, ◌≤◌}
 use Rattle.shake256.specs.Fips.{SHAKE256}
 use Rattle.shake256.proofs.Laws.{length-SHAKE256}
 use Rattle.exchange.specs.Tree.{opened_seeds}
@@ -18,6 +18,3 @@ pub record Inv (prefix : List ℕ) (d leaf : ℕ) (siblings seeds₀ seeds : Lis
 
 abbrev pub invariant-loop-k : goal.invariant-loop-k
 invariant-loop-k l = Inv l.prefix l.d l.leaf l.siblings l.initial.seeds l.seeds l.way l.at l.k
-
-abbrev pub decreases-loop-k : goal.decreases-loop-k
-decreases-loop-k l = l.d - l.k

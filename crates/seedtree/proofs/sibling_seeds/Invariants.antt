@@ -16,8 +16,5 @@ pub record Inv (prefix : List ℕ) (d : ℕ) (root : List ℕ) (leaf : ℕ) (out
   pub rest : sibling_seeds SHAKE256 prefix d 1 root leaf ≡ take (16 * k) out ++ sibling_seeds SHAKE256 prefix (d - k) w.node (part pair own 16) w.leaf
   pub seed : get_or (leaf_seeds SHAKE256 prefix d 1 root) leaf [] ≡ get_or (leaf_seeds SHAKE256 prefix (d - k) w.node (part pair own 16)) w.leaf []
 
-abbrev pub invariant-loop-left : goal.invariant-loop-left
-invariant-loop-left l = (l.left ≤ l.d) × Inv l.prefix l.d l.root l.leaf l.initial.out l.out l.way l.pair l.own (l.d - l.left)
-
-abbrev pub decreases-loop-left : goal.decreases-loop-left
-decreases-loop-left l = l.left
+abbrev pub invariant-loop-k : goal.invariant-loop-k
+invariant-loop-k l = Inv l.prefix l.d l.root l.leaf l.initial.out l.out l.way l.pair l.own l.k

@@ -1,12 +1,9 @@
 -- The loop's invariant: the sponge has given i bytes, and they stand at the front of the slice. A turn fills the next part
 -- (`squeezed-part`).
-use Rattle.std.proofs.Common.{drop, length, ◌++◌, ◌-◌, ◌≡◌, ◌≤◌}
+use Rattle.std.proofs.Common.{drop, length, ◌++◌, ◌≡◌, ◌≤◌}
 use Rattle.shake256.specs.Stream.{after, squeezed}
 use Rattle.test_pieces.proofs.squeeze_pieces.Given as goal
 
-abbrev pub invariant-loop-k : goal.invariant-loop-k
-invariant-loop-k l =
-    (l.i ≤ length l.initial.output) × ((l.k ≤ length l.spans) × ((length l.output ≡ length l.initial.output) × ((l.t ≡ after l.initial.t l.i) × (l.output ≡ squeezed l.initial.t l.i ++ drop l.i l.initial.output))))
-
-abbrev pub decreases-loop-k : goal.decreases-loop-k
-decreases-loop-k l = length l.spans - l.k
+abbrev pub invariant-loop-span : goal.invariant-loop-span
+invariant-loop-span l =
+    (l.i ≤ length l.initial.output) × ((l.t ≡ after l.initial.t l.i) × (l.output ≡ squeezed l.initial.t l.i ++ drop l.i l.initial.output))

@@ -2,19 +2,22 @@
 --
 -- digit-more             a loop that takes a decimal digit by digit
 -- named-decimal, named_other     a text that is a decimal, and one that is none, by its scanner
--- with-ten, with-other, with-outside     the check of the run count by its cases
+-- malformed, ten-alone   `==` with the refusal whose number is 10
+-- with-ten, with-other   the check of the run count by its cases
 -- with-runs              the order: 10 of the key, then 1 of parameters or run count, then 2
 -- runs_done              what is known where nothing is refused
-use Rattle.std.specs.Prelude.{◌≡◌, refl, Bool, true, false, cond, ◌&&◌, List, [], ◌∷◌, ℕ, ◌+◌, ◌<◌, eqb, length, drop, get_or}
-use Rattle.std.proofs.Common.{sym, ◌∙◌, add-one, arith, eq-eqb, ne_eqb, drop-cons}
+use Rattle.std.specs.Prelude.{◌≡◌, refl, Bool, true, false, cond, ◌&&◌, List, [], ◌∷◌, None, Some, Ok, Err, ℕ, ◌+◌, ◌<◌, eqb, length, drop, get_or}
+use Rattle.std.proofs.Common.{sym, ◌∙◌, add-one, arith, drop-cons}
 use Rattle.std.proofs.Math.Path.{ap}
 use Rattle.std.proofs.lemmas.Bool.{false≢true}
-use Rattle.answers.specs.declared.Answer.{Answer}
-use Rattle.answers.specs.declared.Answer.TheVariants.{Done, Refused}
-use Rattle.answers.specs.declared.Refusal.TheVariants.{Malformed, Parameter, Length}
+use Rattle.std.specs.Result.{result_and, result_eq}
+use denote.Enum.Bare.{sameb}
+use Rattle.answers.specs.contracts.Refusal.{the_type}
+use Rattle.answers.specs.Answer.{Answer}
+use Rattle.answers.specs.declared.Refusal.TheVariants.{Parameter, Length, Weight, Leaf, Commitment, Response, Exchange, SameLeaf, Malformed, NotDue, Closed, Repeated, SamePoint}
 use Rattle.answers.specs.Number.{answer_number}
 use Rattle.answers.specs.Checks.{check, checks}
-use Rattle.answers.specs.Checks.Laws.{Done≢Refused}
+use Rattle.answers.specs.Checks.Laws.{Ok≢Err}
 use Rattle.parameters.specs.Limits.{within_limits}
 use Rattle.parameters.specs.Set.{parameters_of}
 use Rattle.layout.specs.Runs.{runs_within}
@@ -27,7 +30,6 @@ use Rattle.text.specs.Scanner.Decimal.Laws.{decimal-accepts, decimal-value}
 use Rattle.keytext.specs.declared.KeyScan.{KeyScan}
 use Rattle.keytext.specs.Scan.{complete}
 use Rattle.keytext.specs.Finish.{lengths_read, read_checks}
-use Rattle.unlock.specs.declared.count.RunCount.TheVariants.{Runs, Unreadable}
 use Rattle.unlock.specs.Count.{named, with_runs}
 
 pub digit-more : (t : List ℕ) (i : ℕ) (h : DecimalScan) {g : DecimalScan} → i < length t → g ≡ decimal_step 3 h (get_or t i 0)
@@ -38,32 +40,45 @@ module _ (t : List ℕ) {s : DecimalScan} (e : s ≡ fold (decimal_step 3) decim
   accepted : {b : Bool} → decimal_accepts s ≡ b → is_decimal 3 t ≡ b
   accepted h = sym (decimal-accepts 3 t (omega arith) (omega arith)) ∙ ap decimal_accepts (sym e) ∙ h
 
-  pub named_other : decimal_accepts s ≡ false → Unreadable ≡ named t
+  pub named_other : decimal_accepts s ≡ false → None ≡ named t
   unfolding named
   named_other h = rw (accepted h)
 
-  pub named-decimal : decimal_accepts s ≡ true → Runs s.value ≡ named t
+  pub named-decimal : decimal_accepts s ≡ true → Some s.value ≡ named t
   unfolding named
   named-decimal h =
       let v : s.value ≡ value_of t = ap (λ (z : DecimalScan). z.value) e ∙ decimal-value 3 t (omega arith) (omega arith) (accepted h) in
       rw (accepted h, v)
 
-module _ (a : Answer) (n : ℕ) {k : ℕ} (e : k ≡ answer_number a) where
-  pub with-ten : k ≡ 10 → a ≡ with_runs a n
+-- what `==` says of an answer and the refusal 10
+abbrev pub malformed : Answer → Bool
+malformed a = result_eq (λ x y. true) (sameb the_type) a (Err Malformed)
+
+ten-alone : (a : Answer) → malformed a ≡ eqb (answer_number a) 10
+ten-alone (Ok _) = refl
+ten-alone (Err Parameter) = refl
+ten-alone (Err Length) = refl
+ten-alone (Err Weight) = refl
+ten-alone (Err Leaf) = refl
+ten-alone (Err Commitment) = refl
+ten-alone (Err Response) = refl
+ten-alone (Err Exchange) = refl
+ten-alone (Err SameLeaf) = refl
+ten-alone (Err Malformed) = refl
+ten-alone (Err NotDue) = refl
+ten-alone (Err Closed) = refl
+ten-alone (Err Repeated) = refl
+ten-alone (Err SamePoint) = refl
+
+module _ (a : Answer) (n : ℕ) {b : Bool} (e : b ≡ malformed a) where
+  pub with-ten : b ≡ true → a ≡ with_runs a n
   unfolding with_runs
-  with-ten h = rw (eq-eqb (answer_number a) 10 (sym e ∙ h))
+  with-ten h = rw (sym (ten-alone a) ∙ sym e ∙ h)
 
-  module _ (h : ¬ (k ≡ 10)) where
-    other : eqb (answer_number a) 10 ≡ false
-    other = ne_eqb (answer_number a) 10 (λ q. h (e ∙ q))
-
-    pub with-outside : runs_within n ≡ false → Refused Parameter ≡ with_runs a n
-    unfolding with_runs
-    with-outside w = rw (other, w)
-
-    pub with-other : runs_within n ≡ true → a ≡ with_runs a n
-    unfolding with_runs
-    with-other w = rw (other, w)
+  pub with-other : b ≡ false → (w : Bool) → w ≡ runs_within n → result_and (check w Parameter (Ok tt)) a ≡ with_runs a n
+  unfolding with_runs
+  with-other h true f = rw (sym (ten-alone a) ∙ sym e ∙ h, ← f)
+  with-other h false f = rw (sym (ten-alone a) ∙ sym e ∙ h, ← f)
 
 pub with-runs : (s : KeyScan) (m y x n : ℕ) → with_runs (read_checks s m y x) n
     ≡ checks ((complete s, Malformed) ∷ ((within_limits (parameters_of s.numbers) && runs_within n), Parameter)
@@ -82,11 +97,11 @@ with-runs s m y x n =
     go true true true false = refl
     go true true true true = refl
 
-pub runs_done : (a : Answer) (n : ℕ) → with_runs a n ≡ Done → (a ≡ Done) × RunsWithin n
+pub runs_done : (a : Answer) (n : ℕ) → with_runs a n ≡ Ok tt → (a ≡ Ok tt) × RunsWithin n
 unfolding with_runs
 runs_done a n h = go (eqb (answer_number a) 10) refl (runs_within n) refl (h)
   where
-    go : (s : Bool) → eqb (answer_number a) 10 ≡ s → (t : Bool) → runs_within n ≡ t → cond s a (check t Parameter a) ≡ Done → (a ≡ Done) × RunsWithin n
-    go true e t f q = absurd (let k : eqb (answer_number Done) 10 ≡ true = ap (λ (z : Answer). eqb (answer_number z) 10) (sym q) ∙ e in false≢true k)
-    go false e false f q = absurd (Done≢Refused (sym q))
+    go : (s : Bool) → eqb (answer_number a) 10 ≡ s → (t : Bool) → runs_within n ≡ t → cond s a (check t Parameter a) ≡ Ok tt → (a ≡ Ok tt) × RunsWithin n
+    go true e t f q = absurd (let k : eqb (answer_number (Ok tt)) 10 ≡ true = ap (λ (z : Answer). eqb (answer_number z) 10) (sym q) ∙ e in false≢true k)
+    go false e false f q = absurd (Ok≢Err (sym q))
     go false e true f q = (q, runs-within n f)

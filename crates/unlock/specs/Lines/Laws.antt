@@ -6,14 +6,13 @@
 -- exponent_small           so is the exponent of the chance
 -- set-written, runs-written, message-written, refused-written, chance-written      the lines
 -- written-fits             a line written to the front lies within what it was written to
-use Rattle.std.specs.Prelude.{◌≡◌, length}
+use Rattle.std.specs.Prelude.{◌≡◌, length, Err}
 use Rattle.std.proofs.Math.Path.{ap}
 use Rattle.std.proofs.Common.{◌∙◌, mul-le-mul, arith, lt-ltb, le-ltb}
 use mathlib.Core.List.{List, [], ◌∷◌, ◌++◌, append_assoc}
 use Prim.Native.Nat.{ℕ, ◌+◌, ◌*◌, ◌/◌, ◌%◌, ◌≤◌, ◌<◌}
 use Rattle.std.proofs.Math.ListN.{get_or}
 use Rattle.lists.specs.Part.{put_at}
-use Rattle.answers.specs.declared.Answer.TheVariants.{Refused}
 use Rattle.answers.specs.declared.Refusal.{Refusal}
 use Rattle.answers.specs.Number.{refusal_number}
 use Rattle.parameters.specs.declared.Parameters.{Parameters}
@@ -95,7 +94,7 @@ abbrev verdict_refused : List ℕ
 verdict_refused = 118 ∷ 101 ∷ 114 ∷ 100 ∷ 105 ∷ 99 ∷ 116 ∷ 9 ∷ 114 ∷ 101 ∷ 102 ∷ 117 ∷ 115 ∷ 101 ∷ 100 ∷ []
 
 pub refused-written : (d : List ℕ) (q : Refusal) {d₁ d₂ d₃ : List ℕ} {a b n r : ℕ} → r ≤ length d → Written d 0 verdict_refused a d₁
-    → n ≡ refusal_number q → Written d₁ a (number_field n) b d₂ → Written d₂ b (10 ∷ []) r d₃ → Written d 0 (verdict_line (Refused q)) r d₃
+    → n ≡ refusal_number q → Written d₁ a (number_field n) b d₂ → Written d₂ b (10 ∷ []) r d₃ → Written d 0 (verdict_line (Err q)) r d₃
 unfolding verdict_line verdict_word refused_word
 refused-written d q {a = a} {b = b} {n = n} {r = r} h v₁ e v₂ v₃ =
     let n₃ = v₃.next in

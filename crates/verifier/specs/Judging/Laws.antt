@@ -6,7 +6,7 @@
 -- turn-first, turn-next   `Turned` before the first run, and before the one behind an accepted run
 -- turn-refused, turn-done what the judging gives at a refused run, and behind the last one
 -- held-verdict            the messages that a session holds, in front of zeros, have the runs that all of their places have
-use Rattle.std.specs.Prelude.{◌≡◌, refl, List, ◌++◌, ℕ, ◌+◌, ◌*◌, ◌-◌, ◌≤◌, ◌<◌, length, get_or, drop, replicate}
+use Rattle.std.specs.Prelude.{◌≡◌, refl, List, ◌++◌, ℕ, ◌+◌, ◌*◌, ◌-◌, ◌≤◌, ◌<◌, length, get_or, drop, replicate, Ok, Err}
 use Rattle.std.proofs.Math.Path.{sym, ap, ap₂}
 use Rattle.std.proofs.Common.{◌∙◌, zero-add, add-one, arith, drop_at}
 use Rattle.std.proofs.Math.ListN.{take}
@@ -17,8 +17,7 @@ use Rattle.lists.specs.Part.Laws.{length_part, lent-part, part-part, part-fits}
 use Rattle.lists.specs.Zeroed.{zeroed}
 use Rattle.lists.specs.Zeroed.Laws.{zeroed-front}
 use Rattle.shake256.specs.Fips.{SHAKE256}
-use Rattle.answers.specs.declared.Answer.{Answer}
-use Rattle.answers.specs.declared.Answer.TheVariants.{Done, Refused}
+use Rattle.answers.specs.Answer.{Answer}
 use Rattle.answers.specs.declared.Refusal.{Refusal}
 use Rattle.parameters.specs.declared.Parameters.{Parameters}
 use Rattle.layout.specs.Layout.{message2_length, message5_length, work_length}
@@ -111,7 +110,7 @@ module _ (p : Parameters) (m is m5 matrix y before : List ℕ) (a : RunsAsked p 
     pub work-after : ys ++ drop n work ≡ zeroed area before
     work-after = ap (λ (k : ℕ). ys ++ drop k work) w ∙ zeroed-front work ys area z ∙ turned.wiped
 
-    pub turn-next : (r : Answer) → r ≡ answer → r ≡ Done → length (ys ++ drop n work) ≡ length before
+    pub turn-next : (r : Answer) → r ≡ answer → r ≡ Ok tt → length (ys ++ drop n work) ≡ length before
         → Turned p t key before (e + 1) (place + size) (ys ++ drop n work)
     turn-next r q d same = record {
       so_far = omega arith;
@@ -122,7 +121,7 @@ module _ (p : Parameters) (m is m5 matrix y before : List ℕ) (a : RunsAsked p 
       zeros = λ _. work-after;
     }
 
-    pub turn-refused : (r : Answer) (x : Refusal) → r ≡ answer → r ≡ Refused x → r ≡ verdict SHAKE256 p (length is) t key
+    pub turn-refused : (r : Answer) (x : Refusal) → r ≡ answer → r ≡ Err x → r ≡ verdict SHAKE256 p (length is) t key
     unfolding verdict
     turn-refused r x q d = d ∙ sym (lowest-first (verdict_at p t key) (length is) e h turned.accepted (sym answer-is ∙ sym q ∙ d))
 
@@ -130,7 +129,7 @@ module _ (p : Parameters) (m is m5 matrix y before : List ℕ) (a : RunsAsked p 
     reached : e ≡ length is
     reached = let far : e ≤ length is = turned.so_far in omega arith
 
-    pub turn-done : (Done ≡ verdict SHAKE256 p (length is) t key) × (work ≡ zeroed area before)
+    pub turn-done : (Ok tt ≡ verdict SHAKE256 p (length is) t key) × (work ≡ zeroed area before)
     unfolding verdict
     turn-done =
         let some = a.some in

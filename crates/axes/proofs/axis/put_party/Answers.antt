@@ -1,10 +1,8 @@
 -- The party's sum and its block lie within those of all (`sum_fits`).
-use Rattle.std.proofs.Common.{List, ap₂, arith, eqb, length, ℕ, ◌*◌, ◌+◌, ◌∙◌, ◌≡◌, ◌≤◌}
+use Rattle.std.proofs.Common.{List, ap₂, arith, eqb, length, ℕ, ◌*◌, ◌+◌, ◌∙◌, ◌≤◌}
 use Rattle.lists.specs.Part.{part}
 use Rattle.lists.specs.Part.Laws.{lent-part}
-use Rattle.layout.specs.Layout.{sum_index, share_length, row_length}
 use Rattle.layout.specs.Layout.Laws.{index-lt}
-use Rattle.points.specs.Blocks.{length-block}
 use Rattle.axes.specs.Row.{row_by}
 use Rattle.axes.specs.Axes.{party_row}
 use Rattle.axes.proofs.Laws.Asked.{sum_fits}
@@ -14,13 +12,9 @@ use Rattle.axes.proofs.axis.put_party.Goals.{After-row_length-room}
 inside : (c : After-row_length-room) → (c.sum_index-i.result * c.share_length-size.result + c.share_length-size.result ≤ length c.args.sums.now)
     × (c.sum_index-i.result * c.row_length-room.result + c.row_length-room.result ≤ length c.args.blocks.now)
 inside c =
-    let placed : (c.sum_index-i.result * c.share_length-size.result ≡ sum_index c.args.p c.args.axis c.args.party * share_length c.args.p)
-    × (c.sum_index-i.result * c.row_length-room.result ≡ sum_index c.args.p c.args.axis c.args.party * row_length c.args.p) = (ap₂ ◌*◌ c.sum_index-i.ensures c.share_length-size.ensures, ap₂ ◌*◌ c.sum_index-i.ensures c.row_length-room.ensures) in
     let f = sum_fits _ _ _ _ c.requires.0 _ (index-lt c.args.p _ _ c.requires.1 c.requires.2) in
-    (omega (arith, f.0, (placed).0, c.share_length-size.ensures), omega (arith, f.1, (placed).1, c.row_length-room.ensures))
-
-pub sum_index-i-requires : goal.sum_index-i-requires
-sum_index-i-requires c = (c.requires.0.within, c.requires.1, c.requires.2)
+    let i = c.sum_index-i.ensures in let size = c.share_length-size.ensures in let room = c.row_length-room.ensures in
+    (omega (arith, f.0, ap₂ ◌*◌ i size, size), omega (arith, f.1, ap₂ ◌*◌ i room, room))
 
 pub overflow_mul-a : goal.overflow_mul-a
 overflow_mul-a c = omega (arith, (inside (goal.at.overflow_mul-a c).After-row_length-room).0)
@@ -39,18 +33,6 @@ slice_bounds-put_row-end c = omega (arith, (inside (goal.at.slice_bounds-put_row
 
 pub slice_bounds-put_row-end-2 : goal.slice_bounds-put_row-end-2
 slice_bounds-put_row-end-2 c = omega (arith, (inside (goal.at.slice_bounds-put_row-end-2 c).After-row_length-room).1)
-
-pub put_row-requires : goal.put_row-requires
-put_row-requires c = let (f, j, h, n, w) = c.requires in (
-  record {
-    within = f.within;
-    sized-s = length-block _ _ _ (inside (goal.at.put_row-requires c).After-row_length-room).0 ∙ c.share_length-size.ensures;
-    sized-block = length-block _ _ _ (inside (goal.at.put_row-requires c).After-row_length-room).1 ∙ c.row_length-room.ensures;
-    sized-hats = f.sized-hats;
-  },
-  n,
-  w,
-)
 
 pub returns : goal.returns
 unfolding party_row

@@ -1,5 +1,5 @@
 -- α and β go to the front of the row, v behind them (`halves-made`).
-use Rattle.std.proofs.Common.{ap₂, arith, length, length-take-le, sym, take, ◌++◌, ◌∙◌, ◌≡◌}
+use Rattle.std.proofs.Common.{ap₂, arith, length, length-take-le, take, ◌++◌, ◌∙◌, ◌≡◌}
 use Rattle.points.specs.Written.{halves-made}
 use Rattle.axes.specs.Row.{row_by}
 use Rattle.axes.proofs.row.put_row.Goals as goal
@@ -8,12 +8,6 @@ use Rattle.axes.proofs.row.put_row.Goals.{After-values_length-a}
 front : (c : After-values_length-a) → let a = c.values_length-a.result in length (take a c.args.out.now) ≡ a
 front c =
     length-take-le c.values_length-a.result c.args.out.now (omega (arith, c.requires.1, c.values_length-a.ensures))
-
-pub slice_bounds-put_front-end-2 : goal.slice_bounds-put_front-end-2
-slice_bounds-put_front-end-2 c = sym (front (goal.at.slice_bounds-put_front-end-2 c).After-values_length-a)
-
-pub put_front-requires : goal.put_front-requires
-put_front-requires c = (c.requires.0.within, c.requires.0.sized-block, front (goal.at.put_front-requires c).After-values_length-a ∙ c.values_length-a.ensures)
 
 pub returns : goal.returns
 unfolding row_by

@@ -1,5 +1,5 @@
--- The loop's invariant: `hiding` is added on the first j axes, and row j starts at b (`blocks-turn`).
-use Rattle.std.proofs.Common.{List, length, ℕ, ◌*◌, ◌-◌, ◌≡◌, ◌≤◌}
+-- The loop's invariant: `hiding` is added on the first j axes (`blocks-turn`).
+use Rattle.std.proofs.Common.{List, ℕ, ◌*◌}
 use Rattle.lists.specs.Part.{part}
 use Rattle.parameters.specs.declared.Parameters.{Parameters}
 use Rattle.layout.specs.Layout.{axis_length}
@@ -11,8 +11,4 @@ abbrev pub row_at : Parameters → ℕ → List ℕ → List ℕ → ℕ → Lis
 row_at p leaf hiding rows j = with_hiding p (hidden_party p leaf j) hiding (part rows (j * axis_length p) (axis_length p))
 
 abbrev pub invariant-loop-j : goal.invariant-loop-j
-invariant-loop-j l =
-    (l.j ≤ l.p.axes) × (l.b ≡ l.j * l.width) × Blocks (row_at l.p l.hidden_leaf l.hiding l.initial.rows) l.width l.initial.rows l.rows l.j × (length l.rows ≡ length l.initial.rows)
-
-abbrev pub decreases-loop-j : goal.decreases-loop-j
-decreases-loop-j l = l.p.axes - l.j
+invariant-loop-j l = Blocks (row_at l.p l.hidden_leaf l.hiding l.initial.rows) l.width l.initial.rows l.rows l.j

@@ -68,4 +68,4 @@ announce_each-requires c =
     let out =
     length-take-le (c.args.n * c.row_length.result) (zeros most_blocks) (out-fits (goal.at.announce_each-requires c).After-row_length) ∙ ap (λ (k : ℕ). c.args.n * k) c.row_length.ensures
     in
-    (omega arith, c.field_tables-tables.ensures)
+    omega arith

@@ -10,8 +10,8 @@ pub returns-then-session-ne-PROVER_SIZE : goal.returns-then-session-ne-PROVER_SI
 returns-then-session-ne-PROVER_SIZE c = begin-named _ _ _ _ _ _ _ _ _ _ _ c.if-set-ne-LENGTH.false c.parameters_of-p.ensures (call-misfit _ _ _ _ _ _ c.misfit_number.ensures c.if-session-ne-PROVER_SIZE.true)
 
 pub keep-requires : goal.keep-requires
-keep-requires c = (c.if-session-ne-PROVER_SIZE.false, kept_small _ _ c.begin-called.ensures (begin-within _ _ _ _ _ _ _ _ _ _))
+keep-requires c = (c.if-session-ne-PROVER_SIZE.false, kept_small _ _ c.start-answer.ensures (begin-within _ _ _ _ _ _ _ _ _ _))
 
 pub returns : goal.returns
 returns c = begin-named _ _ _ _ _ _ _ _ _ _ _ c.if-set-ne-LENGTH.false c.parameters_of-p.ensures
-    (call_kept _ _ _ _ _ (held c.read_prover-s.result) _ _ _ c.if-session-ne-PROVER_SIZE.false c.read_prover-s.ensures c.begin-called.ensures c.keep.ensures)
+    (call_kept _ _ _ _ _ (held c.read_prover-s.result) _ _ _ c.if-session-ne-PROVER_SIZE.false c.read_prover-s.ensures c.start-answer.ensures c.keep.ensures)

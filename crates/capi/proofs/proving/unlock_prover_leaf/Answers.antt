@@ -8,8 +8,8 @@ pub returns-then-session-ne-PROVER_SIZE : goal.returns-then-session-ne-PROVER_SI
 returns-then-session-ne-PROVER_SIZE c = call-misfit _ _ _ _ _ _ refl c.if-session-ne-PROVER_SIZE.true
 
 pub keep-requires : goal.keep-requires
-keep-requires c = (c.if-session-ne-PROVER_SIZE.false, kept_small _ _ c.leaf-called.ensures (leaf-within _ _ _ _ _ _))
+keep-requires c = (c.if-session-ne-PROVER_SIZE.false, kept_small _ _ c.take_leaf-answer.ensures (leaf-within _ _ _ _ _ _))
 
 pub returns : goal.returns
 returns c = call_kept _ _ _ _ _ (held c.read_prover-s.result) _ _ _ c.if-session-ne-PROVER_SIZE.false c.read_prover-s.ensures
-    c.leaf-called.ensures c.keep.ensures
+    c.take_leaf-answer.ensures c.keep.ensures

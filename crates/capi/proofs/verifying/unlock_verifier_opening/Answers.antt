@@ -7,8 +7,8 @@ pub returns-then-session-ne-VERIFIER_SIZE : goal.returns-then-session-ne-VERIFIE
 returns-then-session-ne-VERIFIER_SIZE c = opening-misfit _ _ _ _ c.if-session-ne-VERIFIER_SIZE.true
 
 pub keep_opening-requires : goal.keep_opening-requires
-keep_opening-requires c = (c.if-session-ne-VERIFIER_SIZE.false, judged-small _ _ c.opening-called.ensures (opening-within _ _ _ _ _))
+keep_opening-requires c = (c.if-session-ne-VERIFIER_SIZE.false, judged-small _ _ c.take_opening-answer.ensures (opening-within _ _ _ _ _))
 
 pub returns : goal.returns
 returns c = opening-kept _ _ _ _ (held c.read_verifier-s.result) _ _ _ c.if-session-ne-VERIFIER_SIZE.false c.read_verifier-s.ensures
-    c.opening-called.ensures c.keep_opening.ensures
+    c.take_opening-answer.ensures c.keep_opening.ensures

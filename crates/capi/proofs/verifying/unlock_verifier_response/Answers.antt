@@ -8,8 +8,8 @@ pub returns-then-session-ne-VERIFIER_SIZE : goal.returns-then-session-ne-VERIFIE
 returns-then-session-ne-VERIFIER_SIZE c = call-misfit _ _ _ _ refl c.if-session-ne-VERIFIER_SIZE.true
 
 pub keep-requires : goal.keep-requires
-keep-requires c = (c.if-session-ne-VERIFIER_SIZE.false, kept_small _ _ c.response-called.ensures (response-within _ _))
+keep-requires c = (c.if-session-ne-VERIFIER_SIZE.false, kept_small _ _ c.take_response-answer.ensures (response-within _ _))
 
 pub returns : goal.returns
-returns c = call_kept _ _ _ (held c.read_verifier-s.result) _ _ _ c.if-session-ne-VERIFIER_SIZE.false c.read_verifier-s.ensures c.response-called.ensures
+returns c = call_kept _ _ _ (held c.read_verifier-s.result) _ _ _ c.if-session-ne-VERIFIER_SIZE.false c.read_verifier-s.ensures c.take_response-answer.ensures
     c.keep.ensures

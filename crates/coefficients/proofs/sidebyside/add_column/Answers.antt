@@ -1,4 +1,4 @@
-use Rattle.std.proofs.Common.{ap, arith, length, length-set, map, refl, rules, sym, ◌*◌, ◌+◌, ◌<◌, ◌∙◌}
+use Rattle.std.proofs.Common.{ap, arith, length, map, sym, ◌*◌, ◌+◌, ◌<◌, ◌∙◌}
 use Rattle.lists.specs.Xor.{◌⊕◌}
 use Rattle.lists.specs.Part.Laws.{part-fits}
 use Rattle.lists.specs.Sum.Laws.{xor_list-none}
@@ -16,7 +16,7 @@ inside c =
 
 pub loop-j-init : goal.loop-j-init
 loop-j-init c = let a = c.args in
-    (search rules, λ v e. xor_list-none _ (map (scaled v) (column (length a.out.now) a.k a.i a.matrix.now)), refl)
+    λ v e. xor_list-none _ (map (scaled v) (column (length a.out.now) a.k a.i a.matrix.now))
 
 pub overflow_mul-j : goal.overflow_mul-j
 overflow_mul-j c = omega (arith, inside (goal.at.overflow_mul-j c).In-loop-j)
@@ -30,14 +30,11 @@ bounds-matrix-j c = inside (goal.at.bounds-matrix-j c).In-loop-j
 pub loop-j-preserved : goal.loop-j-preserved
 unfolding ◌⊕◌
 loop-j-preserved c = let a = c.args in let l = c.loop-j in
-    let n = length a.out.now in let m = length-column n a.k a.i a.matrix.now in (
-      omega arith,
-      λ v e. added_more (scaled v) a.out.now (column n a.k a.i a.matrix.now) l.out l.j c.times.result (omega arith) (omega arith)
-          (l.invariant.1 v e) (c.times.ensures.word v e ∙ ap (scaled v) (sym (column-at n a.k a.i a.matrix.now l.j (omega arith)))),
-      simp length-set l.invariant.2,
-    )
+    let n = length a.out.now in let m = length-column n a.k a.i a.matrix.now in
+    λ v e. added_more (scaled v) a.out.now (column n a.k a.i a.matrix.now) l.out l.j c.times.result (omega arith) (omega arith)
+    (l.invariant v e) (c.times.ensures.word v e ∙ ap (scaled v) (sym (column-at n a.k a.i a.matrix.now l.j (omega arith))))
 
 pub returns : goal.returns
 returns c = let a = c.args in
     let m = length-column (length a.out.now) a.k a.i a.matrix.now in
-    λ v e. c.loop-j.invariant.1 v e ∙ added-all (scaled v) _ (column (length a.out.now) a.k a.i a.matrix.now) c.loop-j.j (omega arith)
+    λ v e. c.loop-j.invariant v e ∙ added-all (scaled v) _ (column (length a.out.now) a.k a.i a.matrix.now) c.loop-j.j (omega arith)

@@ -1,5 +1,5 @@
 -- The loop's invariant: the products by the first j entries of the column are added (`added_more`); entry j stands in row j, within the matrix.
-use Rattle.std.proofs.Common.{length, map, take, ℕ, ◌-◌, ◌≡◌, ◌≤◌}
+use Rattle.std.proofs.Common.{length, map, take, ℕ, ◌≡◌}
 use Rattle.lists.specs.Sum.{xor_list}
 use Rattle.packed.specs.Word.{scaled}
 use Rattle.packed.specs.Table.{multiples}
@@ -8,8 +8,4 @@ use Rattle.coefficients.proofs.sidebyside.add_column.Given as goal
 
 abbrev pub invariant-loop-j : goal.invariant-loop-j
 invariant-loop-j l =
-    (l.j ≤ length l.initial.out) × ((v : ℕ) → l.table ≡ multiples v → l.out ≡ xor_list l.initial.out (take l.j (map (scaled v) (column (length l.initial.out) l.k l.i l.matrix))))
-    × (length l.out ≡ length l.initial.out)
-
-abbrev pub decreases-loop-j : goal.decreases-loop-j
-decreases-loop-j l = l.n - l.j
+    (v : ℕ) → l.table ≡ multiples v → l.out ≡ xor_list l.initial.out (take l.j (map (scaled v) (column (length l.initial.out) l.k l.i l.matrix)))

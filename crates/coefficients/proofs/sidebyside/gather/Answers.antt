@@ -1,4 +1,4 @@
-use Rattle.std.proofs.Common.{ap, arith, length, refl, rules, ℕ, ◌*◌, ◌+◌, ◌∙◌, ◌≡◌, ◌≤◌}
+use Rattle.std.proofs.Common.{ap, arith, length, ℕ, ◌*◌, ◌+◌, ◌∙◌, ◌≡◌, ◌≤◌}
 use Rattle.lists.specs.Part.{part}
 use Rattle.exchange.specs.Reading.{bytes_at}
 use Rattle.coefficients.specs.Shares.Laws.{share-fits, gathered_none, gathered-more, gathered-all}
@@ -19,7 +19,7 @@ inside c =
     share-fits _ c.args.shares.now _ _ _ _ c.loop-i-test.true (sized).0 (sized).1
 
 pub loop-i-init : goal.loop-i-init
-loop-i-init c = (search rules, gathered_none c.share_length-size.result c.args.shares.now c.args.from (length c.args.words.now) _ c.clear.ensures, refl)
+loop-i-init c = gathered_none c.share_length-size.result c.args.shares.now c.args.from (length c.args.words.now) _ c.clear.ensures
 
 pub overflow_mul-a : goal.overflow_mul-a
 overflow_mul-a c = omega (arith, inside (goal.at.overflow_mul-a c).In-loop-i)
@@ -27,19 +27,18 @@ overflow_mul-a c = omega (arith, inside (goal.at.overflow_mul-a c).In-loop-i)
 pub overflow_add-a : goal.overflow_add-a
 overflow_add-a c = omega (arith, inside (goal.at.overflow_add-a c).In-loop-i)
 
-pub overflow_add-e : goal.overflow_add-e
-overflow_add-e c = omega (arith, inside (goal.at.overflow_add-e c).In-loop-i)
+pub overflow_add-a-in-loop-i : goal.overflow_add-a-in-loop-i
+overflow_add-a-in-loop-i c = omega (arith, inside (goal.at.overflow_add-a-in-loop-i c).In-loop-i)
 
 pub slice_bounds-add_share-end : goal.slice_bounds-add_share-end
 slice_bounds-add_share-end c = omega (arith, inside (goal.at.slice_bounds-add_share-end c).In-loop-i)
 
 pub loop-i-preserved : goal.loop-i-preserved
 loop-i-preserved c = let a = c.args in
-    let g = gathered-more _ a.shares.now a.from _ _ _ c.loop-i-test.true (sized (goal.at.loop-i-preserved c).After-share_length-size).0 (sized (goal.at.loop-i-preserved c).After-share_length-size).1 _ _ c.loop-i.invariant.1
-    (λ k. omega (arith, c.type_inv.shares k)) c.add_share.ensures in
-    (omega arith, g, omega (arith, c.add_share))
+    gathered-more _ a.shares.now a.from _ _ _ c.loop-i-test.true (sized (goal.at.loop-i-preserved c).After-share_length-size).0 (sized (goal.at.loop-i-preserved c).After-share_length-size).1 _ _ c.loop-i.invariant
+    (λ k. omega (arith, c.type_inv.shares k)) c.add_share.ensures
 
 pub returns : goal.returns
 returns c = let a = c.args in
-    λ i. gathered-all c.share_length-size.result a.shares.now a.from _ c.loop-i.i a.n _ (omega arith) (sized (goal.at.returns c).After-share_length-size).0 c.loop-i.invariant.1 i
+    λ i. gathered-all c.share_length-size.result a.shares.now a.from _ c.loop-i.i a.n _ (omega arith) (sized (goal.at.returns c).After-share_length-size).0 c.loop-i.invariant i
     ∙ ap (λ (n : ℕ). bytes_at (part a.shares.now (i * n) n) a.from (length a.words.now)) c.share_length-size.ensures

@@ -2,12 +2,6 @@
 use Rattle.std.proofs.Common.{sym, ◌∙◌}
 use Rattle.extractor.proofs.checks.both_distinct.Goals as goal
 
-pub distinct_points-requires : goal.distinct_points-requires
-distinct_points-requires c = let ((w, n), a, b) = c.requires in (w, n.most, a)
-
-pub distinct_points-requires-then-distinct_points : goal.distinct_points-requires-then-distinct_points
-distinct_points-requires-then-distinct_points c = let ((w, n), a, b) = c.requires in (w, n.most, b)
-
 pub returns-then-distinct_points : goal.returns-then-distinct_points
 returns-then-distinct_points c = rw (sym c.distinct_points.ensures ∙ c.if-distinct_points.true) c.distinct_points-then-distinct_points.ensures
 

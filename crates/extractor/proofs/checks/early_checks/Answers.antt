@@ -1,73 +1,79 @@
--- Each return has the tests that came before it.
--- a test that the code found false, and one that it found true
-use Rattle.std.proofs.Common.{Bool, ap, false, not, sym, true, ℕ, ◌&&◌, ◌∙◌, ◌≡◌}
-use borrow.Author.Tests.{not-true, not-false}
+-- Each return has the checks that came before it.
+use Rattle.std.proofs.Common.{Bool, ap, not, sym, true, ◌&&◌, ◌∙◌, ◌≡◌}
+use Rattle.std.specs.Prelude.{Ok}
 use Rattle.lists.specs.Checks.Laws.{and_left, and_right}
-use Rattle.parameters.specs.declared.Parameters.{Parameters}
+use Rattle.lists.specs.Equal.{eq_list}
+use Rattle.answers.specs.Checks.{check}
+use Rattle.answers.specs.Checks.Laws.{require-passed, require-refused}
+use Rattle.answers.specs.declared.Refusal.TheVariants.{SameLeaf}
 use Rattle.parameters.specs.Limits.{within_limits, Within}
 use Rattle.parameters.specs.Limits.Laws.{test-within}
 use Rattle.layout.specs.Runs.{runs_within}
 use Rattle.layout.specs.Runs.Laws.{RunsWithin, runs-within}
-use Rattle.extractor.specs.Early.{early_of, sized2}
+use Rattle.exchange.specs.Values.{key_of}
+use Rattle.runs.specs.Points.{distinct_points}
+use Rattle.extractor.specs.Early.{all_lengths, below, early-is, sized2}
+use Rattle.extractor.specs.Messages.{messages}
 use Rattle.extractor.proofs.checks.early_checks.Goals as goal
+use Rattle.extractor.proofs.checks.early_checks.Goals.{In_ok-require, In_ok-require-2, In_ok-require-3, In_ok-require-4, In_ok-require-5}
 
-off : {r b : Bool} → r ≡ b → not r ≡ true → b ≡ false
-off {r} e h = sym e ∙ not-true r h
+limits-hold : (c : In_ok-require) → (within_limits c.args.p && runs_within c.args.runs) ≡ true
+limits-hold c = sym c.within.ensures ∙ require-passed _ _ c.require.ensures c.in_ok-require.was
 
-on : {r b : Bool} → r ≡ b → not r ≡ false → b ≡ true
-on {r} e h = sym e ∙ not-false r h
+limits : (c : In_ok-require) → Within c.args.p × RunsWithin c.args.runs
+limits c = let h = limits-hold c in
+    (test-within c.args.p (and_left (within_limits c.args.p) _ h), runs-within c.args.runs (and_right (within_limits c.args.p) _ h))
 
-limits : (p : Parameters) (runs : ℕ) → (within_limits p && runs_within runs) ≡ true → Within p × RunsWithin runs
-limits p runs h = (test-within p (and_left (within_limits p) _ h), runs-within runs (and_right (within_limits p) _ h))
+lengths-hold : (c : In_ok-require-2)
+    → all_lengths c.args.p c.args.runs (messages c.args.first) (messages c.args.second) (key_of c.args.matrix.now c.args.y.now) c.args.work.now c.args.out.now ≡ true
+lengths-hold c = sym c.all_lengths.ensures ∙ require-passed _ _ c.require-2.ensures c.in_ok-require-2.was
 
-pub returns-then-not-all_within : goal.returns-then-not-all_within
-unfolding early_of
-returns-then-not-all_within c = rw (off c.all_within.ensures (ap not c.if-not-all_within.true))
+points-hold : (c : In_ok-require-3)
+    → (distinct_points c.args.p c.args.runs c.args.first.message2.now && distinct_points c.args.p c.args.runs c.args.second.message2.now) ≡ true
+points-hold c = sym c.both_distinct.ensures ∙ require-passed _ _ c.require-3.ensures c.in_ok-require-3.was
+
+leaves-hold : (c : In_ok-require-4) → (below c.args.p c.args.first.leaves.now && below c.args.p c.args.second.leaves.now) ≡ true
+leaves-hold c = sym c.both_below.ensures ∙ require-passed _ _ c.require-4.ensures c.in_ok-require-4.was
+
+same-holds : (c : In_ok-require-5) → (eq_list c.args.first.message1.now c.args.second.message1.now
+    && (eq_list c.args.first.message2.now c.args.second.message2.now && eq_list c.args.first.message3.now c.args.second.message3.now)) ≡ true
+same-holds c = sym c.same_statement.ensures ∙ require-passed _ _ c.require-5.ensures c.in_ok-require-5.was
 
 pub all_lengths-requires : goal.all_lengths-requires
-unfolding early_of
-all_lengths-requires c = limits _ _ (on c.all_within.ensures (ap not c.if-not-all_within.false))
-
-pub returns-then-not-all_lengths : goal.returns-then-not-all_lengths
-unfolding early_of
-returns-then-not-all_lengths c =
-    rw (on c.all_within.ensures (ap not c.if-not-all_within.false), off c.all_lengths.ensures (ap not c.if-not-all_lengths.true))
+all_lengths-requires c = limits (goal.at.all_lengths-requires c).In_ok-require
 
 pub both_distinct-requires : goal.both_distinct-requires
-unfolding early_of
-both_distinct-requires c = let (a, b) = sized2 _ _ _ _ _ _ _ (on c.all_lengths.ensures (ap not c.if-not-all_lengths.false)) in
-    (limits _ _ (on c.all_within.ensures (ap not c.if-not-all_within.false)), a, b)
-
-pub returns-then-not-both_distinct : goal.returns-then-not-both_distinct
-unfolding early_of
-returns-then-not-both_distinct c = let a = off c.both_distinct.ensures (ap not c.if-not-both_distinct.true) in
-    rw (on c.all_within.ensures (ap not c.if-not-all_within.false), on c.all_lengths.ensures (ap not c.if-not-all_lengths.false), a)
+both_distinct-requires c = let (a, b) = sized2 _ _ _ _ _ _ _ (lengths-hold (goal.at.both_distinct-requires c).In_ok-require-2) in
+    (limits (goal.at.both_distinct-requires c).In_ok-require, a, b)
 
 pub both_below-requires : goal.both_below-requires
-unfolding early_of
-both_below-requires c = (limits _ _ (on c.all_within.ensures (ap not c.if-not-all_within.false))).0
+both_below-requires c = (limits (goal.at.both_below-requires c).In_ok-require).0
 
-pub returns-then-not-both_below : goal.returns-then-not-both_below
-unfolding early_of
-returns-then-not-both_below c = let a = on c.all_within.ensures (ap not c.if-not-all_within.false) in let b = on c.both_distinct.ensures (ap not c.if-not-both_distinct.false) in
-    rw (a, on c.all_lengths.ensures (ap not c.if-not-all_lengths.false), b, off c.both_below.ensures (ap not c.if-not-both_below.true))
+pub returns-in_err-require : goal.returns-in_err-require
+returns-in_err-require c = rw early-is
+    (require-refused _ _ _ (rw c.within.ensures at c.require.ensures) c.in_err-require.was c.from_residual.ensures.1)
 
-pub returns-then-not-same : goal.returns-then-not-same
-unfolding early_of
-returns-then-not-same c = let a = on c.all_within.ensures (ap not c.if-not-all_within.false) in
-    let b = on c.both_distinct.ensures (ap not c.if-not-both_distinct.false) in let d = on c.both_below.ensures (ap not c.if-not-both_below.false) in
-    rw (a, on c.all_lengths.ensures (ap not c.if-not-all_lengths.false), b, d, not-true c.args.same (ap not c.if-not-same.true))
+pub returns-in_err-require-2 : goal.returns-in_err-require-2
+returns-in_err-require-2 c = let at = goal.at.returns-in_err-require-2 c in
+    rw (early-is, limits-hold at.In_ok-require)
+    (require-refused _ _ _ (rw c.all_lengths.ensures at c.require-2.ensures) c.in_err-require-2.was c.from_residual-in_err-require-2.ensures.1)
 
-pub returns-then-equal : goal.returns-then-equal
-unfolding early_of
-returns-then-equal c = let a = on c.all_within.ensures (ap not c.if-not-all_within.false) in
-    let b = on c.both_distinct.ensures (ap not c.if-not-both_distinct.false) in let d = on c.both_below.ensures (ap not c.if-not-both_below.false) in
-    let same = not-false c.args.same (ap not c.if-not-same.false) in
-    rw (a, on c.all_lengths.ensures (ap not c.if-not-all_lengths.false), b, d, same, sym c.equal.ensures ∙ c.if-equal.true)
+pub returns-in_err-require-3 : goal.returns-in_err-require-3
+returns-in_err-require-3 c = let at = goal.at.returns-in_err-require-3 c in
+    rw (early-is, limits-hold at.In_ok-require, lengths-hold at.In_ok-require-2)
+    (require-refused _ _ _ (rw c.both_distinct.ensures at c.require-3.ensures) c.in_err-require-3.was c.from_residual-in_err-require-3.ensures.1)
+
+pub returns-in_err-require-4 : goal.returns-in_err-require-4
+returns-in_err-require-4 c = let at = goal.at.returns-in_err-require-4 c in
+    rw (early-is, limits-hold at.In_ok-require, lengths-hold at.In_ok-require-2, points-hold at.In_ok-require-3)
+    (require-refused _ _ _ (rw c.both_below.ensures at c.require-4.ensures) c.in_err-require-4.was c.from_residual-in_err-require-4.ensures.1)
+
+pub returns-in_err-require-5 : goal.returns-in_err-require-5
+returns-in_err-require-5 c = let at = goal.at.returns-in_err-require-5 c in
+    rw (early-is, limits-hold at.In_ok-require, lengths-hold at.In_ok-require-2, points-hold at.In_ok-require-3, leaves-hold at.In_ok-require-4)
+    (require-refused _ _ _ (rw c.same_statement.ensures at c.require-5.ensures) c.in_err-require-5.was c.from_residual-in_err-require-5.ensures.1)
 
 pub returns : goal.returns
-unfolding early_of
-returns c = let a = on c.all_within.ensures (ap not c.if-not-all_within.false) in
-    let b = on c.both_distinct.ensures (ap not c.if-not-both_distinct.false) in let d = on c.both_below.ensures (ap not c.if-not-both_below.false) in
-    let same = not-false c.args.same (ap not c.if-not-same.false) in
-    rw (a, on c.all_lengths.ensures (ap not c.if-not-all_lengths.false), b, d, same, sym c.equal.ensures ∙ c.if-equal.false)
+returns c = let at = goal.at.returns c in
+    rw (early-is, limits-hold at.In_ok-require, lengths-hold at.In_ok-require-2, points-hold at.In_ok-require-3, leaves-hold at.In_ok-require-4, same-holds at.In_ok-require-5)
+    (c.require-6.ensures ∙ ap (λ (b : Bool). check (not b) SameLeaf (Ok tt)) c.equal.ensures)

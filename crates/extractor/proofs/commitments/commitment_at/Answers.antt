@@ -8,10 +8,10 @@ use Rattle.layout.specs.Layout.Bounds.{leaves-most}
 use Rattle.openings.specs.Parts.Laws.{commitment-lent}
 use Rattle.extractor.proofs.commitments.commitment_at.Goals as goal
 
-pub returns-then-leaf-hidden_leaf : goal.returns-then-leaf-hidden_leaf
-returns-then-leaf-hidden_leaf c =
-    c.copy.ensures ∙ commitment-lent c.args.p c.args.opened.now c.rows_end-at.ensures ∙ sym
-    (commitments_of-hidden _ _ _ _ _ _ _ c.if-leaf-hidden_leaf.true)
+pub returns-then-leaf-opening : goal.returns-then-leaf-opening
+returns-then-leaf-opening c =
+    c.copy.ensures ∙ commitment-lent c.args.p c.args.opening.made.now c.rows_end-at.ensures ∙ sym
+    (commitments_of-hidden _ _ _ _ _ _ _ c.if-leaf-opening.true)
 
 pub leaf_commitment-requires : goal.leaf_commitment-requires
 leaf_commitment-requires c =
@@ -21,5 +21,5 @@ leaf_commitment-requires c =
 pub returns : goal.returns
 returns c = let a = c.args in
     c.leaf_commitment.ensures ∙ ap
-    (λ (state : List ℕ). commitment_after c.begin-start.result a.p a.leaf state a.aux.now) (lent-part a.opened.now (32 * a.leaf) 32) ∙
-    commitment-begun _ _ _ _ _ _ c.begin-start.ensures ∙ sym (commitments_of-other _ _ _ _ _ _ _ c.if-leaf-hidden_leaf.false)
+    (λ (state : List ℕ). commitment_after c.begin-start.result a.p a.leaf state a.opening.aux.now) (lent-part a.opening.made.now (32 * a.leaf) 32) ∙
+    commitment-begun _ _ _ _ _ _ c.begin-start.ensures ∙ sym (commitments_of-other _ _ _ _ _ _ _ c.if-leaf-opening.false)

@@ -1,24 +1,20 @@
-use Rattle.std.proofs.Common.{ap, arith, below_more, false, not, sym, ◌∙◌, ◌≡◌}
-use Rattle.layout.specs.Layout.{leaves}
-use Rattle.extractor.specs.Head.{least-found, least-none}
-use Rattle.extractor.specs.Comparison.{apart, first_apart}
+use Rattle.std.proofs.Common.{ap, arith, below_more, rules, tests, ◌∙◌}
+use Rattle.layout.specs.Layout.Bounds.{leaves-most}
+use Rattle.extractor.specs.Comparison.{commitments, apart}
+use Rattle.extractor.specs.Opened.{seen}
+use Rattle.extractor.specs.Head.{first_below, first_below-found, first_below-never}
 use Rattle.extractor.proofs.commitments.first_commitment.Goals as goal
 
-pub loop-leaf-init : goal.loop-leaf-init
-loop-leaf-init c = (omega arith, λ k l. absurd (omega arith))
-
 pub returns-then-not-same_commitment : goal.returns-then-not-same_commitment
-unfolding first_apart apart
-returns-then-not-same_commitment c = least-found _ _ _ (omega (arith, c.loop-leaf-test.true, c.leaf_count-n.ensures))
-    (ap not (sym c.same_commitment.ensures) ∙ (ap not c.if-not-same_commitment.true)) c.loop-leaf.invariant.1
+unfolding apart
+returns-then-not-same_commitment c = first_below-found (apart (commitments c.args.p c.args.prefix.now (seen c.args.p c.args.first)) (commitments c.args.p c.args.prefix.now (seen c.args.p c.args.second))) _ c.loop-leaf.leaf (c.loop-leaf-test.true) (search (rules, tests)) c.loop-leaf.invariant ∙ ap (first_below _) c.leaf_count-leaf-end.ensures
+
+pub overflow_cast-result : goal.overflow_cast-result
+overflow_cast-result c = omega (arith, c.loop-leaf-test.true, c.leaf_count-leaf-end.ensures, leaves-most c.args.p c.requires.within)
 
 pub loop-leaf-preserved : goal.loop-leaf-preserved
 unfolding apart
-loop-leaf-preserved c = let a = below_more _ _ c.loop-leaf.invariant.1 (ap not (sym c.same_commitment.ensures) ∙ (ap not c.if-not-same_commitment.false)) in
-    (omega (arith, c.loop-leaf-test.true, c.leaf_count-n.ensures), a)
+loop-leaf-preserved c = below_more _ _ c.loop-leaf.invariant (search (rules, tests))
 
 pub returns : goal.returns
-unfolding first_apart
-returns c = let n = leaves c.args.p in
-    let e : c.loop-leaf.leaf ≡ n = omega (arith, c.loop-leaf.invariant.0, c.loop-leaf-test.false, c.leaf_count-n.ensures) in
-    e ∙ least-none _ n (λ k l. c.loop-leaf.invariant.1 k (omega arith))
+returns c = first_below-never (apart (commitments c.args.p c.args.prefix.now (seen c.args.p c.args.first)) (commitments c.args.p c.args.prefix.now (seen c.args.p c.args.second))) _ (λ j l. c.loop-leaf.invariant j (omega arith)) ∙ ap (first_below _) c.leaf_count-leaf-end.ensures

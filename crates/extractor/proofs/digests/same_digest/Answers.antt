@@ -18,19 +18,6 @@ fits c n e =
 pub returns-then-same_row : goal.returns-then-same_row
 returns-then-same_row c = digest-same _ _ _ _ _ (sym c.same_row.ensures ∙ c.if-same_row.true)
 
-pub overflow_mul-at : goal.overflow_mul-at
-overflow_mul-at c = omega (arith, fits (goal.at.overflow_mul-at c).Start _ c.axis_length-size.ensures, c.requires.0.first)
-
-pub overflow_add-end : goal.overflow_add-end
-overflow_add-end c = omega (arith, fits (goal.at.overflow_add-end c).Start _ c.axis_length-size.ensures, c.requires.0.first)
-
-pub slice_bounds-axis_digest-end : goal.slice_bounds-axis_digest-end
-slice_bounds-axis_digest-end c = omega (arith, fits (goal.at.slice_bounds-axis_digest-end c).Start _ c.axis_length-size.ensures, c.requires.0.first)
-
-pub slice_bounds-axis_digest-end-3 : goal.slice_bounds-axis_digest-end-3
-slice_bounds-axis_digest-end-3 c =
-    omega (arith, fits (goal.at.slice_bounds-axis_digest-end-3 c).Start _ c.axis_length-size.ensures, c.requires.0.second)
-
 pub returns : goal.returns
 unfolding part digest_at
 returns c = let a = c.args in let n = c.axis_length-size.result in let e = c.axis_length-size.ensures in

@@ -1,5 +1,5 @@
 -- What is lent has the lengths that the check asks; the fronts come back (`judged`).
-use Rattle.std.proofs.Common.{arith, length, length-take-le, sym, take, ℕ, ◌∙◌, ◌≡◌}
+use Rattle.std.proofs.Common.{arith, length, length-take-le, take, ℕ, ◌∙◌, ◌≡◌}
 use Rattle.layout.specs.Layout.{opened_length, work_length}
 use Rattle.extractor.specs.Judged.Laws.{judged}
 use Rattle.extractor.proofs.judge.judge.Goals as goal
@@ -12,12 +12,6 @@ area-size c n e =
 opened-size : (c : Start) → (n : ℕ) → n ≡ opened_length c.args.p → length (take n c.args.opened.now) ≡ n
 opened-size c n e =
     length-take-le _ _ (omega (arith, c.requires.room))
-
-pub slice_bounds-check_opening-end-2 : goal.slice_bounds-check_opening-end-2
-slice_bounds-check_opening-end-2 c = sym (area-size (goal.at.slice_bounds-check_opening-end-2 c).Start _ c.work_length-area.ensures)
-
-pub slice_bounds-check_opening-end-4 : goal.slice_bounds-check_opening-end-4
-slice_bounds-check_opening-end-4 c = sym (opened-size (goal.at.slice_bounds-check_opening-end-4 c).Start _ c.opened_length-all.ensures)
 
 pub check_opening-requires : goal.check_opening-requires
 check_opening-requires c =

@@ -1,20 +1,13 @@
-use Rattle.std.proofs.Common.{ap, arith, below_more, eq-eqb, false, length, ne_eqb, not, ◌∙◌, ◌≡◌}
-use Rattle.extractor.specs.Head.{least-found, least-none}
-use Rattle.extractor.specs.Lowest.{lowest_in}
+use Rattle.std.proofs.Common.{arith, below_more, rules, tests}
+use Rattle.extractor.specs.Lowest.{leaves_differ}
+use Rattle.extractor.specs.Head.{first_below-found, first_below-never}
 use Rattle.extractor.proofs.lowest.lowest_run.Goals as goal
 
-pub loop-run-init : goal.loop-run-init
-loop-run-init c = (omega arith, λ k l. absurd (omega arith))
-
-pub returns-then-first4-run : goal.returns-then-first4-run
-unfolding lowest_in
-returns-then-first4-run c = least-found _ _ _ (omega (arith, c.loop-run-test.true)) (ap not (ne_eqb _ _ c.if-first4-run.true)) c.loop-run.invariant.1
+pub returns-then-leaf-second4 : goal.returns-then-leaf-second4
+returns-then-leaf-second4 c = first_below-found (leaves_differ c.args.first4.now c.args.second4.now) _ c.loop-run.run (c.loop-run-test.true) (search (rules, tests)) c.loop-run.invariant
 
 pub loop-run-preserved : goal.loop-run-preserved
-loop-run-preserved c = (omega (arith, c.loop-run-test.true), below_more _ _ c.loop-run.invariant.1 (ap not (eq-eqb _ _ c.if-first4-run.false)))
+loop-run-preserved c = below_more _ _ c.loop-run.invariant (search (rules, tests))
 
 pub returns : goal.returns
-unfolding lowest_in
-returns c = let n = length c.args.first4.now in
-    let e : c.loop-run.run ≡ n = omega (arith, c.loop-run.invariant.0, c.loop-run-test.false) in
-    e ∙ least-none _ n (λ k l. c.loop-run.invariant.1 k (omega arith))
+returns c = first_below-never (leaves_differ c.args.first4.now c.args.second4.now) _ (λ j l. c.loop-run.invariant j (omega arith))

@@ -1,11 +1,7 @@
--- The loop's invariant: the hidden leaves of no run before this one differ.
-use Rattle.std.proofs.Common.{eqb, false, length, not, ℕ, ◌-◌, ◌<◌, ◌≡◌, ◌≤◌}
-use Rattle.runs.specs.Messages.{leaf_at}
+-- The loop's invariant: the hidden leaves of the runs before this one agree.
+use Rattle.std.proofs.Common.{false, ℕ, ◌<◌, ◌≡◌}
+use Rattle.extractor.specs.Lowest.{leaves_differ}
 use Rattle.extractor.proofs.lowest.lowest_run.Given as goal
 
 abbrev pub invariant-loop-run : goal.invariant-loop-run
-invariant-loop-run l =
-    (l.run ≤ length l.first4) × ((k : ℕ) → k < l.run → not (eqb (leaf_at l.first4 k) (leaf_at l.second4 k)) ≡ false)
-
-abbrev pub decreases-loop-run : goal.decreases-loop-run
-decreases-loop-run l = l.runs - l.run
+invariant-loop-run l = (k : ℕ) → k < l.run → leaves_differ l.first4 l.second4 k ≡ false

@@ -1,23 +1,17 @@
-use Rattle.std.proofs.Common.{arith, below_more, false, sym, ◌∙◌, ◌≡◌}
-use Rattle.layout.specs.Layout.{leaves}
-use Rattle.extractor.specs.Head.{least-found, least-none}
-use Rattle.extractor.specs.Comparison.{first_opened}
+use Rattle.std.proofs.Common.{ap, arith, below_more, rules, tests, ◌∙◌}
+use Rattle.layout.specs.Layout.Bounds.{leaves-most}
+use Rattle.extractor.specs.Comparison.{leaf_at, both_apart}
+use Rattle.extractor.specs.Head.{first_below, first_below-found, first_below-never}
 use Rattle.extractor.proofs.opened.first_leaf.Goals as goal
 
-pub loop-leaf-init : goal.loop-leaf-init
-loop-leaf-init c = (omega arith, λ k l. absurd (omega arith))
-
 pub returns-then-leaf_differs : goal.returns-then-leaf_differs
-unfolding first_opened
-returns-then-leaf_differs c = least-found _ _ _ (omega (arith, c.loop-leaf-test.true, c.leaf_count-n.ensures))
-    (sym c.leaf_differs.ensures ∙ c.if-leaf_differs.true) c.loop-leaf.invariant.1
+returns-then-leaf_differs c = first_below-found (both_apart c.args.first.hidden c.args.second.hidden (leaf_at c.args.p c.args.first.made.now c.args.first.aux.now) (leaf_at c.args.p c.args.second.made.now c.args.second.aux.now)) _ c.loop-leaf.leaf (c.loop-leaf-test.true) (search (rules, tests)) c.loop-leaf.invariant ∙ ap (first_below _) c.leaf_count-leaf-end.ensures
+
+pub overflow_cast-result : goal.overflow_cast-result
+overflow_cast-result c = omega (arith, c.loop-leaf-test.true, c.leaf_count-leaf-end.ensures, leaves-most c.args.p c.requires.within)
 
 pub loop-leaf-preserved : goal.loop-leaf-preserved
-loop-leaf-preserved c = let a = below_more _ _ c.loop-leaf.invariant.1 (sym c.leaf_differs.ensures ∙ c.if-leaf_differs.false) in
-    (omega (arith, c.loop-leaf-test.true, c.leaf_count-n.ensures), a)
+loop-leaf-preserved c = below_more _ _ c.loop-leaf.invariant (search (rules, tests))
 
 pub returns : goal.returns
-unfolding first_opened
-returns c = let n = leaves c.args.p in
-    let e : c.loop-leaf.leaf ≡ n = omega (arith, c.loop-leaf.invariant.0, c.loop-leaf-test.false, c.leaf_count-n.ensures) in
-    e ∙ least-none _ n (λ k l. c.loop-leaf.invariant.1 k (omega arith))
+returns c = first_below-never (both_apart c.args.first.hidden c.args.second.hidden (leaf_at c.args.p c.args.first.made.now c.args.first.aux.now) (leaf_at c.args.p c.args.second.made.now c.args.second.aux.now)) _ (λ j l. c.loop-leaf.invariant j (omega arith)) ∙ ap (first_below _) c.leaf_count-leaf-end.ensures

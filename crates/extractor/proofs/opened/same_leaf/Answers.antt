@@ -7,15 +7,15 @@ use Rattle.extractor.specs.Comparison.Leaf.{leaf_apart, leaf_last, leaf-other}
 use Rattle.extractor.proofs.opened.same_leaf.Goals as goal
 use Rattle.extractor.proofs.opened.same_leaf.Goals.{After-equal, Start}
 
-fits : (c : Start) → 32 * c.args.leaf + 32 ≤ length c.args.opened.now
+fits : (c : Start) → 32 * c.args.leaf + 32 ≤ length c.args.first.made.now
 fits c =
     omega (arith, c.requires.1, c.requires.0.first)
 
-fits-too : (c : Start) → 32 * c.args.leaf + 32 ≤ length c.args.other_opened.now
+fits-too : (c : Start) → 32 * c.args.leaf + 32 ≤ length c.args.second.made.now
 fits-too c =
     omega (arith, c.requires.1, c.requires.0.second)
 
-compared : (c : After-equal) → c.equal.result ≡ eq_list (state_at c.args.opened.now c.args.leaf) (state_at c.args.other_opened.now c.args.leaf)
+compared : (c : After-equal) → c.equal.result ≡ eq_list (state_at c.args.first.made.now c.args.leaf) (state_at c.args.second.made.now c.args.leaf)
 compared c =
     c.equal.ensures ∙ ap₂ eq_list (lent-part _ (32 * c.args.leaf) 32) (lent-part _ (32 * c.args.leaf) 32)
 

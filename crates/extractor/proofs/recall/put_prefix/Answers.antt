@@ -10,9 +10,6 @@ salt : (c : Start) → length (take 32 c.args.message1.now) ≡ 32
 salt c =
     length-take-le 32 c.args.message1.now c.requires.reaches
 
-pub slice_bounds-put_at-end : goal.slice_bounds-put_at-end
-slice_bounds-put_at-end c = sym (salt (goal.at.slice_bounds-put_at-end c).Start)
-
 pub put_at-requires : goal.put_at-requires
 put_at-requires c = omega (arith, salt (goal.at.put_at-requires c).Start, c.requires.room)
 

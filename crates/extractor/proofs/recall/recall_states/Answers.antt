@@ -1,6 +1,5 @@
 -- The sibling seeds start the run's part of message 5 (`siblings-lent`).
-use Rattle.std.proofs.Common.{ap, arith, length, length-take-le, sym, take, ℕ, ◌+◌, ◌∙◌, ◌≡◌, ◌≤◌}
-use Rattle.lists.specs.Part.Laws.{length-lent}
+use Rattle.std.proofs.Common.{ap, arith, length, length-take-le, take, ℕ, ◌+◌, ◌∙◌, ◌≡◌, ◌≤◌}
 use Rattle.layout.specs.Layout.{siblings_length, states_length}
 use Rattle.layout.specs.Layout.Bounds.{message5-most}
 use Rattle.leaves.specs.States.{states_from}
@@ -31,18 +30,6 @@ overflow_add-at c = omega (
 
 pub slice_bounds-opened_states-end : goal.slice_bounds-opened_states-end
 slice_bounds-opened_states-end c = fits (goal.at.slice_bounds-opened_states-end c).Start _ c.siblings_length-seeds.ensures
-
-pub slice_bounds-opened_states-end-3 : goal.slice_bounds-opened_states-end-3
-slice_bounds-opened_states-end-3 c = sym (room (goal.at.slice_bounds-opened_states-end-3 c).Start _ c.states_length-states.ensures)
-
-pub opened_states-requires : goal.opened_states-requires
-opened_states-requires c = record {
-  within = c.requires.within;
-  is_leaf = c.requires.lies.below;
-  sized-siblings = length-lent c.args.place.start c.siblings_length-seeds.result c.args.message5.now
-      (fits (goal.at.opened_states-requires c).Start _ c.siblings_length-seeds.ensures) ∙ c.siblings_length-seeds.ensures;
-  sized-states = room (goal.at.opened_states-requires c).Start _ c.states_length-states.ensures ∙ c.states_length-states.ensures;
-}
 
 pub returns : goal.returns
 unfolding recalled

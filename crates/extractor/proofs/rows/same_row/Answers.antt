@@ -11,15 +11,6 @@ fits : (c : Start) → (n : ℕ) → n ≡ axis_length c.args.p → c.args.axis 
 fits c n e =
     omega (arith, part-fits c.args.axis c.args.p.axes n c.requires.1, ap (◌*◌ c.args.p.axes) e)
 
-pub overflow_mul-at : goal.overflow_mul-at
-overflow_mul-at c = omega (arith, fits (goal.at.overflow_mul-at c).Start _ c.axis_length-size.ensures, c.requires.0.first)
-
-pub overflow_add-end : goal.overflow_add-end
-overflow_add-end c = omega (arith, fits (goal.at.overflow_add-end c).Start _ c.axis_length-size.ensures, c.requires.0.first)
-
-pub slice_bounds-equal-end : goal.slice_bounds-equal-end
-slice_bounds-equal-end c = omega (arith, fits (goal.at.slice_bounds-equal-end c).Start _ c.axis_length-size.ensures, c.requires.0.first)
-
 pub slice_bounds-equal-end-2 : goal.slice_bounds-equal-end-2
 slice_bounds-equal-end-2 c =
     omega (arith, fits (goal.at.slice_bounds-equal-end-2 c).Start _ c.axis_length-size.ensures, c.requires.0.second)

@@ -12,15 +12,6 @@ nonzero c =
 pub overflow_sub-j : goal.overflow_sub-j
 overflow_sub-j c = omega (arith, nonzero (goal.at.overflow_sub-j c).After-power_of-f)
 
-pub log_of-s-requires : goal.log_of-s-requires
-log_of-s-requires c = let q = c.requires.0 in (q.field-tables, q.nonzero _ (omega arith))
-
-pub side_by_side-requires : goal.side_by_side-requires
-side_by_side-requires c = let q = c.requires.0 in (q.few, q.sized, q.fits, omega arith)
-
-pub add_powers-requires : goal.add_powers-requires
-add_powers-requires c = (c.log_of-s.ensures.0, c.requires.2, omega arith, omega (arith, c.requires.1), λ j h. omega (arith, c.requires.1), c.requires.0.field-tables)
-
 pub returns-then-j-m : goal.returns-then-j-m
 returns-then-j-m c = let n = c.requires.1 in added-ext
     (λ k h. spaced-one _ k h ∙ scaled_by-at c.args.rows.now c.args.scales.now c.args.n c.args.e _ _ _ c.power_of-f.ensures

@@ -1,16 +1,16 @@
--- Each return follows from the tests that led to it.
-use Rattle.std.proofs.Common.{eq-eqb, ne_eqb}
+-- Each return follows from the place that led to it.
+use Rattle.std.proofs.Common.{arith, eq-eqb, ne_eqb}
 use Rattle.keytext.specs.Scan.{accepted}
 use Rattle.keytext.proofs.KeyScan.accepts.Goals as goal
 
-pub returns-then-self-eq0 : goal.returns-then-self-eq0
+pub returns-in-0-default : goal.returns-in-0-default
 unfolding accepted
-returns-then-self-eq0 c = rw (eq-eqb _ _ c.if-self-eq0.true) c.accepts_word.ensures
+returns-in-0-default c = rw (eq-eqb c.args.self.field 0 (omega arith)) c.accepts_word.ensures
 
-pub returns-then-self-eq0-2 : goal.returns-then-self-eq0-2
+pub returns-in_default-eq0 : goal.returns-in_default-eq0
 unfolding accepted
-returns-then-self-eq0-2 c = rw (ne_eqb _ _ c.if-self-eq0.false, eq-eqb _ _ c.if-self-eq0-2.true) c.accepts.ensures
+returns-in_default-eq0 c = let s = c.args.self in rw (ne_eqb s.field 0 (omega arith), eq-eqb s.line 0 (omega arith)) c.accepts.ensures
 
-pub returns : goal.returns
+pub returns-in_default : goal.returns-in_default
 unfolding accepted
-returns c = rw (ne_eqb _ _ c.if-self-eq0.false, ne_eqb _ _ c.if-self-eq0-2.false) c.accepts-2.ensures
+returns-in_default c = let s = c.args.self in rw (ne_eqb s.field 0 (omega arith), ne_eqb s.line 0 (omega arith)) c.accepts-in_default.ensures

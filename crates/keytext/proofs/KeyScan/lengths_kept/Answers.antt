@@ -1,23 +1,21 @@
--- Each return follows from the tests that led to it.
-use Rattle.std.proofs.Common.{arith, le-leb}
-use borrow.Author.Tests.{lt-leb}
+-- Each return follows from the bounds that led to it.
+use Rattle.std.proofs.Common.{arith}
+use Rattle.std.proofs.lemmas.Bool.Decides.{nat_tests}
 use Rattle.keytext.specs.Scan.{saved_lengths}
 use Rattle.keytext.proofs.KeyScan.lengths_kept.Goals as goal
 
-pub returns-then-self-eq0 : goal.returns-then-self-eq0
+pub returns-then-self-lt1 : goal.returns-then-self-lt1
 unfolding saved_lengths
-returns-then-self-eq0 c = rw (lt-leb 1 c.args.self.field (omega arith))
+returns-then-self-lt1 c = grind (arith, nat_tests)
 
-pub returns-then-line-eq0 : goal.returns-then-line-eq0
+pub returns-then-this-lt1 : goal.returns-then-this-lt1
 unfolding saved_lengths
-returns-then-line-eq0 c = let s = c.args.self in rw (le-leb 1 s.field (omega arith), lt-leb 1 s.line (omega arith))
+returns-then-this-lt1 c = grind (arith, nat_tests)
 
-pub returns-then-line-gt3 : goal.returns-then-line-gt3
+pub returns-in-1-to-max-1-to-3 : goal.returns-in-1-to-max-1-to-3
 unfolding saved_lengths
-returns-then-line-gt3 c = let s = c.args.self in
-    rw (le-leb 1 s.field (omega arith), le-leb 1 s.line (omega arith), lt-leb _ _ c.if-line-gt3.true)
+returns-in-1-to-max-1-to-3 c = grind (arith, nat_tests)
 
-pub returns : goal.returns
+pub returns-else-this-lt4 : goal.returns-else-this-lt4
 unfolding saved_lengths
-returns c = let s = c.args.self in
-    rw (le-leb 1 s.field (omega arith), le-leb 1 s.line (omega arith), le-leb _ _ c.if-line-gt3.false)
+returns-else-this-lt4 c = grind (arith, nat_tests)

@@ -1,23 +1,21 @@
--- Each return follows from the tests that led to it.
-use Rattle.std.proofs.Common.{arith, eq-eqb, le-leb, ne_eqb}
-use borrow.Author.Tests.{lt-leb}
+-- Each return follows from the bounds that led to it.
+use Rattle.std.proofs.Common.{arith}
+use Rattle.std.proofs.lemmas.Bool.Decides.{nat_tests}
 use Rattle.keytext.specs.Scan.{saved_numbers}
 use Rattle.keytext.proofs.KeyScan.numbers_kept.Goals as goal
 
-pub returns-then-self-ne0 : goal.returns-then-self-ne0
+pub returns-then-self-lt1 : goal.returns-then-self-lt1
 unfolding saved_numbers
-returns-then-self-ne0 c = rw (ne_eqb _ _ c.if-self-ne0.true)
+returns-then-self-lt1 c = grind (arith, nat_tests)
 
-pub returns-then-field-eq0 : goal.returns-then-field-eq0
+pub returns-in-0-1-to-5 : goal.returns-in-0-1-to-5
 unfolding saved_numbers
-returns-then-field-eq0 c = let s = c.args.self in rw (eq-eqb _ _ c.if-self-ne0.false, lt-leb 1 s.field (omega arith))
+returns-in-0-1-to-5 c = grind (arith, nat_tests)
 
-pub returns-then-field-gt5 : goal.returns-then-field-gt5
+pub returns-else-this-lt6 : goal.returns-else-this-lt6
 unfolding saved_numbers
-returns-then-field-gt5 c = let s = c.args.self in
-    rw (eq-eqb _ _ c.if-self-ne0.false, le-leb 1 s.field (omega arith), lt-leb _ _ c.if-field-gt5.true)
+returns-else-this-lt6 c = grind (arith, nat_tests)
 
 pub returns : goal.returns
 unfolding saved_numbers
-returns c = let s = c.args.self in
-    rw (eq-eqb _ _ c.if-self-ne0.false, le-leb 1 s.field (omega arith), le-leb _ _ c.if-field-gt5.false)
+returns c = grind (arith, nat_tests)

@@ -1,12 +1,13 @@
 -- One return for each kind of byte (`step_line`, `step_field`, `step-byte`).
+use Rattle.std.proofs.Common.{arith}
 use Rattle.keytext.proofs.Laws.Scan.Steps.{step_line, step_field, step-byte}
 use Rattle.keytext.proofs.KeyScan.step.Goals as goal
 
-pub returns-then-b-eq10 : goal.returns-then-b-eq10
-returns-then-b-eq10 c = step_line _ _ c.if-b-eq10.true c.line_end.ensures
+pub returns-in-10 : goal.returns-in-10
+returns-in-10 c = step_line _ _ (omega arith) c.line_end.ensures
 
-pub returns-then-b-eq9 : goal.returns-then-b-eq9
-returns-then-b-eq9 c = step_field _ _ c.if-b-eq10.false c.if-b-eq9.true c.field_end.ensures
+pub returns-in-9 : goal.returns-in-9
+returns-in-9 c = step_field _ _ (omega arith) (omega arith) c.field_end.ensures
 
-pub returns : goal.returns
-returns c = step-byte _ _ c.if-b-eq10.false c.if-b-eq9.false c.byte.ensures
+pub returns-in_default : goal.returns-in_default
+returns-in_default c = step-byte _ _ (omega arith) (omega arith) c.byte.ensures

@@ -11,25 +11,22 @@ use Rattle.keytext.proofs.listing.finish.Goals.{After-parameters_of-p, After-y_l
 abbrev Lent : List ℕ → ℕ → Type 0
 Lent s n = length (take n s) ≡ n
 
-passed : (c : After-parameters_of-p) → Read c.args.scan (length c.args.matrix.now) (length c.args.y.now) (length c.args.x_a.now)
-passed c =
-    read_done _ _ _ _ (sym c.read_checks-checked.ensures ∙ c.in_default.is)
+-- the checks pass, and the parameters are within their limits
+passed : (c : After-parameters_of-p) → let a = c.args in Read a.scan (length a.matrix.now) (length a.y.now) (length a.x_a.now)
+passed c = read_done _ _ _ _ (sym c.read_checks.ensures ∙ c.in_default.is)
 
 within : (c : After-parameters_of-p) → Within c.parameters_of-p.result
-within c =
-    let passed : Read c.args.scan (length c.args.matrix.now) (length c.args.y.now) (length c.args.x_a.now) = read_done _ _ _ _ (sym c.read_checks-checked.ensures ∙ c.in_default.is) in
-    read-within c.args.scan c.parameters_of-p.ensures passed
+within c = read-within c.args.scan c.parameters_of-p.ensures (passed c)
 
 lent : (c : After-y_length-rows) → let a = c.args in
     Lent a.matrix.now c.matrix_length-size.result × Lent a.y.now c.y_length-rows.result × Lent a.x_a.now c.parameters_of-p.result.k
 lent c =
-    let passed : Read c.args.scan (length c.args.matrix.now) (length c.args.y.now) (length c.args.x_a.now) = read_done _ _ _ _ (sym c.read_checks-checked.ensures ∙ c.in_default.is) in
-    let h = read_held c.args.scan c.parameters_of-p.ensures passed in
+    let h = read_held c.args.scan c.parameters_of-p.ensures (read_done _ _ _ _ (sym c.read_checks.ensures ∙ c.in_default.is)) in
     (length-take-le _ _ (omega (arith, h.0, c.matrix_length-size.ensures)), length-take-le _ _ (omega (arith, h.1, c.y_length-rows.ensures)), length-take-le _ _ h.2)
 
-pub returns-in-Refused : goal.returns-in-Refused
-returns-in-Refused c = let a = c.args in
-    let e = finish-refused a.scan a.matrix.now a.y.now a.x_a.now (sym c.read_checks-checked.ensures ∙ c.in-Refused.is) in
+pub returns-in-Err : goal.returns-in-Err
+returns-in-Err c = let a = c.args in
+    let e = finish-refused a.scan a.matrix.now a.y.now a.x_a.now (sym c.read_checks.ensures ∙ c.in-Err.is) in
     rw e (written-whole _ _ c.refused.ensures)
 
 pub matrix_length-size-requires : goal.matrix_length-size-requires

@@ -17,6 +17,6 @@ slice_bounds-key_lines-end-4 c = sym (fits _ _ (omega arith))
 pub key_lines-requires : goal.key_lines-requires
 key_lines-requires c = record {
   weighted = c.requires.weighted;
-  tables_value = c.requires.tables_value;
+  room = c.requires.room;
   q_len = (fits _ _ (omega arith), fits _ _ (omega arith), fits _ _ (omega arith), fits _ _ (omega arith));
 }

@@ -6,4 +6,4 @@ use Rattle.keytext.proofs.listing.quotient_line.Goals as goal
 pub returns : goal.returns
 unfolding p_word
 returns c = let v = c.result_line in
-    record { written = rw c.quotient.ensures.0 at v.ensures.written; value = omega (arith, v.ensures.value, c.quotient.auto.out, c.requires.tables_value.2) }
+    record { written = rw c.quotient.ensures.0 at v.ensures.written; value = omega (arith, v.ensures.value, c.quotient.auto.out, c.requires.room.1) }

@@ -12,7 +12,7 @@ pub lines_of-requires : goal.lines_of-requires
 lines_of-requires c =
     let p = c.requires.le_w in let k = c.vector.auto.out in
     let e = sym c.within_weight.ensures ∙ c.if-not-within_weight.false in
-    record { weighted = record { least = p.0; most = omega (arith, k, p.1); light = leb-true _ _ e; short = omega (arith, k, p.2) }; tables_value = c.requires.tables_value }
+    record { weighted = record { least = p.0; most = omega (arith, k, p.1); light = leb-true _ _ e; short = omega (arith, k, p.2) }; room = c.requires.room }
 
 pub returns : goal.returns
 returns c = let v = c.vector.ensures in let a = c.args in

@@ -1,11 +1,8 @@
 -- The loop's invariant: the sum is the length of the parts before run e, and each is short.
-use Rattle.std.proofs.Common.{◌*◌, ◌-◌, ◌≡◌, ◌≤◌}
+use Rattle.std.proofs.Common.{◌*◌, ◌≡◌, ◌≤◌}
 use Rattle.layout.specs.Runs.{message5_place}
 use Rattle.layout.specs.Maxima.{longest_message5}
 use Rattle.layout.proofs.runs.messages5_length.Given as goal
 
-abbrev pub invariant-loop-e : goal.invariant-loop-e
-invariant-loop-e l = (l.e ≤ l.n) × (l.sum ≡ message5_place l.p l.leaves l.e) × (l.sum ≤ l.e * longest_message5)
-
-abbrev pub decreases-loop-e : goal.decreases-loop-e
-decreases-loop-e l = l.n - l.e
+abbrev pub invariant-loop-leaf : goal.invariant-loop-leaf
+invariant-loop-leaf l = (l.sum ≡ message5_place l.p l.leaves l.leaf-index) × (l.sum ≤ l.leaf-index * longest_message5)

@@ -10,14 +10,12 @@ use Rattle.leaves.specs.Commitments.Laws.{commitments-begun, committed-none, com
 use Rattle.leaves.proofs.commitments.digest_commitments.Goals as goal
 
 pub loop-i-init : goal.loop-i-init
-loop-i-init c = let args = c.args in (
-  omega arith,
-  c.begin-all.ensures ∙ committed-none args.prefix.now
-      (commitments_of args.p args.prefix.now args.states.now args.hidden_leaf args.given.now args.aux.now),
-)
+loop-i-init c = let args = c.args in
+    c.begin-all.ensures ∙ committed-none args.prefix.now
+    (commitments_of args.p args.prefix.now args.states.now args.hidden_leaf args.given.now args.aux.now)
 
-pub absorb_commitment-next-requires : goal.absorb_commitment-next-requires
-absorb_commitment-next-requires c = let count = c.leaf_count-n.ensures in
+pub absorb_commitment-all-requires : goal.absorb_commitment-all-requires
+absorb_commitment-all-requires c = let count = c.leaf_count-n.ensures in
     record {
       of = record { within = c.requires.within; number = omega (arith, leaves-most c.args.p c.requires.within) };
       state = omega (arith, c.requires.states);
@@ -28,11 +26,11 @@ loop-i-preserved c = let args = c.args in let i = c.loop-i.i in
     let f = commitments_of args.p args.prefix.now args.states.now args.hidden_leaf args.given.now args.aux.now in
     let is = commitments-begun args.p args.prefix.now args.states.now args.hidden_leaf args.given.now args.aux.now i
     c.begin-start.result c.begin-start.ensures in
-    (omega arith, c.absorb_commitment-next.ensures ∙ ap₂ absorbed c.loop-i.invariant.1 is ∙ committed-more args.prefix.now f i)
+    c.absorb_commitment-all.ensures ∙ ap₂ absorbed c.loop-i.invariant is ∙ committed-more args.prefix.now f i
 
 pub returns : goal.returns
 returns c = let filled = c.digest in let args = c.args in
     let f = commitments_of args.p args.prefix.now args.states.now args.hidden_leaf args.given.now args.aux.now in
-    let size = length args.out.now in let last : c.loop-i.i ≡ c.leaf_count-n.result = omega (arith, c.loop-i-test.false, c.loop-i.invariant.0) in
-    filled.ensures ∙ ap (λ (s : Sponge). hashed s [] size) c.loop-i.invariant.1 ∙ committed-digest args.prefix.now f c.loop-i.i size
+    let size = length args.out.now in let last : c.loop-i.i ≡ c.leaf_count-n.result = omega arith in
+    filled.ensures ∙ ap (λ (s : Sponge). hashed s [] size) c.loop-i.invariant ∙ committed-digest args.prefix.now f c.loop-i.i size
     ∙ ap (λ (n : ℕ). SHAKE256 (string5 args.prefix.now f n) size) (last ∙ c.leaf_count-n.ensures)

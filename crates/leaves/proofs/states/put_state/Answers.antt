@@ -18,6 +18,6 @@ returns-then-leaf-hidden_leaf c = let leaf = c.args.leaf in
 pub returns : goal.returns
 returns c = let leaf = c.args.leaf in let w = c.args.states.now in
     let is : c.leaf_state.new.out ≡ state_after c.args.start leaf (seed_at w (c.args.n + leaf)) =
-    c.leaf_state.ensures ∙ ap (state_after c.args.start leaf) (c.seed_of-seed.ensures ∙ lent-part w (16 * (c.args.n + leaf)) 16) in
+    c.leaf_state.ensures ∙ ap (state_after c.args.start leaf) (c.array-seed.ensures ∙ lent-part w (16 * (c.args.n + leaf)) 16) in
     part-back w _ (32 * leaf) 32 (ap length is ∙ length-bytes_after c.args.start leaf _ 32)
     ∙ ap (put_at w (32 * leaf)) (is ∙ sym (unless_hidden-other c.args.hidden_leaf leaf _ c.if-leaf-hidden_leaf.false))

@@ -1,16 +1,9 @@
 -- What is wanted, and then the rest of what was drawn added. The work area has room for the 255 entries of a longest x.
-use Rattle.std.proofs.Common.{ap, ap₂, arith, drop, sym, ℕ, ◌∙◌}
+use Rattle.std.proofs.Common.{ap, ap₂, drop, ℕ, ◌∙◌}
 use Rattle.lists.specs.Sum.{xor_list}
 use Rattle.lists.specs.Part.Laws.{tail-part}
-use Rattle.points.specs.Written.{front_length}
 use Rattle.messages.specs.Auxiliary.{aux_for}
 use Rattle.messages.proofs.auxiliary.aux.Goals as goal
-
-pub slice_bounds-wanted-end : goal.slice_bounds-wanted-end
-slice_bounds-wanted-end c = front_length _ _ (omega (arith, c.requires.within.m-most))
-
-pub wanted-requires : goal.wanted-requires
-wanted-requires c = (c.requires, sym (front_length _ _ (omega (arith, c.requires.within.m-most))), c.field_tables-tables.ensures)
 
 pub returns : goal.returns
 unfolding aux_for

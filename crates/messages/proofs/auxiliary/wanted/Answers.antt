@@ -1,30 +1,11 @@
 -- Four parts are written one after another, the second one byte longer than what is kept of it (`wanted-made`).
-use Rattle.std.proofs.Common.{List, [], ap, ap₂, arith, length-drop, length-take, length-take-le, refl, sym, take, ℕ, ◌++◌, ◌+◌, ◌∙◌}
+use Rattle.std.proofs.Common.{List, [], ap, ap₂, arith, length-take-le, refl, take, ℕ, ◌++◌, ◌+◌, ◌∙◌}
 use Rattle.lists.specs.Part.Laws.{tail-back}
 use Rattle.lists.specs.Zeroed.{zeroed}
 use Rattle.layout.specs.Layout.{points_length}
-use Rattle.points.specs.Written.{front_length}
 use Rattle.messages.specs.Auxiliary.{wanted_for}
-use Rattle.messages.proofs.Laws.Auxiliary.{length-q, length-u, left-q, left-u, wanted-made}
+use Rattle.messages.proofs.Laws.Auxiliary.{length-q, length-u, left-u, wanted-made}
 use Rattle.messages.proofs.auxiliary.wanted.Goals as goal
-
-pub slice_bounds-put_at-end : goal.slice_bounds-put_at-end
-slice_bounds-put_at-end c = let f = c.requires.0 in front_length _ _ (omega (arith, f.within.k-most, f.sized-x))
-
-pub put_at-requires : goal.put_at-requires
-put_at-requires c = let f = c.requires.0 in simp length-take (omega (arith, f.sized-out))
-
-pub quotient-requires : goal.quotient-requires
-quotient-requires c = let f = c.requires.0 in let n = c.put_at.auto.out ∙ f.sized-out in
-    let lo = left-q c.args.p.k c.args.p.w (points_length c.args.p) c.put_at.new.out c.locator.new.out [] n f.within.w-least
-    c.locator.auto.out in
-    (f.light, f.within.w-least, c.requires.1 ∙ sym f.sized-x, simp (length-take, length-drop) (omega (arith, lo, n)), c.requires.2)
-
-pub products-requires : goal.products-requires
-products-requires c = let f = c.requires.0 in let n = c.put_at.auto.out ∙ f.sized-out in
-    let lo = left-u c.args.p.k c.args.p.w (points_length c.args.p) c.put_at.new.out c.locator.new.out
-    c.quotient.new.out n f.within.w-least c.locator.auto.out c.quotient.auto.out in
-    (record { within = f.within; sized-drawn = f.sized-drawn; sized-out = simp (length-take, length-drop) (omega (arith, lo, n)) }, c.requires.2)
 
 pub returns : goal.returns
 unfolding wanted_for

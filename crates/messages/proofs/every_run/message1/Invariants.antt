@@ -1,5 +1,5 @@
 -- The loop's invariant: behind the salt stands h of the first e runs.
-use Rattle.std.proofs.Common.{List, length, take, ℕ, ◌*◌, ◌++◌, ◌+◌, ◌-◌, ◌≡◌, ◌≤◌}
+use Rattle.std.proofs.Common.{List, take, ℕ, ◌*◌, ◌++◌, ◌+◌}
 use Rattle.shake256.specs.Fips.{SHAKE256}
 use Rattle.parameters.specs.declared.Parameters.{Parameters}
 use Rattle.layout.specs.Layout.{work_length}
@@ -14,8 +14,4 @@ digests p n x seeds e = joined (digest_of SHAKE256 p n (take p.m x) (salt_in see
 
 abbrev pub invariant-loop-e : goal.invariant-loop-e
 invariant-loop-e l =
-    (l.e ≤ l.runs) × (l.at ≡ 32 + l.e * 32) × (length l.work ≡ length l.initial.work) × (length l.out ≡ length l.initial.out) × Cleared (work_length l.p) l.e l.initial.work l.work
-    × Placed (salt_in l.seeds ++ digests l.p l.runs l.x l.seeds l.e) l.initial.out l.out l.at
-
-abbrev pub decreases-loop-e : goal.decreases-loop-e
-decreases-loop-e l = l.runs - l.e
+    Cleared (work_length l.p) l.e l.initial.work l.work × Placed (salt_in l.seeds ++ digests l.p l.runs l.x l.seeds l.e) l.initial.out l.out (32 + 32 * l.e)

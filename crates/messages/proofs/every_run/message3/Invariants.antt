@@ -1,7 +1,7 @@
 -- The loop's invariant: h' of the first e runs stands at the front.
-use Rattle.std.proofs.Common.{List, length, take, ℕ, ◌*◌, ◌-◌, ◌≡◌, ◌≤◌}
+use Rattle.std.proofs.Common.{List, take, ℕ, ◌*◌}
 use Rattle.parameters.specs.declared.Parameters.{Parameters}
-use Rattle.layout.specs.Layout.{message2_length, work_length}
+use Rattle.layout.specs.Layout.{work_length}
 use Rattle.exchange.specs.Sequences.{joined}
 use Rattle.exchange.specs.Values.{key_of}
 use Rattle.messages.proofs.Laws.EveryRun.{Cleared, Placed, response}
@@ -13,8 +13,4 @@ responses p x seeds message2 matrix y e = response p (take p.m x) (salt_in seeds
 
 abbrev pub invariant-loop-e : goal.invariant-loop-e
 invariant-loop-e l =
-    (l.e ≤ l.runs) × (l.size ≡ message2_length l.p) × (l.points ≡ l.e * message2_length l.p) × (l.at ≡ l.e * 32) × (length l.work ≡ length l.initial.work) × (length l.out ≡ length l.initial.out)
-    × Cleared (work_length l.p) l.e l.initial.work l.work × Placed (joined (responses l.p l.x l.seeds l.message2 l.matrix l.y) l.e) l.initial.out l.out l.at
-
-abbrev pub decreases-loop-e : goal.decreases-loop-e
-decreases-loop-e l = l.runs - l.e
+    Cleared (work_length l.p) l.e l.initial.work l.work × Placed (joined (responses l.p l.x l.seeds l.message2 l.matrix l.y) l.e) l.initial.out l.out (32 * l.e)

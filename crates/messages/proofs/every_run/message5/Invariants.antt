@@ -1,7 +1,7 @@
 -- The loop's invariant: message 5 of the first e runs stands at the front, for every y of the key.
-use Rattle.std.proofs.Common.{List, length, take, ℕ, ◌*◌, ◌-◌, ◌≡◌, ◌≤◌}
+use Rattle.std.proofs.Common.{List, take, ℕ, ◌≡◌}
 use Rattle.parameters.specs.declared.Parameters.{Parameters}
-use Rattle.layout.specs.Layout.{message2_length, work_length}
+use Rattle.layout.specs.Layout.{work_length}
 use Rattle.layout.specs.Runs.{message5_place}
 use Rattle.exchange.specs.Sequences.{joined}
 use Rattle.exchange.specs.Values.{key_of}
@@ -14,9 +14,5 @@ openings p x seeds message2 leaves matrix y e = opening p (take p.m x) (salt_in 
 
 abbrev pub invariant-loop-e : goal.invariant-loop-e
 invariant-loop-e l =
-    (l.e ≤ length l.leaves) × (l.size ≡ message2_length l.p) × (l.points ≡ l.e * message2_length l.p) × (l.at ≡ message5_place l.p l.leaves l.e)
-    × (length l.work ≡ length l.initial.work) × (length l.out ≡ length l.initial.out) × Cleared (work_length l.p) l.e l.initial.work l.work
+    (l.at ≡ message5_place l.p l.leaves l.e) × Cleared (work_length l.p) l.e l.initial.work l.work
     × ((y : List ℕ) → Placed (joined (openings l.p l.x l.seeds l.message2 l.leaves l.matrix y) l.e) l.initial.out l.out l.at)
-
-abbrev pub decreases-loop-e : goal.decreases-loop-e
-decreases-loop-e l = length l.leaves - l.e

@@ -16,20 +16,8 @@ fits : (c : After-share_length-size) → (let k = c.share_length-size.result in
 fits c =
     total-fits c.args.p c.requires.within _ c.share_length-size.ensures
 
-pub overflow_mul-at : goal.overflow_mul-at
-overflow_mul-at c = omega (arith, fits (goal.at.overflow_mul-at c).After-share_length-size)
-
-pub overflow_add-at : goal.overflow_add-at
-overflow_add-at c = omega (arith, fits (goal.at.overflow_add-at c).After-share_length-size)
-
 pub slice_bounds-aux-end : goal.slice_bounds-aux-end
 slice_bounds-aux-end c = omega (arith, fits (goal.at.slice_bounds-aux-end c).After-share_length-size, c.requires.sums-are)
-
-pub overflow_add-at-2 : goal.overflow_add-at-2
-overflow_add-at-2 c = omega (arith, fits (goal.at.overflow_add-at-2 c).After-share_length-size, c.share_length-size.ensures, c.at_x.ensures)
-
-pub xor_at-requires : goal.xor_at-requires
-xor_at-requires c = omega (arith, fits (goal.at.xor_at-requires c).After-share_length-size, c.share_length-size.ensures, c.at_x.ensures, c.requires.sums-are, c.requires.aux-is, c.aux)
 
 pub returns : goal.returns
 returns c = let a = c.args in let e = c.share_length-size.ensures in

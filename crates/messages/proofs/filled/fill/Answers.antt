@@ -40,22 +40,6 @@ slice_bounds-party_sums-end-2 c = (back (goal.at.slice_bounds-party_sums-end-2 c
 pub party_sums-requires : goal.party_sums-requires
 party_sums-requires c = record { within = c.requires.within; room = c.requires.sums-are; states = sym (back (goal.at.party_sums-requires c).After-own_states).lent ∙ c.states_length-size.ensures }
 
-pub slice_bounds-aux-end : goal.slice_bounds-aux-end
-slice_bounds-aux-end c = (room (goal.at.slice_bounds-aux-end c).After-aux_length-length).aux
-
-pub slice_bounds-add_aux-end : goal.slice_bounds-add_aux-end
-slice_bounds-add_aux-end c = front_length _ _ (room (goal.at.slice_bounds-add_aux-end c).After-aux_length-length).aux
-
-pub add_aux-requires : goal.add_aux-requires
-add_aux-requires c = let h = c.requires in
-    record {
-      within = h.within;
-      light = h.light;
-      x-is = h.x-is;
-      sums-are = c.party_sums.auto.sums ∙ h.sums-are;
-      aux-is = (room (goal.at.add_aux-requires c).After-aux_length-length).aux-is;
-    }
-
 pub returns : goal.returns
 returns c = let h = c.requires in let a = c.args in
     fill-made a.p a.x.now (run_in a.run.now) (root-length a.run.now h.run_fits) _ _ _ _ _ _

@@ -44,9 +44,6 @@ state-long c =
     let inside : 32 * c.args.leaf + 32 ≤ length c.way_states.new.states = omega (arith, (back).size, c.states_length-size.ensures, c.requires.is_leaf) in
     length_part _ _ 32 (inside)
 
-pub overflow_mul-at : goal.overflow_mul-at
-overflow_mul-at c = omega (arith, fits (goal.at.overflow_mul-at c).After-states_length-size, c.states_length-size.ensures, c.requires.is_leaf)
-
 pub slice_bounds-states-end : goal.slice_bounds-states-end
 slice_bounds-states-end c = fits (goal.at.slice_bounds-states-end c).After-states_length-size
 
@@ -62,14 +59,8 @@ way_states-requires c = record {
   states-are = length-take-le _ (replicate most_states 0) (fits (goal.at.way_states-requires c).After-states_length-size) ∙ c.states_length-size.ensures;
 }
 
-pub overflow_add-at : goal.overflow_add-at
-overflow_add-at c = omega (arith, fits (goal.at.overflow_add-at c).After-states_length-size, c.states_length-size.ensures, c.requires.is_leaf)
-
 pub slice_bounds-put_at-end : goal.slice_bounds-put_at-end
 slice_bounds-put_at-end c = omega (arith, inside (goal.at.slice_bounds-put_at-end c).After-way_states, (back (goal.at.slice_bounds-put_at-end c).After-way_states).size, (back (goal.at.slice_bounds-put_at-end c).After-way_states).there)
-
-pub put_at-requires : goal.put_at-requires
-put_at-requires c = omega (arith, ap length (state-lent (goal.at.put_at-requires c).After-way_states), state-long (goal.at.put_at-requires c).After-way_states, c.requires.own_is)
 
 pub slice_bounds-states-end-2 : goal.slice_bounds-states-end-2
 slice_bounds-states-end-2 c = (back (goal.at.slice_bounds-states-end-2 c).After-way_states).there

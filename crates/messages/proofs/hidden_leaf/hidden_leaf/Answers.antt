@@ -7,7 +7,7 @@ use Rattle.points.specs.Written.{front_length}
 use Rattle.layout.specs.Layout.{is_last, at_x}
 use Rattle.layout.specs.Layout.Bounds.{share-fits}
 use Rattle.messages.specs.Auxiliary.{aux_for}
-use Rattle.messages.proofs.Laws.Fronts.{x_fits, x-length, x-light, front-zeroed, Front, front-back}
+use Rattle.messages.proofs.Laws.Fronts.{x-length, x-light, front-zeroed, Front, front-back}
 use Rattle.messages.proofs.Laws.HiddenLeaf.{leaf-made}
 use Rattle.messages.proofs.Laws.Own.{aux-made}
 use Rattle.messages.specs.Run.{run_in, root-length}
@@ -46,9 +46,6 @@ draw_leaf-requires c = record {
   sum_is = sym (front_length _ _ (fits (goal.at.draw_leaf-requires c).After-work_length-all)) ∙ c.share_length-size.ensures;
 }
 
-pub slice_bounds-aux-end : goal.slice_bounds-aux-end
-slice_bounds-aux-end c = front_length _ _ (x_fits _ _ _ _ c.requires.0)
-
 pub slice_bounds-aux-end-2 : goal.slice_bounds-aux-end-2
 slice_bounds-aux-end-2 c = (back (goal.at.slice_bounds-aux-end-2 c).After-draw_leaf).there
 
@@ -63,16 +60,6 @@ aux-requires c = let h = c.requires.0 in record {
   sized-drawn = sym (back (goal.at.aux-requires c).After-draw_leaf).lent ∙ c.share_length-size.ensures;
   sized-out = c.requires.1.aux-is;
 }
-
-pub complete-requires : goal.complete-requires
-complete-requires c = record {
-  within = c.requires.0.within;
-  aux-is = c.aux.auto.out ∙ c.requires.1.aux-is;
-  own_is = c.draw_leaf.auto.own ∙ c.requires.1.own_is;
-}
-
-pub zero_front-requires : goal.zero_front-requires
-zero_front-requires c = omega (arith, (back (goal.at.zero_front-requires c).After-draw_leaf).rest, c.work_length-all.ensures, c.requires.0.work-fits)
 
 pub returns : goal.returns
 returns c = let a = c.args in let h = c.requires.0 in

@@ -5,7 +5,6 @@ use Rattle.lists.specs.Part.Laws.{length-lent, tail-part}
 use Rattle.layout.specs.Layout.Bounds.{levels-most, leaves-most}
 use Rattle.seedtree.proofs.Lent.{part-back}
 use Rattle.leaves.specs.After.Laws.{length-bytes_after, state-begun}
-use Rattle.points.specs.Written.{front_length}
 use Rattle.messages.proofs.Laws.HiddenLeaf.{way-states}
 use Rattle.messages.specs.Run.{run_in, root-length}
 use Rattle.messages.proofs.hidden_leaf.way_states.Goals as goal
@@ -16,12 +15,6 @@ small : (c : Start) → c.args.leaf < 256
 small c =
     omega (arith, c.requires.is_leaf, leaves-most c.args.p c.requires.within)
 
-pub overflow_mul-at : goal.overflow_mul-at
-overflow_mul-at c = omega (arith, small (goal.at.overflow_mul-at c).Start)
-
-pub slice_bounds-sibling_seeds-end-2 : goal.slice_bounds-sibling_seeds-end-2
-slice_bounds-sibling_seeds-end-2 c = front_length 16 c.args.run.now c.requires.run_fits
-
 pub sibling_seeds-seed-requires : goal.sibling_seeds-seed-requires
 sibling_seeds-seed-requires c = record {
   levels = omega (arith, c.levels-d.ensures, levels-most c.args.p c.requires.within);
@@ -29,20 +22,6 @@ sibling_seeds-seed-requires c = record {
   seed = length-take-le 16 c.args.run.now c.requires.run_fits;
   size = c.requires.siblings-are ∙ ap (λ (n : ℕ). 16 * n) (sym c.levels-d.ensures);
 }
-
-pub opened_states-requires : goal.opened_states-requires
-opened_states-requires c = record {
-  within = c.requires.within;
-  is_leaf = c.requires.is_leaf;
-  sized-siblings = c.sibling_seeds-seed.auto.out ∙ c.requires.siblings-are;
-  sized-states = c.requires.states-are;
-}
-
-pub overflow_add-at : goal.overflow_add-at
-overflow_add-at c = omega (arith, small (goal.at.overflow_add-at c).Start)
-
-pub slice_bounds-leaf_state-end-2 : goal.slice_bounds-leaf_state-end-2
-slice_bounds-leaf_state-end-2 c = omega (arith, c.opened_states, c.requires.is_leaf, c.requires.states-are)
 
 pub leaf_state-requires : goal.leaf_state-requires
 leaf_state-requires c = record { number = small (goal.at.leaf_state-requires c).Start; room = length-lent (32 * c.args.leaf) 32 _ (omega (arith, c.opened_states, c.requires.is_leaf, c.requires.states-are)) }

@@ -1,16 +1,8 @@
 -- For leaf n−1 nothing is left to write; for any other aux fills the rest.
 use Rattle.std.proofs.Common.{sym, ◌∙◌}
 use Rattle.layout.specs.Layout.{is_last}
-use Rattle.messages.proofs.Laws.Opening.{aux-none, aux-fits, aux-put}
+use Rattle.messages.proofs.Laws.Opening.{aux-put}
 use Rattle.messages.proofs.opening.put_aux.Goals as goal
-
-pub returns-then-is_last : goal.returns-then-is_last
-returns-then-is_last c = let a = c.args in
-    aux-none (is_last a.p a.leaf) a.at a.aux.now a.out.now c.requires.1 (sym c.is_last.ensures ∙ c.if-is_last.true)
-
-pub put_at-requires : goal.put_at-requires
-put_at-requires c = let a = c.args in
-    aux-fits (is_last a.p a.leaf) a.at a.aux.now a.out.now c.requires.1 (sym c.is_last.ensures ∙ c.if-is_last.false)
 
 pub returns : goal.returns
 returns c = let a = c.args in

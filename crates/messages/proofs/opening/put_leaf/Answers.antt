@@ -1,10 +1,10 @@
 -- The commitment takes the first 32 bytes, α and β what is behind them.
-use Rattle.std.proofs.Common.{[], ap, ap₂, arith, length, length-drop, length-take, sym, ◌++◌, ◌∙◌, ◌≤◌}
+use Rattle.std.proofs.Common.{ap, ap₂, arith, length, sym, ◌++◌, ◌∙◌, ◌≤◌}
 use Rattle.lists.specs.Part.Laws.{tail-part}
 use Rattle.points.specs.Written.{front_length}
 use Rattle.values.specs.Leaf.{leaf_values}
 use Rattle.messages.specs.Opening.{leaf_bytes}
-use Rattle.messages.proofs.Laws.Opening.{left-first, two_made}
+use Rattle.messages.proofs.Laws.Opening.{two_made}
 use Rattle.messages.proofs.opening.put_leaf.Goals as goal
 use Rattle.messages.proofs.opening.put_leaf.Goals.{Start}
 
@@ -24,20 +24,6 @@ slice_bounds-put_leaf_commitment-end-3 c = front_length 32 c.args.out.now (fits 
 
 pub put_leaf_commitment-requires : goal.put_leaf_commitment-requires
 put_leaf_commitment-requires c = (c.requires.0.within, c.requires.0.number, sym (front_length 32 c.args.out.now (fits (goal.at.put_leaf_commitment-requires c).Start)))
-
-pub announce_leaf-requires : goal.announce_leaf-requires
-announce_leaf-requires c = let h = c.requires.0 in
-    let left = left-first 32 c.args.out.now c.put_leaf_commitment.new.out [] (fits (goal.at.announce_leaf-requires c).Start)
-    c.put_leaf_commitment.auto.out in (
-      record {
-        within = h.within;
-        sized-s = simp (length-take, length-drop) (omega (arith, h.own_is));
-        sized-message2 = h.message2-is;
-        sized-matrix = h.matrix-is;
-        sized-out = simp (length-take, length-drop) (omega (arith, left, c.requires.1));
-      },
-      c.field_tables-tables.ensures,
-    )
 
 pub returns : goal.returns
 unfolding leaf_bytes

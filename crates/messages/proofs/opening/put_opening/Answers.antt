@@ -1,7 +1,6 @@
 -- Behind the siblings comes what the leaf gives, and aux behind that.
 -- the code's lengths: siblings, and what the leaf gives behind them
 use Rattle.std.proofs.Common.{List, [], ap, ap₂, arith, cond, length, sym, take, ℕ, ◌++◌, ◌+◌, ◌∙◌, ◌≤◌}
-use Rattle.lists.specs.Part.Laws.{length-lent}
 use Rattle.layout.specs.Layout.{is_last, aux_length}
 use Rattle.layout.specs.Layout.Bounds.{levels-most}
 use Rattle.messages.specs.Opening.{opening_of}
@@ -19,13 +18,6 @@ overflow_add-e-2 c = omega (arith, c.values_length.ensures, c.siblings_length-a.
 
 pub slice_bounds-put_leaf-end : goal.slice_bounds-put_leaf-end
 slice_bounds-put_leaf-end c = fits (goal.at.slice_bounds-put_leaf-end c).After-values_length
-
-pub put_leaf-requires : goal.put_leaf-requires
-put_leaf-requires c = (
-  c.requires.of,
-  length-lent c.siblings_length-a.result (32 + c.values_length.result) c.args.out.now (fits (goal.at.put_leaf-requires c).After-values_length)
-      ∙ ap (◌+◌ 32) c.values_length.ensures,
-)
 
 pub put_aux-requires : goal.put_aux-requires
 put_aux-requires c = let p = c.args.p in let tail : ℕ = cond (is_last p c.args.leaf) 0 (aux_length p) in (

@@ -7,7 +7,7 @@ use Rattle.layout.specs.Layout.{leaves}
 use Rattle.layout.specs.Layout.Bounds.{share-fits}
 use Rattle.parties.specs.Totals.{hides-none}
 use Rattle.messages.specs.Auxiliary.{aux_for}
-use Rattle.messages.proofs.Laws.Fronts.{x_fits, x-length, x-light, front-zeroed, Front, front-back}
+use Rattle.messages.proofs.Laws.Fronts.{x-length, x-light, front-zeroed, Front, front-back}
 use Rattle.messages.specs.Own.{sum_of}
 use Rattle.messages.proofs.Laws.Own.{aux-made}
 use Rattle.messages.specs.Run.{run_in, root-length}
@@ -43,9 +43,6 @@ share_sum-requires c = record {
   room = sym (front_length _ _ (fits (goal.at.share_sum-requires c).After-work_length-all)) ∙ c.share_length-size.ensures;
 }
 
-pub slice_bounds-aux-end : goal.slice_bounds-aux-end
-slice_bounds-aux-end c = front_length _ _ (x_fits _ _ _ _ c.requires.0)
-
 pub slice_bounds-aux-end-2 : goal.slice_bounds-aux-end-2
 slice_bounds-aux-end-2 c = (back (goal.at.slice_bounds-aux-end-2 c).After-share_sum).there
 
@@ -60,9 +57,6 @@ aux-requires c = let h = c.requires.0 in record {
   sized-drawn = sym (back (goal.at.aux-requires c).After-share_sum).lent ∙ c.share_length-size.ensures;
   sized-out = c.requires.2;
 }
-
-pub zero_front-requires : goal.zero_front-requires
-zero_front-requires c = omega (arith, (back (goal.at.zero_front-requires c).After-share_sum).rest, c.work_length-all.ensures, c.requires.0.work-fits)
 
 pub returns : goal.returns
 returns c = let a = c.args in let h = c.requires.0 in

@@ -1,7 +1,6 @@
 -- The seeds are made in the second half of `states`, and from them all states.
 use Rattle.std.proofs.Common.{List, ap, ap₂, arith, drop, length, length-drop, length-take, length-take-le, rules, take, ℕ, ◌*◌, ◌-◌, ◌^◌, ◌∙◌, ◌≡◌}
 use Rattle.lists.specs.Part.Laws.{tail-part}
-use Rattle.points.specs.Written.{front_length}
 use Rattle.shake256.specs.Fips.{SHAKE256}
 use Rattle.layout.specs.Layout.{leaves}
 use Rattle.layout.specs.Layout.Bounds.{levels-most, leaves-most}
@@ -11,9 +10,6 @@ use Rattle.leaves.specs.States.{states_of}
 use Rattle.leaves.specs.States.Seeds.{half_back}
 use Rattle.messages.specs.Own.{own_states}
 use Rattle.messages.proofs.own_leaves.own_states.Goals as goal
-
-pub slice_bounds-leaf_seeds-end-2 : goal.slice_bounds-leaf_seeds-end-2
-slice_bounds-leaf_seeds-end-2 c = front_length 16 c.args.run.now c.requires.run_fits
 
 pub leaf_seeds-requires : goal.leaf_seeds-requires
 leaf_seeds-requires c = let n : 2 ^ c.levels-d.result ≡ leaves c.args.p = ap (◌^◌ 2) c.levels-d.ensures in

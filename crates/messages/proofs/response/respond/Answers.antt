@@ -27,12 +27,6 @@ back c =
     let few : c.rows_length-size.result ≤ most_rows = omega (arith, c.rows_length-size.ensures, rows-most c.args.p c.requires.0.within) in
     front-back _ _ _ c.axis_rows.auto.rows (few)
 
-pub slice_bounds-hidden_values-end : goal.slice_bounds-hidden_values-end
-slice_bounds-hidden_values-end c = short (goal.at.slice_bounds-hidden_values-end c).After-rows_length-size
-
-pub slice_bounds-axis_rows-end : goal.slice_bounds-axis_rows-end
-slice_bounds-axis_rows-end c = front_length _ _ (short (goal.at.slice_bounds-axis_rows-end c).After-rows_length-size)
-
 pub slice_bounds-rows-end : goal.slice_bounds-rows-end
 slice_bounds-rows-end c = few (goal.at.slice_bounds-rows-end c).After-rows_length-size
 

@@ -9,7 +9,7 @@ unfolding drawn_length
 returns-then-is_last c = let p = c.args.p in c.at_x.ensures
     ∙ sym (ap (λ (t : Bool). cond t (at_x p) (share_length p)) (sym c.is_last.ensures ∙ c.if-is_last.true))
 
-pub returns : goal.returns
+pub returns-else-is_last : goal.returns-else-is_last
 unfolding drawn_length
-returns c = let p = c.args.p in c.share_length.ensures
+returns-else-is_last c = let p = c.args.p in c.share_length.ensures
     ∙ sym (ap (λ (t : Bool). cond t (at_x p) (share_length p)) (sym c.is_last.ensures ∙ c.if-is_last.false))

@@ -5,4 +5,4 @@ use Rattle.points.proofs.encoding.point_at.Goals as goal
 
 pub returns : goal.returns
 returns c =
-    let s = c.args in bytes_read s.s.now s.at (λ j. omega (arith, c.shared_slice_known-4-1.given j))
+    let a = c.args in bytes_read a.s.now a.at (λ j. omega (arith, c.type_inv.s j))

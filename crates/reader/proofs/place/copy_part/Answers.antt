@@ -11,7 +11,7 @@ returns c =
     let args = c.args in
     let m = args.message.now in
     let out = args.out.now in
-    let e = ap (λ (n : ℕ). args.at + n) c.lesser.ensures in (
-      behind-lesser m args.at out (args.at + c.lesser.result) e,
-      c.put_at.ensures ∙ ap (put_at out 0) (part-lesser m args.at (length out) (args.at + c.lesser.result) e),
+    let e = ap (λ (n : ℕ). args.at + n) c.min.ensures in (
+      behind-lesser m args.at out (args.at + c.min.result) e,
+      c.put_at.ensures ∙ ap (put_at out 0) (part-lesser m args.at (length out) (args.at + c.min.result) e),
     )

@@ -1,5 +1,4 @@
-use Rattle.std.proofs.Common.{List, add-one, ap, ap₂, arith, length, mul_assoc, one-mul, pow_pos, refl, sym, ℕ, ◌*◌, ◌+◌, ◌^◌, ◌∙◌, ◌≡◌, ◌≤◌}
-use native.Mathlib.Nat.{pow-succ'}
+use Rattle.std.proofs.Common.{List, ap, arith, length, one-mul, pow_pos, refl, shl_exact, subst, sym, ℕ, ◌*◌, ◌%◌, ◌^◌, ◌∙◌, ◌≡◌, ◌≤◌}
 use Rattle.shake256.specs.Fips.{SHAKE256}
 use Rattle.shake256.proofs.Laws.{length-SHAKE256}
 use Rattle.lists.specs.Part.{put_at}
@@ -10,57 +9,37 @@ use Rattle.seedtree.proofs.levels.descend.Goals as goal
 use Rattle.seedtree.proofs.levels.descend.Goals.{In-loop-i, Start}
 
 one-seed : (c : Start) → 16 ≤ length c.args.seeds.now
-one-seed c =
-    omega (arith, c.requires.size, pow_pos c.args.l)
+one-seed c = omega (arith, c.requires.size, pow_pos c.args.l)
 
-room : (c : In-loop-i) → Grow c.loop-i.count c.loop-i.first c.loop-i.seeds
-room c =
-    let room : Grow c.loop-i.count c.loop-i.first c.loop-i.seeds = let head = c.loop-i in let inv = head.invariant.0 in let shape = c.requires in
-    record {
-      nodes = omega (arith, node-room head.i c.args.v (omega arith) shape.node);
-      room = omega (arith, level-room head.i c.args.l (omega arith), shape.size);
-    } in
-    let head = c.loop-i in let inv = head.invariant.0 in let shape = c.requires in
-    record {
-      nodes = omega (arith, node-room head.i c.args.v (omega arith) shape.node);
-      room = omega (arith, level-room head.i c.args.l (omega arith), shape.size);
-    }
+-- how many seeds there are
+counted : (c : In-loop-i) → 1 * 2 ^ c.loop-i.i % 18446744073709551616 ≡ 2 ^ c.loop-i.i
+counted c = shl_exact 1 c.loop-i.i 64 (omega arith) (omega arith) ∙ one-mul (2 ^ c.loop-i.i)
+
+room : (c : In-loop-i) → Grow (2 ^ c.loop-i.i) (2 ^ c.loop-i.i * c.args.v) c.loop-i.seeds
+room c = let i = c.loop-i.i in record {
+  nodes = omega (arith, node-room i c.args.v (omega arith) c.requires.node);
+  room = omega (arith, level-room i c.args.l (omega arith), c.requires.size, c.loop-i.invariant.0);
+}
 
 pub loop-i-init : goal.loop-i-init
-loop-i-init c = let args = c.args in (
-  record { within = omega arith; counted = refl; numbered = sym (one-mul args.v); long = refl },
-  λ prefix b. reached-none SHAKE256 prefix args.v args.seeds.now (one-seed (goal.at.loop-i-init c).Start),
-)
+loop-i-init c = (refl, λ prefix b. reached-none SHAKE256 prefix c.args.v c.args.seeds.now (one-seed (goal.at.loop-i-init c).Start))
 
 pub grow-requires : goal.grow-requires
-grow-requires c = room (goal.at.grow-requires c).In-loop-i
-
-pub overflow_mul-count : goal.overflow_mul-count
-overflow_mul-count c = omega (arith, room (goal.at.overflow_mul-count c).In-loop-i)
-
-pub overflow_mul-first : goal.overflow_mul-first
-overflow_mul-first c = omega (arith, room (goal.at.overflow_mul-first c).In-loop-i)
+grow-requires c =
+    let here = (goal.at.grow-requires c).In-loop-i in
+    subst (λ (n : ℕ). Grow n (n * c.args.v) c.loop-i.seeds) (sym (counted here)) (room here)
 
 pub loop-i-preserved : goal.loop-i-preserved
-loop-i-preserved c = let made = c.grow in let args = c.args in let i = c.loop-i.i in let inv = c.loop-i.invariant in
-    let double : 2 ^ (i + 1) ≡ 2 * 2 ^ i = ap (◌^◌ 2) (add-one i) ∙ pow-succ' 2 i in let count-is : c.loop-i.count ≡ 2 ^ i = inv.0.counted in
-    let first-is : c.loop-i.first ≡ 2 ^ i * args.v = inv.0.numbered in (
-      record {
-        within = omega arith;
-        counted = ap (◌*◌ 2) count-is ∙ sym double;
-        numbered = ap (◌*◌ 2) first-is ∙ sym (mul_assoc 2 (2 ^ i) args.v) ∙ ap (λ (n : ℕ). n * args.v) (sym double);
-        long = made.auto.seeds ∙ inv.0.long;
-      },
-      λ prefix b. made.ensures prefix b
-          ∙ ap₂ (λ (s : List ℕ) (n : ℕ). put_at s 0 (grown SHAKE256 prefix n c.loop-i.first s)) (inv.1 prefix b) count-is
-          ∙ ap (λ (n : ℕ). put_at (reached SHAKE256 prefix args.v args.seeds.now i) 0
-          (grown SHAKE256 prefix (2 ^ i) n (reached SHAKE256 prefix args.v args.seeds.now i))) first-is
-          ∙ reached-more SHAKE256 prefix length-SHAKE256 i args.v args.seeds.now (one-seed (goal.at.loop-i-preserved c).Start),
-    )
+loop-i-preserved c = let made = c.grow in let v = c.args.v in let i = c.loop-i.i in (
+  made.auto.seeds ∙ c.loop-i.invariant.0,
+  λ prefix b. made.ensures prefix b
+      ∙ ap (λ (n : ℕ). put_at c.loop-i.seeds 0 (grown SHAKE256 prefix n (n * v) c.loop-i.seeds)) (counted (goal.at.loop-i-preserved c).In-loop-i)
+      ∙ ap (λ (s : List ℕ). put_at s 0 (grown SHAKE256 prefix (2 ^ i) (2 ^ i * v) s)) (c.loop-i.invariant.1 prefix b)
+      ∙ reached-more SHAKE256 prefix length-SHAKE256 i v c.args.seeds.now (one-seed (goal.at.loop-i-preserved c).Start),
+)
 
 pub returns : goal.returns
 returns c =
-    λ prefix b. let head = c.loop-i in let d = c.args.seeds.now in
-    let last : head.i ≡ c.args.l = omega (arith, head.invariant.0.within) in
-    head.invariant.1 prefix b ∙ ap (reached SHAKE256 prefix c.args.v d) last ∙ reached-all SHAKE256 prefix c.args.l c.args.v d
+    λ prefix b. let d = c.args.seeds.now in let last : c.loop-i.i ≡ c.args.l = omega arith in
+    c.loop-i.invariant.1 prefix b ∙ ap (reached SHAKE256 prefix c.args.v d) last ∙ reached-all SHAKE256 prefix c.args.l c.args.v d
     c.requires.size

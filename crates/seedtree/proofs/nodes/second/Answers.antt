@@ -7,6 +7,6 @@ pub returns-then-leaf-half : goal.returns-then-leaf-half
 unfolding second
 returns-then-leaf-half c = rw (lt-ltb _ _ c.if-leaf-half.true)
 
-pub returns : goal.returns
+pub returns-else-leaf-half : goal.returns-else-leaf-half
 unfolding second
-returns c = rw (le-ltb _ _ c.if-leaf-half.false)
+returns-else-leaf-half c = rw (le-ltb _ _ c.if-leaf-half.false)

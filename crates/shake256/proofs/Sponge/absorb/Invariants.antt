@@ -1,10 +1,10 @@
--- The loop's invariant: the sponge has absorbed the first i bytes. A turn makes it ready and takes some more (`absorbed-more`).
-use Rattle.std.proofs.Common.{length, take, ◌-◌, ◌≡◌, ◌≤◌}
+-- The loop's invariant: the rest absorbed, too, gives the whole absorbed.
+use Rattle.std.proofs.Common.{length, ◌≡◌}
 use Rattle.shake256.specs.Stream.{absorbed}
 use Rattle.shake256.proofs.Sponge.absorb.Given as goal
 
-abbrev pub invariant-loop-i : goal.invariant-loop-i
-invariant-loop-i l = (l.i ≤ length l.s) × (l.t ≡ absorbed l.initial.t (take l.i l.s))
+abbrev pub invariant-loop-rest : goal.invariant-loop-rest
+invariant-loop-rest l = absorbed l.t l.rest ≡ absorbed l.initial.t l.initial.rest
 
-abbrev pub decreases-loop-i : goal.decreases-loop-i
-decreases-loop-i l = length l.s - l.i
+abbrev pub decreases-loop-rest : goal.decreases-loop-rest
+decreases-loop-rest l = length l.rest

@@ -1,21 +1,25 @@
--- Each return follows from the tests that led to it.
-use Rattle.std.proofs.Common.{arith, le-leb}
-use borrow.Author.Tests.{lt-leb}
+-- Each arm follows from the bounds that led to it.
+use Rattle.std.proofs.Common.{arith}
+use Rattle.std.proofs.lemmas.Bool.Decides.{nat_tests}
 use Rattle.text.specs.Hex.{is_hex_digit}
 use Rattle.text.proofs.hex.is_hex_digit.Goals as goal
 
-pub returns-then-b-lt48 : goal.returns-then-b-lt48
+pub returns-in-48-to-57 : goal.returns-in-48-to-57
 unfolding is_hex_digit
-returns-then-b-lt48 c = rw (lt-leb 48 _ c.if-b-lt48.true, lt-leb 97 c.args.b (omega arith))
+returns-in-48-to-57 c = grind (arith, nat_tests)
 
-pub returns-then-b-le57 : goal.returns-then-b-le57
+pub returns-in-48-to-57-2 : goal.returns-in-48-to-57-2
 unfolding is_hex_digit
-returns-then-b-le57 c = rw (le-leb 48 _ c.if-b-lt48.false, le-leb _ 57 c.if-b-le57.true)
+returns-in-48-to-57-2 c = grind (arith, nat_tests)
 
-pub returns-then-b-lt97 : goal.returns-then-b-lt97
+pub returns-in_default : goal.returns-in_default
 unfolding is_hex_digit
-returns-then-b-lt97 c = rw (le-leb 48 _ c.if-b-lt48.false, lt-leb _ 57 c.if-b-le57.false, lt-leb 97 _ c.if-b-lt97.true)
+returns-in_default c = grind (arith, nat_tests)
 
-pub returns : goal.returns
+pub returns-in_default-2 : goal.returns-in_default-2
 unfolding is_hex_digit
-returns c = rw (le-leb 48 _ c.if-b-lt48.false, lt-leb _ 57 c.if-b-le57.false, le-leb 97 _ c.if-b-lt97.false)
+returns-in_default-2 c = grind (arith, nat_tests)
+
+pub returns-in_default-3 : goal.returns-in_default-3
+unfolding is_hex_digit
+returns-in_default-3 c = grind (arith, nat_tests)

@@ -5,8 +5,8 @@
 -- hex-scan         the scanner's state after a hex field: its bytes counted up to one more than the slice holds
 -- hex-stored       its bytes stand in the slice where they all have room
 -- length-hex_out    the slice keeps its length
--- hex_step-first, hex_step-second    a step from its parts: the byte's value v, whether it is a digit (t), the count and the slice after it
-use Rattle.std.specs.Prelude.{◌≡◌, refl, ℕ, suc, ◌+◌, ◌-◌, ◌*◌, ◌%◌, ◌≤◌, ◌<◌, min, Bool, true, false, cond, ◌&&◌, List, [], ◌∷◌, leb, length, set}
+-- hex_step-first, hex_step-second    a step from its parts: the byte's value v, whether the field is still sound (u), the count and the slice after it
+use Rattle.std.specs.Prelude.{◌≡◌, refl, ℕ, suc, ◌+◌, ◌-◌, ◌*◌, ◌%◌, ◌≤◌, ◌<◌, min, Bool, true, false, cond, ◌&&◌, List, [], ◌∷◌, Option, None, Some, leb, length, set}
 use Rattle.std.proofs.Common.{sym, ap, ap₂, ◌∙◌, add-one, arith, length-set, le-leb, leb-true}
 use Rattle.std.proofs.Math.Decide.{dec_le}
 use Rattle.std.proofs.Math.Bool.{and-false, and-true, and_assoc}
@@ -16,11 +16,11 @@ use Rattle.lists.specs.Checks.Laws.{and_left, and_right}
 use Rattle.text.specs.Fold.{fold}
 use Rattle.text.specs.Hex.{is_hex_digit, hex_value, is_hex, bytes_of}
 use Rattle.text.specs.declared.hex.HexScan.{HexScan}
-use Rattle.text.specs.Scanner.Hex.{hex_start, HexHeld, hex_held, counted, hex_step, hex_accepts}
+use Rattle.text.specs.Scanner.Hex.{hex_start, HexHeld, hex_held, counted, hex_step_after, hex_step, hex_accepts}
 
 -- between two bytes: n of them counted
 abbrev state : ℕ → Bool → HexScan
-state n b = record { count = n; high = 0; half = false; sound = b }
+state n b = record { count = n; half = None; sound = b }
 
 pub hex_value-small : (b : ℕ) → hex_value b < 16
 unfolding hex_value
@@ -113,13 +113,9 @@ length-step : (h : HexHeld) (b : ℕ) → length (hex_step h b).out ≡ length h
 unfolding hex_step
 length-step h b = go h.scan.half
   where
-    go : (t : Bool)
-        → length (cond t (hex_held (record { count = counted (length h.out) h.scan.count; high = 0; half = false; sound = h.scan.sound && is_hex_digit b })
-        (set h.out h.scan.count (h.scan.high % 16 * 16 + hex_value b)))
-        (hex_held (record { count = h.scan.count; high = hex_value b; half = true; sound = h.scan.sound && is_hex_digit b }) h.out)).out
-        ≡ length h.out
-    go true = length-set h.out h.scan.count (h.scan.high % 16 * 16 + hex_value b)
-    go false = refl
+    go : (p : Option ℕ) → length (hex_step_after p h b).out ≡ length h.out
+    go None = refl
+    go (Some high) = length-set h.out h.scan.count (high % 16 * 16 + hex_value b)
 
 pub length-hex_out : (f : List ℕ) (h : HexHeld) → length (fold hex_step h f).out ≡ length h.out
 length-hex_out [] h = refl
@@ -127,12 +123,12 @@ length-hex_out (b ∷ f) h = length-hex_out f (hex_step h b) ∙ length-step h b
 
 -- ---- a step from its parts
 
-module _ (s : HexScan) (d : List ℕ) (b : ℕ) {v : ℕ} {t u : Bool} (ev : v ≡ hex_value b) (et : t ≡ is_hex_digit b) (eu : u ≡ (s.sound && t)) where
-  pub hex_step-first : s.half ≡ false → hex_held (record { count = s.count; high = v; half = true; sound = u }) d ≡ hex_step (hex_held s d) b
+module _ (s : HexScan) (d : List ℕ) (b : ℕ) {v : ℕ} {u : Bool} (ev : v ≡ hex_value b) (eu : u ≡ (s.sound && is_hex_digit b)) where
+  pub hex_step-first : s.half ≡ None → hex_held (record { count = s.count; half = Some v; sound = u }) d ≡ hex_step (hex_held s d) b
   unfolding hex_step
-  hex_step-first h = rw (h, ev, eu, et)
+  hex_step-first h = rw (h, ev, eu)
 
-  pub hex_step-second : {n : ℕ} {d' : List ℕ} → n ≡ counted (length d) s.count → d' ≡ set d s.count (s.high % 16 * 16 + v) → s.half ≡ true
-      → hex_held (record { count = n; high = 0; half = false; sound = u }) d' ≡ hex_step (hex_held s d) b
+  pub hex_step-second : {high n : ℕ} {d' : List ℕ} → n ≡ counted (length d) s.count → d' ≡ set d s.count (high % 16 * 16 + v) → s.half ≡ Some high
+      → hex_held (record { count = n; half = None; sound = u }) d' ≡ hex_step (hex_held s d) b
   unfolding hex_step
-  hex_step-second en ed h = rw (h, en, ed, ev, eu, et)
+  hex_step-second en ed h = rw (h, en, ed, ev, eu)

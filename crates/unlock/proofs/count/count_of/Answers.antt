@@ -3,14 +3,14 @@ use Rattle.std.proofs.Common.{arith, eq-eqb, le-ltb, lt-ltb, ne_eqb, ◌∙◌}
 use Rattle.unlock.specs.Count.{count_of}
 use Rattle.unlock.proofs.count.count_of.Goals as goal
 
-pub returns-then-arguments-lt2 : goal.returns-then-arguments-lt2
+pub returns-in-0-to-1 : goal.returns-in-0-to-1
 unfolding count_of
-returns-then-arguments-lt2 c = rw (lt-ltb _ _ c.if-arguments-lt2.true)
+returns-in-0-to-1 c = rw (lt-ltb c.args.arguments 2 (omega arith))
 
-pub returns-then-arguments-gt2 : goal.returns-then-arguments-gt2
+pub returns-in-2 : goal.returns-in-2
 unfolding count_of
-returns-then-arguments-gt2 c = rw (le-ltb c.args.arguments 2 (omega arith), ne_eqb c.args.arguments 2 (λ q. omega arith))
+returns-in-2 c = c.named.ensures ∙ rw (le-ltb c.args.arguments 2 (omega arith), eq-eqb c.args.arguments 2 (omega arith))
 
-pub returns : goal.returns
+pub returns-in_default : goal.returns-in_default
 unfolding count_of
-returns c = c.named.ensures ∙ rw (le-ltb c.args.arguments 2 (omega arith), eq-eqb c.args.arguments 2 (omega arith))
+returns-in_default c = rw (le-ltb c.args.arguments 2 (omega arith), ne_eqb c.args.arguments 2 (omega arith))

@@ -4,20 +4,19 @@ use Rattle.unlock.specs.Expanded.{leaf_label}
 use Rattle.unlock.specs.Expanded.Laws.{rests-none, rests-more, rests-all, leaves-are}
 use Rattle.unlock.proofs.default_key.leaves.Goals as goal
 
-pub loop-i-init : goal.loop-i-init
-loop-i-init c = (omega arith, rests-none _ _, refl)
+pub loop-b-init : goal.loop-b-init
+loop-b-init c = (rests-none _ _, refl)
 
 pub remainder-requires : goal.remainder-requires
 remainder-requires c = omega (arith, c.leaf_count-n.ensures, leaves-pos c.args.p)
 
-pub loop-i-preserved : goal.loop-i-preserved
-loop-i-preserved c = let l = c.loop-i in (
-  omega (arith, c),
-  rests-more c.leaf_count-n.result c.expand.new.out l.out l.i c.remainder.result (omega (arith, c)) l.invariant.1 c.remainder.ensures,
-  simp length-set l.invariant.2,
+pub loop-b-preserved : goal.loop-b-preserved
+loop-b-preserved c = let l = c.loop-b in (
+  rests-more c.leaf_count-n.result c.expand.new.out l.out l.b-index c.remainder.result (omega (arith, c)) l.invariant.0 c.remainder.ensures,
+  simp length-set l.invariant.1,
 )
 
 pub returns : goal.returns
 unfolding leaf_label
-returns c = let l = c.loop-i in rests-all c.leaf_count-n.result c.expand.new.out l.i (omega arith) l.invariant.1
+returns c = let l = c.loop-b in rests-all c.leaf_count-n.result c.expand.new.out l.b-index (omega arith) l.invariant.0
     ∙ leaves-are c.args.p (length c.args.out.now) (c.leaf_count-n.ensures ∙ leaves-is c.args.p) c.expand.ensures

@@ -4,4 +4,4 @@ use Rattle.unlock.proofs.default_key.salt.Goals as goal
 
 pub returns : goal.returns
 unfolding salt_label
-returns c = c.expand.ensures
+returns c = c.expanded.ensures

@@ -1,4 +1,4 @@
-use Rattle.std.proofs.Common.{ap, arith, inl, inr, length, length-set, refl, rules, ◌*◌, ◌∙◌, ◌≡◌, ◌≤◌}
+use Rattle.std.proofs.Common.{ap, arith, inl, inr, length, refl, ◌*◌, ◌∙◌, ◌≡◌, ◌≤◌}
 use Rattle.lists.specs.Xor.{◌⊕◌}
 use Rattle.lists.specs.Blend.Laws.{blend-none}
 use Rattle.tower.specs.Field.{point}
@@ -13,7 +13,7 @@ small c =
     place-small c.loop-i.i c.args.n c.args.stride (omega arith) c.requires.0.few c.requires.0.near
 
 pub loop-i-init : goal.loop-i-init
-loop-i-init c = (search rules, λ x e. blend-none _ _, refl, omega arith)
+loop-i-init c = (λ x e. blend-none _ _, omega arith)
 
 pub overflow_mul-c : goal.overflow_mul-c
 overflow_mul-c c = omega (arith, small (goal.at.overflow_mul-c c).In-loop-i)
@@ -30,15 +30,13 @@ counted_product-term-requires c = (c.requires.1, inr (refl, refl, refl), omega a
 pub loop-i-preserved : goal.loop-i-preserved
 unfolding ◌⊕◌
 loop-i-preserved c = (
-  omega arith,
   λ x e. terms-turn c.args.s.now _ c.args.stride c.args.at x c.args.values.now c.requires.0.sized _ c.loop-i.i _ (omega arith)
-      (c.loop-i.invariant.1 x e)
+      (c.loop-i.invariant.0 x e)
       (c.word_of.ensures ∙ ap word_of (ap point (c.counted_product-term.ensures.0 x (inl ((refl, refl, refl), e))) ∙ point-bytes_of _)),
-  simp length-set c.loop-i.invariant.2,
   omega (arith, c.counted_product-term.ensures.1),
 )
 
 pub returns : goal.returns
 returns c =
     let n : c.loop-i.i ≡ c.args.n = omega arith in
-    (λ x e. terms-end c.args.s.now _ c.args.stride c.args.at x c.args.values.now c.requires.0.sized _ _ n (c.loop-i.invariant.1 x e), omega arith)
+    (λ x e. terms-end c.args.s.now _ c.args.stride c.args.at x c.args.values.now c.requires.0.sized _ _ n (c.loop-i.invariant.0 x e), omega arith)

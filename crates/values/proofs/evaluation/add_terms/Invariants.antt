@@ -1,5 +1,5 @@
 -- The loop's invariant: the first i terms are added (`blend`), and i products were made; a turn adds the product of coefficient i.
-use Rattle.std.proofs.Common.{length, take, ◌+◌, ◌-◌, ◌≡◌, ◌≤◌}
+use Rattle.std.proofs.Common.{take, ◌+◌, ◌≡◌}
 use Rattle.lists.specs.Blend.{blend}
 use Rattle.tower.specs.Field.{Point}
 use Rattle.packed.specs.Table.{multiples}
@@ -9,8 +9,5 @@ use Rattle.values.proofs.evaluation.add_terms.Given as goal
 
 abbrev pub invariant-loop-i : goal.invariant-loop-i
 invariant-loop-i l =
-    (l.i ≤ l.n) × ((x : Point) → take 32 l.own ≡ multiples (word_of x) → l.values ≡ blend l.i (terms_of l.s l.n l.stride l.at x l.initial.values) l.initial.values)
-    × (length l.values ≡ length l.initial.values) × (l.count ≡ l.made + l.i)
-
-abbrev pub decreases-loop-i : goal.decreases-loop-i
-decreases-loop-i l = l.n - l.i
+    ((x : Point) → take 32 l.own ≡ multiples (word_of x) → l.values ≡ blend l.i (terms_of l.s l.n l.stride l.at x l.initial.values) l.initial.values)
+    × (l.count ≡ l.made + l.i)

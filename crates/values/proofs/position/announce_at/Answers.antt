@@ -41,7 +41,7 @@ slice_bounds-evaluate-end-2 c = lent c.args.group.n c.requires.0.few
 
 pub evaluate-values-requires : goal.evaluate-values-requires
 evaluate-values-requires c =
-    let (f, position, et) = c.requires in let sized-words = sym (lent c.args.group.n c.requires.0.few) in search rules
+    let (f, position) = c.requires in let sized-words = sym (lent c.args.group.n c.requires.0.few) in search rules
 
 pub slice_bounds-words-end-2 : goal.slice_bounds-words-end-2
 slice_bounds-words-end-2 c = room (goal.at.slice_bounds-words-end-2 c).After-evaluate-values
@@ -51,8 +51,8 @@ slice_bounds-announce_valued-end c = again (goal.at.slice_bounds-announce_valued
 
 pub announce_valued-requires : goal.announce_valued-requires
 announce_valued-requires c =
-    let (f, position, et) = c.requires in let sized-words = sym (again (goal.at.announce_valued-requires c).After-evaluate-values) in
-    (search, omega (arith, c.evaluate-values.ensures.1, evaluations-few c.args.p c.args.group.n f.within f.few), c.multiples_of.auto.out, et)
+    let (f, position) = c.requires in let sized-words = sym (again (goal.at.announce_valued-requires c).After-evaluate-values) in
+    (search, omega (arith, c.evaluate-values.ensures.1, evaluations-few c.args.p c.args.group.n f.within f.few), c.multiples_of.auto.out)
 
 pub returns : goal.returns
 unfolding point_of multiplier_of

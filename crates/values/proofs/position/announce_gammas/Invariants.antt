@@ -1,7 +1,6 @@
--- The loop's invariant: γ of the first i shares is written, the parts of the others are as they were, share and part i start at a and b, and one
--- product was made for each share (`gamma-made`, `each_turn`, `left-turn`).
-use Rattle.std.proofs.Common.{Bool, List, length, ℕ, ◌*◌, ◌-◌, ◌≡◌, ◌≤◌}
-use Rattle.layout.specs.Layout.{share_length, row_length}
+-- The loop's invariant: γ of the first i shares is written, the parts of the others are as they were and one product was made for each
+-- share (`gamma-made`, `each_turn`, `left-turn`).
+use Rattle.std.proofs.Common.{Bool, List, ℕ, ◌≡◌}
 use Rattle.exchange.specs.Reading.{value, ◌⊠◌}
 use Rattle.exchange.specs.Values.{Key, F, point_of, multiplier_of}
 use Rattle.points.specs.Multiples.{multiples_of}
@@ -11,10 +10,6 @@ use Rattle.values.proofs.position.announce_gammas.Given as goal
 
 abbrev pub invariant-loop-i : goal.invariant-loop-i
 invariant-loop-i l =
-    (l.i ≤ l.n) × (l.a ≡ l.i * share_length l.p) × (l.b ≡ l.i * row_length l.p)
-    × ((key : Key) (message2 : List ℕ) (first : Bool) (leading : ℕ) → Valued l.p key first l.shares l.n (point_of l.p message2 l.l) l.words leading
+    ((key : Key) (message2 : List ℕ) (first : Bool) (leading : ℕ) → Valued l.p key first l.shares l.n (point_of l.p message2 l.l) l.words leading
     → l.table ≡ multiples_of (multiplier_of l.p message2 l.l ⊠ value (F l.p) (point_of l.p message2 l.l))
-    → Each l.p (gamma_of l.p message2 l.shares l.l) l.initial.out l.out l.i) × Left l.p l.initial.out l.out l.i l.n × (length l.out ≡ length l.initial.out) × (l.made ≡ l.i)
-
-abbrev pub decreases-loop-i : goal.decreases-loop-i
-decreases-loop-i l = l.n - l.i
+    → Each l.p (gamma_of l.p message2 l.shares l.l) l.initial.out l.out l.i) × Left l.p l.initial.out l.out l.i l.n × (l.made ≡ l.i)

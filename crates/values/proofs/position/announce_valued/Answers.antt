@@ -8,12 +8,12 @@ use Rattle.values.specs.Position.Evaluated.{factor-made}
 use Rattle.values.proofs.position.announce_valued.Goals as goal
 
 pub announce_factors-factors-requires : goal.announce_factors-factors-requires
-announce_factors-factors-requires c = let (f, made, room, w) = c.requires in
+announce_factors-factors-requires c = let (f, made, room) = c.requires in
     (f, omega (arith, c.multiples_of, room))
 
 pub announce_gammas-gammas-requires : goal.announce_gammas-gammas-requires
 announce_gammas-gammas-requires c =
-    let (f, made, room, w) = c.requires in (
+    let (f, made, room) = c.requires in (
       record {
         within = f.within;
         few = f.few;
@@ -26,7 +26,7 @@ announce_gammas-gammas-requires c =
     )
 
 pub overflow_add-result : goal.overflow_add-result
-overflow_add-result c = let (f, made, room, w) = (c).requires in
+overflow_add-result c = let (f, made, room) = (c).requires in
     omega (arith, c.announce_gammas-gammas.ensures.1, c.announce_factors-factors.ensures.1, c.product_by-product.ensures.1, f.few)
 
 pub returns : goal.returns

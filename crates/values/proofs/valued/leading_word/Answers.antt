@@ -6,8 +6,5 @@ use Rattle.points.specs.Multiples.{word_of}
 use Rattle.values.specs.Evaluation.Laws.{word_of-zero}
 use Rattle.values.proofs.valued.leading_word.Goals as goal
 
-pub returns-then-first : goal.returns-then-first
-returns-then-first c = c.word_of.ensures ∙ ap (λ (b : Bool). word_of (cond b (point c.args.power) 𝟎)) (sym c.if-first.true)
-
-pub returns : goal.returns
-returns c = word_of-zero ∙ ap (λ (b : Bool). word_of (cond b (point c.args.power) 𝟎)) (sym c.if-first.false)
+pub returns-else-first : goal.returns-else-first
+returns-else-first c = word_of-zero ∙ ap (λ (b : Bool). word_of (cond b (point c.args.power) 𝟎)) (sym c.if-first.false)

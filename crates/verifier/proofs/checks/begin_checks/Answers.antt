@@ -1,23 +1,25 @@
--- Each return has the tests of 1 and 2.
-use Rattle.std.proofs.Common.{eq-eqb, ne_eqb, sym, ◌∙◌}
-use Rattle.lists.specs.Checks.Laws.{and_right}
+-- Each check has the value of its test, and those before it hold.
+use Rattle.std.proofs.Common.{sym, true, ◌∙◌, ◌≡◌, ◌&&◌}
+use Rattle.answers.specs.Checks.Laws.{require-passed, require-refused}
 use Rattle.parameters.specs.Limits.{within_limits}
 use Rattle.layout.specs.Runs.{runs_within}
 use Rattle.layout.specs.Runs.Laws.{runs-within}
+use Rattle.lists.specs.Checks.Laws.{and_right}
 use Rattle.calls.specs.Verifier.{begin_checks}
 use Rattle.verifier.proofs.checks.begin_checks.Goals as goal
+use Rattle.verifier.proofs.checks.begin_checks.Goals.{In_ok-require}
 
-pub returns-then-not-numbers_within : goal.returns-then-not-numbers_within
+limits : (c : In_ok-require) → (within_limits c.args.p && runs_within c.args.runs) ≡ true
+limits c = sym c.within.ensures ∙ require-passed c.within.result _ c.require.ensures c.in_ok-require.was
+
+pub returns-in_err-require : goal.returns-in_err-require
 unfolding begin_checks
-returns-then-not-numbers_within c = rw (sym c.numbers_within.ensures ∙ c.if-not-numbers_within.true)
+returns-in_err-require c = rw (← c.within.ensures) (require-refused _ _ _ c.require.ensures c.in_err-require.was c.from_residual.ensures.1)
 
 pub message1_length-requires : goal.message1_length-requires
-message1_length-requires c = (runs-within _ (and_right (within_limits c.args.p) (runs_within c.args.runs) (sym c.numbers_within.ensures ∙ c.if-not-numbers_within.false))).most
-
-pub returns-then-message1-message1_length : goal.returns-then-message1-message1_length
-unfolding begin_checks
-returns-then-message1-message1_length c = rw (sym c.numbers_within.ensures ∙ c.if-not-numbers_within.false, ← c.message1_length.ensures, ne_eqb _ _ c.if-message1-message1_length.true)
+message1_length-requires c =
+    (runs-within c.args.runs (and_right (within_limits c.args.p) _ (limits (goal.at.message1_length-requires c).In_ok-require))).most
 
 pub returns : goal.returns
 unfolding begin_checks
-returns c = rw (sym c.numbers_within.ensures ∙ c.if-not-numbers_within.false, ← c.message1_length.ensures, eq-eqb _ _ c.if-message1-message1_length.false)
+returns c = rw (limits (goal.at.returns c).In_ok-require, ← c.message1_length.ensures) c.require-2.ensures

@@ -4,8 +4,8 @@ use Rattle.layout.specs.Lent.{lent}
 use Rattle.verifier.proofs.checks.opening_lengths.Goals as goal
 
 pub returns-then-message5-messages5_length : goal.returns-then-message5-messages5_length
-returns-then-message5-messages5_length c = rw (← c.messages5_length.ensures, ne_eqb _ _ c.if-message5-messages5_length.true)
-
-pub returns : goal.returns
 unfolding lent
-returns c = rw (← c.messages5_length.ensures, eq-eqb _ _ c.if-message5-messages5_length.false) c.lent.ensures
+returns-then-message5-messages5_length c = rw (← c.messages5_length.ensures, eq-eqb _ _ c.if-message5-messages5_length.true) c.lent.ensures
+
+pub returns-else-message5-messages5_length : goal.returns-else-message5-messages5_length
+returns-else-message5-messages5_length c = rw (← c.messages5_length.ensures, ne_eqb _ _ c.if-message5-messages5_length.false)

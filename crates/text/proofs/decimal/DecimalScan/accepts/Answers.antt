@@ -1,12 +1,13 @@
 -- Each return follows from the test that led to it.
-use Rattle.std.proofs.Common.{eq-eqb, ne_eqb}
+use Rattle.std.proofs.Common.{arith}
+use Rattle.std.proofs.lemmas.Bool.Decides.{nat_tests}
 use Rattle.text.specs.Scanner.Decimal.{decimal_accepts}
 use Rattle.text.proofs.decimal.DecimalScan.accepts.Goals as goal
 
-pub returns-then-self-eq0 : goal.returns-then-self-eq0
+pub returns-then-self-ne0 : goal.returns-then-self-ne0
 unfolding decimal_accepts
-returns-then-self-eq0 c = rw (eq-eqb _ _ c.if-self-eq0.true)
+returns-then-self-ne0 c = grind (arith, nat_tests)
 
-pub returns : goal.returns
+pub returns-else-self-ne0 : goal.returns-else-self-ne0
 unfolding decimal_accepts
-returns c = rw (ne_eqb _ _ c.if-self-eq0.false)
+returns-else-self-ne0 c = grind (arith, nat_tests)
