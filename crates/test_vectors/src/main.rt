@@ -5,7 +5,6 @@
 ghost use Rattle.std.specs.Prelude.{◌<◌, IfSome};
 
 use shake256::shake256;
-use std::alloc::{AllocError, Global};
 use std::io::Read;
 use std::rt::Files;
 use std::{fs, io};
@@ -13,57 +12,60 @@ use std::{fs, io};
 // What a line has past this is not read.
 const LONGEST_LINE: usize = 65_536;
 
+// What a file has past so many reads is not read: a proved loop has to end, and nothing says that a file does.
+const MOST_READS: usize = 1_000_000;
+
 // The longest output of a case.
 const LONGEST_OUTPUT: usize = 256;
 
 // The longest output that the bounds of the Monte Carlo test may allow.
 const LONGEST_BOUND: usize = 4_096;
 
-// The room for its digest.
-const LONGEST_DIGEST: usize = 65_536;
+// The room for a message, and for the digest of the Monte Carlo test.
+const ROOM: usize = 65_536;
 
 // A test whose file is read line by line.
 trait Test {
     // A line without its line feed. One that ends a case answers whether the case held.
-    fn line(&mut self, line: &[u8]) -> Result<Option<bool>, AllocError>;
+    fn line(&mut self, line: &[u8]) -> Option<bool>;
 }
 
 // A file of messages and outputs: [Outputlen = ..], Len, Msg, Output; or [Input Length = ..], Outputlen, Msg, Output. With
 // Len = 0 the file writes Msg = 00. Lengths in bytes; one that is too large to be read counts as 0.
 #[derive(Drop)]
 struct Cases {
+    // the length of the message that the file states, and of the one that stands there
     stated: usize,
-    message: Vec<u8>,
+    given: usize,
+    message: [u8; ROOM],
     output: usize,
 }
 
 impl Cases {
-    fn new(alloc: Global) -> Self {
+    fn new() -> Self {
         Cases {
             stated: 0,
-            message: Vec::new(alloc),
+            given: 0,
+            message: [0; ROOM],
             output: 0,
         }
     }
 
     // Whether SHAKE256 of the message gives the bytes that digits stand for.
-    fn holds(&self, digits: &[u8]) -> Result<bool, AllocError> {
-        let message = match self.stated {
-            0 => b"",
-            _ => self.message.as_slice(),
-        };
-        if message.len() != self.stated || LONGEST_OUTPUT < self.output {
-            return Ok(false);
+    fn holds(&self, digits: &[u8]) -> bool {
+        let given = if 0 < self.stated { self.given } else { 0 };
+        if given != self.stated || ROOM < given || LONGEST_OUTPUT < self.output {
+            return false;
         }
         let mut output = [0; LONGEST_OUTPUT];
         let output = &mut output[..self.output];
-        shake256(message, output);
-        stands_for(*self.message.allocator(), digits, output)
+        shake256(&self.message[..given], output);
+        stands_for(digits, output)
     }
 }
 
 impl Test for Cases {
-    fn line(&mut self, line: &[u8]) -> Result<Option<bool>, AllocError> {
+    fn line(&mut self, line: &[u8]) -> Option<bool> {
         if let Some(text) = line.strip_prefix(b"Len = ") {
             self.stated = bytes(text).unwrap_or(0);
         } else if let Some(text) = line.strip_prefix(b"[Input Length = ") {
@@ -73,11 +75,11 @@ impl Test for Cases {
         } else if let Some(text) = line.strip_prefix(b"[Outputlen = ") {
             self.output = bytes(text).unwrap_or(0);
         } else if let Some(digits) = line.strip_prefix(b"Msg = ") {
-            self.message = decoded(*self.message.allocator(), digits)?;
+            self.given = decode(digits, &mut self.message);
         } else if let Some(digits) = line.strip_prefix(b"Output = ") {
-            return Ok(Some(self.holds(digits)?));
+            return Some(self.holds(digits));
         }
-        Ok(None)
+        None
     }
 }
 
@@ -87,7 +89,7 @@ impl Test for Cases {
 struct MonteCarlo {
     least: usize,
     most: usize,
-    digest: Vec<u8>,
+    digest: [u8; ROOM],
     // the length of the last output, of the next one, and of the one that the file states
     last: usize,
     next: usize,
@@ -95,15 +97,15 @@ struct MonteCarlo {
 }
 
 impl MonteCarlo {
-    fn new(alloc: Global) -> Result<Self, AllocError> {
-        Ok(MonteCarlo {
+    fn new() -> Self {
+        MonteCarlo {
             least: 0,
             most: 0,
-            digest: vec![in alloc; 0; LONGEST_DIGEST]?,
+            digest: [0; ROOM],
             last: 0,
             next: 0,
             output: 0,
-        })
+        }
     }
 
     // One turn: the digest becomes SHAKE256 of its leftmost 128 bits, and its rightmost 16 bits set the length of the next one.
@@ -125,35 +127,32 @@ impl MonteCarlo {
     }
 
     // Whether the last output has the length stated and the bytes that digits stand for.
-    fn holds(&self, digits: &[u8]) -> Result<bool, AllocError> {
+    fn holds(&self, digits: &[u8]) -> bool {
         if self.last != self.output || self.digest.len() < self.last {
-            return Ok(false);
+            return false;
         }
-        stands_for(*self.digest.allocator(), digits, &self.digest[..self.last])
+        stands_for(digits, &self.digest[..self.last])
     }
 }
 
 impl Test for MonteCarlo {
-    fn line(&mut self, line: &[u8]) -> Result<Option<bool>, AllocError> {
+    fn line(&mut self, line: &[u8]) -> Option<bool> {
         if let Some(text) = line.strip_prefix(b"[Minimum Output Length (bits) = ") {
             self.least = bytes(text).unwrap_or(0);
         } else if let Some(text) = line.strip_prefix(b"[Maximum Output Length (bits) = ") {
             self.most = bytes(text).unwrap_or(0);
             self.next = self.most;
         } else if let Some(digits) = line.strip_prefix(b"Msg = ") {
-            let seed = decoded(*self.digest.allocator(), digits)?;
-            for (d, b) in self.digest.iter_mut().zip(seed) {
-                *d = b;
-            }
+            decode(digits, &mut self.digest);
         } else if let Some(text) = line.strip_prefix(b"Outputlen = ") {
             self.output = bytes(text).unwrap_or(0);
         } else if let Some(digits) = line.strip_prefix(b"Output = ") {
             for _ in 0..1000 {
                 self.turn();
             }
-            return Ok(Some(self.holds(digits)?));
+            return Some(self.holds(digits));
         }
-        Ok(None)
+        None
     }
 }
 
@@ -199,47 +198,83 @@ fn byte(digits: &[u8]) -> Option<u8> {
     Some(nibble(*high)? * 16 + nibble(*low)?)
 }
 
-// The bytes that the hex digits at the front of a text make.
-fn decoded(alloc: Global, digits: &[u8]) -> Result<Vec<u8>, AllocError> {
-    digits.chunks(2).map_while(byte).collect(alloc)
+// The bytes that the hex digits at the front of a text make go to the front of out, as far as it has room; answers how many.
+fn decode(digits: &[u8], out: &mut [u8]) -> usize {
+    let mut n: usize = 0;
+    for (place, b) in out.iter_mut().zip(digits.chunks(2).map_while(byte)) {
+        *place = b;
+        n = n.wrapping_add(1);
+    }
+    n
 }
 
 // Whether these bytes, and no more, are what the hex digits at the front of a text make.
-fn stands_for(alloc: Global, digits: &[u8], bytes: &[u8]) -> Result<bool, AllocError> {
-    Ok(decoded(alloc, digits)?.as_slice() == bytes)
+fn stands_for(digits: &[u8], bytes: &[u8]) -> bool {
+    digits.chunks(2).map_while(byte).eq(bytes.iter().copied())
 }
 
-// Reads a file line by line, and writes how many of its cases held. A file that cannot be opened is named on standard error.
-fn run<R: AllocGlobal + Files + Print + Eprint, T: Test + Drop>(
-    rt: &R,
-    name: &str,
-    mut test: T,
-) -> io::Result<()> {
+// The line at hand, and how many cases held.
+#[derive(Drop)]
+struct Lines {
+    line: [u8; LONGEST_LINE],
+    length: usize,
+    passed: u64,
+    failed: u64,
+}
+
+impl Lines {
+    fn new() -> Self {
+        Lines {
+            line: [0; LONGEST_LINE],
+            length: 0,
+            passed: 0,
+            failed: 0,
+        }
+    }
+
+    // The next byte of the file: a line feed ends the line.
+    fn byte<T: Test>(&mut self, b: u8, test: &mut T) {
+        if b != b'\n' {
+            if self.length < LONGEST_LINE {
+                self.line[self.length] = b;
+                self.length += 1;
+            }
+            return;
+        }
+        let held = test.line(&self.line[..self.length.min(LONGEST_LINE)]);
+        self.length = 0;
+        match held {
+            Some(true) => self.passed = self.passed.wrapping_add(1),
+            Some(false) => self.failed = self.failed.wrapping_add(1),
+            None => {}
+        }
+    }
+}
+
+// Reads a file piece by piece, and writes how many of its cases held. A file that cannot be opened is named on standard error.
+fn run<T: Test>(rt: &(impl Files + Print + Eprint), name: &str, test: &mut T) -> io::Result<()> {
     let mut file = match fs::open(rt, name) {
         Ok(opened) => opened,
         Err(e) => return eprintln!(rt; "{name}: {e}"),
     };
-    let mut text = Vec::new(rt.alloc());
-    file.read_to_end(&mut text)?;
-    let mut passed: u64 = 0;
-    let mut failed: u64 = 0;
-    for line in text.as_slice().split_inclusive(|b| *b == b'\n') {
-        let Some(line) = line.strip_suffix(b"\n") else {
+    let mut lines = Lines::new();
+    for _ in 0..MOST_READS {
+        let mut piece = [0; 4096];
+        let n = file.read(&mut piece)?;
+        if n == 0 {
             break;
-        };
-        match test.line(&line[..line.len().min(LONGEST_LINE)])? {
-            Some(true) => passed = passed.wrapping_add(1),
-            Some(false) => failed = failed.wrapping_add(1),
-            None => {}
+        }
+        for b in &piece[..n] {
+            lines.byte(*b, test);
         }
     }
+    let Lines { passed, failed, .. } = lines;
     println!(rt; "{name}: {passed} passed, {failed} failed")
 }
 
 fn main(rt: HostRuntime) -> io::Result<()> {
-    let alloc = rt.alloc();
-    run(&rt, "SHAKE256ShortMsg.rsp", Cases::new(alloc))?;
-    run(&rt, "SHAKE256LongMsg.rsp", Cases::new(alloc))?;
-    run(&rt, "SHAKE256VariableOut.rsp", Cases::new(alloc))?;
-    run(&rt, "SHAKE256Monte.rsp", MonteCarlo::new(alloc)?)
+    run(&rt, "SHAKE256ShortMsg.rsp", &mut Cases::new())?;
+    run(&rt, "SHAKE256LongMsg.rsp", &mut Cases::new())?;
+    run(&rt, "SHAKE256VariableOut.rsp", &mut Cases::new())?;
+    run(&rt, "SHAKE256Monte.rsp", &mut MonteCarlo::new())
 }
