@@ -69,6 +69,20 @@ impl FieldTables {
         }
     }
 
+    // The tables that a caller holds as an array.
+    pub fn from_entries(entries: [u8; 512]) -> Self
+        requires { entries ≡ field_tables }
+    {
+        FieldTables { entries }
+    }
+
+    // The tables as an array.
+    pub fn entries(&self) -> &[u8; 512]
+        ensures { result.now ≡ field_tables }
+    {
+        &self.entries
+    }
+
     // 03 to the i.
     pub fn power_of(&self, i: usize) -> u8
         requires { i < 256 }

@@ -2,7 +2,7 @@
 #![tactic(auto)]
 
 ghost use Rattle.std.specs.Prelude.{◌≡◌};
-ghost use Rattle.prover_phase.specs.Phases.{prover_phase_byte, prover_phase_from};
+ghost use Rattle.prover_phase.specs.Phases.{is_fresh, prover_phase_byte, prover_phase_from};
 
 // Which call is due. Begin is due always.
 #[derive(Clone, Copy, Debug, PartialEq, Eq)]
@@ -15,6 +15,15 @@ pub enum Phase {
     Answered,
     // message 5 was given: only begin is due
     Closed,
+}
+
+impl Phase {
+    // Was begin never carried out?
+    pub fn is_fresh(self) -> bool
+        ensures { result ≡ is_fresh self }
+    {
+        matches!(self, Phase::Fresh)
+    }
 }
 
 // The phase that a byte stands for; a byte that stands for none reads as closed.
