@@ -1,9 +1,11 @@
 // The checks of the calls, in document 01's order.
-ghost use Rattle.std.specs.Prelude.{◌≡◌, Ok, replicate};
+ghost use Rattle.std.specs.Prelude.{◌≡◌, List, ℕ, Ok, replicate};
 ghost use Rattle.shake256.specs.Fips.{SHAKE256};
 ghost use Rattle.relation.specs.Key.{vector_of};
 ghost use Rattle.exchange.specs.Values.{key_of};
 ghost use Rattle.calls.specs.Prover as spec;
+ghost use Rattle.calls.specs.Prover.{Prover as Session};
+ghost use Rattle.prover.specs.Arguments.{lengths_of};
 ghost use Rattle.prover.specs.Held.{held};
 
 use crate::Prover;
@@ -15,46 +17,41 @@ use layout::runs::{leaves_below, within};
 use parameters::Parameters;
 use prover_phase::Phase;
 
+// The checks of begin, where `again` says that salt and root are those of the exchange held. Where they pass, x, which came as
+// 255 zeros, has the key's vector at its front.
+pub(crate) fn begin_checks(
+    p: Parameters,
+    runs: usize,
+    x_a: &[u8],
+    matrix: &[u8],
+    y: &[u8],
+    others: Lengths,
+    again: bool,
+    x: &mut [u8],
+) -> Answer
+    requires { x.old ≡ replicate 255 0 }
+    ensures value { (s : Session) (salt root work out : List ℕ) → others ≡ lengths_of salt root work out → again ≡ spec.repeated s salt root
+        → result ≡ spec.begin_checks SHAKE256 s p runs x_a.now salt root (key_of matrix.now y.now) work out }
+    ensures vector { result ≡ Ok tt → x.new ≡ spec.padded 255 (vector_of matrix.now y.now x_a.now) }
+{
+    require(within(p, runs), Refusal::Parameter)?;
+    require(
+        begin_lengths(p, runs, x_a.len(), matrix.len(), y.len(), others),
+        Refusal::Length,
+    )?;
+    require(weigh(p, x_a, matrix, y, x), Refusal::Weight)?;
+    require(!again, Refusal::Repeated)
+}
+
 impl Prover {
     // Are salt and root both those of the exchange held, open or closed?
-    fn repeated(&self, salt: &[u8], root: &[u8]) -> bool
+    pub(crate) fn repeated(&self, salt: &[u8], root: &[u8]) -> bool
         ensures { result ≡ spec.repeated (held self.now) salt.now root.now }
     {
-        !self.is_fresh() && lists::equal(salt, &self.salt) && lists::equal(root, &self.root)
-    }
-
-    // The checks of begin. Where they pass, x, which came as 255 zeros, has the key's vector at its front.
-    pub(crate) fn begin_checks(
-        &self,
-        p: Parameters,
-        runs: usize,
-        x_a: &[u8],
-        salt: &[u8],
-        root: &[u8],
-        matrix: &[u8],
-        y: &[u8],
-        work: &[u8],
-        out: &[u8],
-        x: &mut [u8],
-    ) -> Answer
-        requires { x.old ≡ replicate 255 0 }
-        ensures value { result ≡ spec.begin_checks SHAKE256 (held self.now) p runs x_a.now salt.now root.now
-            (key_of matrix.now y.now) work.now out.now }
-        ensures vector { result ≡ Ok tt → x.new ≡ spec.padded 255 (vector_of matrix.now y.now x_a.now) }
-    {
-        let others = Lengths {
-            salt: salt.len(),
-            root: root.len(),
-            work: work.len(),
-            out: out.len(),
-        };
-        require(within(p, runs), Refusal::Parameter)?;
-        require(
-            begin_lengths(p, runs, x_a.len(), matrix.len(), y.len(), others),
-            Refusal::Length,
-        )?;
-        require(weigh(p, x_a, matrix, y, x), Refusal::Weight)?;
-        require(!self.repeated(salt, root), Refusal::Repeated)
+        // Copies, so that the session itself need not lie on the stack while begin makes message 1.
+        let held_salt = self.salt;
+        let held_root = self.root;
+        !self.is_fresh() && lists::equal(salt, &held_salt) && lists::equal(root, &held_root)
     }
 
     // The checks of points.

@@ -13,6 +13,8 @@ ghost use Rattle.exchange.specs.Values.{key_of};
 ghost use Rattle.calls.specs.Prover as spec;
 ghost use Rattle.prover.specs.Held.{held, given};
 
+use crate::arguments::Lengths;
+use crate::checks::begin_checks;
 use answers::Answer;
 use layout::MOST_MESSAGES2;
 use layout::runs::messages2_length;
@@ -72,9 +74,16 @@ impl Prover {
         ensures { given result self.new out.new work.new ≡ spec.begin SHAKE256 (held self.old) p runs x_a.now salt.now
             root.now (key_of matrix.now y.now) work.old out.old }
     {
+        let again = self.repeated(salt, root);
+        let others = Lengths {
+            salt: salt.len(),
+            root: root.len(),
+            work: work.len(),
+            out: out.len(),
+        };
         let mut x = [0u8; 255];
-        self.begin_checks(p, runs, x_a, salt, root, matrix, y, work, out, &mut x)?;
-        on_begin::begun(self, p, runs, &x, salt, root, work, out);
+        begin_checks(p, runs, x_a, matrix, y, others, again, &mut x)?;
+        *self = on_begin::begun(p, runs, x, salt, root, work, out);
         Ok(())
     }
 
