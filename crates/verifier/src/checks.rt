@@ -48,8 +48,10 @@ impl Verifier {
     fn intact(&self) -> bool
         ensures { result ≡ spec.intact (held self.now) }
     {
+        // A copy, so that the session itself need not lie on the stack while a small call is carried out.
+        let leaves = self.leaves;
         let p = self.parameters;
-        within(p, self.runs) && leaves_below(p, &self.leaves[..self.runs])
+        within(p, self.runs) && leaves_below(p, &leaves[..self.runs])
     }
 
     // The phase that counts: a session that is not fresh and not intact counts as closed.

@@ -95,7 +95,9 @@ impl Verifier {
         ensures { given result self.new ≡ spec.leaf (held self.old) leaves.now }
     {
         self.leaf_checks(leaves)?;
-        put_at(&mut self.leaves, 0, leaves);
+        let mut chosen = self.leaves;
+        put_at(&mut chosen, 0, leaves);
+        self.leaves = chosen;
         self.phase = Phase::Chosen;
         Ok(())
     }

@@ -1,5 +1,5 @@
 -- Parameters or a run count outside their limits and a leaf that is not below n each decide.
-use Rattle.std.proofs.Common.{arith, sym, true, ◌∙◌, ◌≡◌, ◌&&◌}
+use Rattle.std.proofs.Common.{arith, length, length-take-le, sym, true, ◌∙◌, ◌≡◌, ◌&&◌, ◌≤◌}
 use Rattle.lists.specs.Checks.Laws.{and_left, and_right}
 use Rattle.parameters.specs.Limits.{within_limits}
 use Rattle.parameters.specs.Limits.Laws.{test-within}
@@ -10,8 +10,14 @@ use Rattle.verifier.specs.Held.{held}
 use Rattle.verifier.specs.Laws.{intact-then, intact-else}
 use Rattle.verifier.proofs.Verifier.intact.Goals as goal
 
-pub shared_ref_as_front-leaves_below : goal.shared_ref_as_front-leaves_below
-shared_ref_as_front-leaves_below c =
+pub slice_bounds-leaves_below-end : goal.slice_bounds-leaves_below-end
+slice_bounds-leaves_below-end c =
+    let s = c.args.self.now in
+    let h = runs-within s.runs (and_right (within_limits s.parameters) _ (sym c.within.ensures ∙ c.if-within.true)) in
+    let fits : s.runs ≤ length s.leaves = omega (arith, h) in sym (length-take-le _ _ fits)
+
+pub slice_bounds-leaves-end : goal.slice_bounds-leaves-end
+slice_bounds-leaves-end c =
     let s = c.args.self.now in
     let h = runs-within s.runs (and_right (within_limits s.parameters) _ (sym c.within.ensures ∙ c.if-within.true)) in omega (arith, h)
 
