@@ -105,12 +105,12 @@ module _ (p : Parameters) (runs : ℕ) (t t' : Transcript) (key : Key) (work out
       ∙ exchange-in p t' e (omega (arith, reaches1 e l, ap length known.message1)) (omega (arith, reaches2 e l, ap length known.message2))
       (omega (arith, reaches3 e l, ap length known.message3))
 
-  checked-at : (e : ℕ) (w : List ℕ) (r : Result Judgement Refusal) (w' o : List ℕ) → e < runs
+  pub checked-at : (e : ℕ) (w : List ℕ) (r : Result Judgement Refusal) (w' o : List ℕ) → e < runs
       → RunChecked (pair_at p t.leaves t'.leaves e) (stated e) t.message5 t'.message5 key w r w' o
       → Checked p key (exchange_at p t e) (exchange_at p t' e) w r w' o
   checked-at e w r w' o l h = subst₂ (λ (x y : Exchange). Checked p key x y w r w' o) (first-is e l) (second_is e l) h
 
-  asked-at : (e : ℕ) (w o : List ℕ) → e < runs → length w ≡ length work → length o ≡ most_openings
+  pub asked-at : (e : ℕ) (w o : List ℕ) → e < runs → length w ≡ length work → length o ≡ most_openings
       → RunAsked (pair_at p t.leaves t'.leaves e) (stated e) t.message5 t'.message5 key.matrix key.y w o
   asked-at e w o l q room = record {
     compared = record {
