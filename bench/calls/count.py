@@ -1,15 +1,18 @@
-"""count.py SET CALL FILE: reads what callgrind wrote and prints a line 'instructions', set, call, all instructions, those of
-the permutation, and how often it was called, parted by tabs."""
+"""count.py SET CALL FILE: reads what callgrind wrote, instruction by instruction, and prints a line 'instructions', set, call, all
+instructions, those of the permutation, and how often it was made, parted by tabs."""
+import collections
 import re
 import sys
 
-PERMUTATION = re.compile(r"keccak::permute|shake256::permute_lanes")
+# The permutation, or the function that it is inlined into.
+PERMUTATION = re.compile(r"keccak::permute|shake256::permute_lanes|shake256::Sponge::make_ready")
+ROUNDS = 24
 
 
 def read(path):
-    """All instructions, those of each function without those that it calls, and how often each was called."""
-    names, own, calls = {}, {}, {}
-    total, current, called, inclusive = 0, None, None, False
+    """All instructions, and of each function how often each of its own was executed."""
+    names, own = {}, {}
+    total, current, inclusive = 0, None, False
 
     def name(word):
         number, _, text = word.partition(" ")
@@ -22,18 +25,23 @@ def read(path):
         elif line.startswith("fn="):
             current = name(line[3:])
         elif line.startswith("cfn="):
-            called = name(line[4:])
+            name(line[4:])
         elif line.startswith("calls="):
-            calls[called] = calls.get(called, 0) + int(line[6:].split()[0])
             inclusive = True
-        elif re.match(r"[-+*\d]\S* \d+$", line):
+        elif re.match(r"0x[0-9a-f]+ \d+$", line):
             if not inclusive:
-                own[current] = own.get(current, 0) + int(line.split()[1])
+                address, count = line.split()
+                of = own.setdefault(current, collections.Counter())
+                of[address] += int(count)
             inclusive = False
-    return total, own, calls
+    return total, own
 
 
-total, own, calls = read(sys.argv[3])
-inside = sum(count for function, count in own.items() if PERMUTATION.search(function))
-times = max(count for function, count in calls.items() if PERMUTATION.search(function))
-print("instructions", sys.argv[1], sys.argv[2], total, inside, times, sep="\t")
+total, own = read(sys.argv[3])
+permutation = collections.Counter()
+for function, counts in own.items():
+    if PERMUTATION.search(function):
+        permutation.update(counts)
+# Most instructions of the permutation stand in its round, which the loop makes 24 times.
+[(of_round, _)] = collections.Counter(permutation.values()).most_common(1)
+print("instructions", sys.argv[1], sys.argv[2], total, sum(permutation.values()), of_round // ROUNDS, sep="\t")
