@@ -26,18 +26,17 @@ const ROOM: usize = 65_536;
 
 // A test whose file is read line by line.
 trait Test {
-    // A line without its line feed. One that ends a case answers whether the case held.
-    fn line(&mut self, line: &[u8]) -> Option<bool>;
+    // A line without its line feed; room stays the same from line to line. One that ends a case answers whether the case held.
+    fn line(&mut self, line: &[u8], room: &mut [u8; ROOM]) -> Option<bool>;
 }
 
-// A file of messages and outputs: [Outputlen = ..], Len, Msg, Output; or [Input Length = ..], Outputlen, Msg, Output. With
+// A file of messages, which lie in the room, and outputs: [Outputlen = ..], Len, Msg, Output; or [Input Length = ..], Outputlen, Msg, Output. With
 // Len = 0 the file writes Msg = 00. Lengths in bytes; one that is too large to be read counts as 0.
 #[derive(Drop)]
 struct Cases {
     // the length of the message that the file states, and of the one that stands there
     stated: usize,
     given: usize,
-    message: [u8; ROOM],
     output: usize,
 }
 
@@ -46,26 +45,25 @@ impl Cases {
         Cases {
             stated: 0,
             given: 0,
-            message: [0; ROOM],
             output: 0,
         }
     }
 
     // Whether SHAKE256 of the message gives the bytes that digits stand for.
-    fn holds(&self, digits: &[u8]) -> bool {
+    fn holds(&self, digits: &[u8], message: &[u8; ROOM]) -> bool {
         let given = if 0 < self.stated { self.given } else { 0 };
         if given != self.stated || ROOM < given || LONGEST_OUTPUT < self.output {
             return false;
         }
         let mut output = [0; LONGEST_OUTPUT];
         let output = &mut output[..self.output];
-        shake256(&self.message[..given], output);
+        shake256(&message[..given], output);
         stands_for(digits, output)
     }
 }
 
 impl Test for Cases {
-    fn line(&mut self, line: &[u8]) -> Option<bool> {
+    fn line(&mut self, line: &[u8], room: &mut [u8; ROOM]) -> Option<bool> {
         if let Some(text) = line.strip_prefix(b"Len = ") {
             self.stated = bytes(text).unwrap_or(0);
         } else if let Some(text) = line.strip_prefix(b"[Input Length = ") {
@@ -75,21 +73,20 @@ impl Test for Cases {
         } else if let Some(text) = line.strip_prefix(b"[Outputlen = ") {
             self.output = bytes(text).unwrap_or(0);
         } else if let Some(digits) = line.strip_prefix(b"Msg = ") {
-            self.given = decode(digits, &mut self.message);
+            self.given = decode(digits, room);
         } else if let Some(digits) = line.strip_prefix(b"Output = ") {
-            return Some(self.holds(digits));
+            return Some(self.holds(digits, room));
         }
         None
     }
 }
 
 // The Monte Carlo file (SHA3VS, 6.3.3): the bounds of the output's length, Msg (the seed), and Outputlen and Output after
-// each 1,000 turns. The digest is zero past the end of the last output.
+// each 1,000 turns. The digest lies in the room, which is zero past the end of the last output.
 #[derive(Drop)]
 struct MonteCarlo {
     least: usize,
     most: usize,
-    digest: [u8; ROOM],
     // the length of the last output, of the next one, and of the one that the file states
     last: usize,
     next: usize,
@@ -101,7 +98,6 @@ impl MonteCarlo {
         MonteCarlo {
             least: 0,
             most: 0,
-            digest: [0; ROOM],
             last: 0,
             next: 0,
             output: 0,
@@ -109,48 +105,48 @@ impl MonteCarlo {
     }
 
     // One turn: the digest becomes SHAKE256 of its leftmost 128 bits, and its rightmost 16 bits set the length of the next one.
-    fn turn(&mut self) {
+    fn turn(&mut self, digest: &mut [u8; ROOM]) {
         let n = self.next;
         self.last = n;
-        if n < 2 || self.digest.len() < n || self.most < self.least {
+        if n < 2 || ROOM < n || self.most < self.least {
             return;
         }
         let mut seed = [0; 16];
-        for (s, b) in seed.iter_mut().zip(self.digest.iter()) {
+        for (s, b) in seed.iter_mut().zip(digest.iter()) {
             *s = *b;
         }
-        self.digest.fill(0);
-        let output = &mut self.digest[..n];
+        digest.fill(0);
+        let output = &mut digest[..n];
         shake256(&seed, output);
         let bits = u16::from_be_bytes([output[n - 2], output[n - 1]]);
         self.next = next_length(usize::from(bits), self.least, self.most).unwrap_or(0);
     }
 
     // Whether the last output has the length stated and the bytes that digits stand for.
-    fn holds(&self, digits: &[u8]) -> bool {
-        if self.last != self.output || self.digest.len() < self.last {
+    fn holds(&self, digits: &[u8], digest: &[u8; ROOM]) -> bool {
+        if self.last != self.output || ROOM < self.last {
             return false;
         }
-        stands_for(digits, &self.digest[..self.last])
+        stands_for(digits, &digest[..self.last])
     }
 }
 
 impl Test for MonteCarlo {
-    fn line(&mut self, line: &[u8]) -> Option<bool> {
+    fn line(&mut self, line: &[u8], room: &mut [u8; ROOM]) -> Option<bool> {
         if let Some(text) = line.strip_prefix(b"[Minimum Output Length (bits) = ") {
             self.least = bytes(text).unwrap_or(0);
         } else if let Some(text) = line.strip_prefix(b"[Maximum Output Length (bits) = ") {
             self.most = bytes(text).unwrap_or(0);
             self.next = self.most;
         } else if let Some(digits) = line.strip_prefix(b"Msg = ") {
-            decode(digits, &mut self.digest);
+            decode(digits, room);
         } else if let Some(text) = line.strip_prefix(b"Outputlen = ") {
             self.output = bytes(text).unwrap_or(0);
         } else if let Some(digits) = line.strip_prefix(b"Output = ") {
             for _ in 0..1000 {
-                self.turn();
+                self.turn(room);
             }
-            return Some(self.holds(digits));
+            return Some(self.holds(digits, room));
         }
         None
     }
@@ -213,51 +209,22 @@ fn stands_for(digits: &[u8], bytes: &[u8]) -> bool {
     digits.chunks(2).map_while(byte).eq(bytes.iter().copied())
 }
 
-// The line at hand, and how many cases held.
-#[derive(Drop)]
-struct Lines {
-    line: [u8; LONGEST_LINE],
-    length: usize,
-    passed: u64,
-    failed: u64,
-}
-
-impl Lines {
-    fn new() -> Self {
-        Lines {
-            line: [0; LONGEST_LINE],
-            length: 0,
-            passed: 0,
-            failed: 0,
-        }
-    }
-
-    // The next byte of the file: a line feed ends the line.
-    fn byte<T: Test>(&mut self, b: u8, test: &mut T) {
-        if b != b'\n' {
-            if self.length < LONGEST_LINE {
-                self.line[self.length] = b;
-                self.length += 1;
-            }
-            return;
-        }
-        let held = test.line(&self.line[..self.length.min(LONGEST_LINE)]);
-        self.length = 0;
-        match held {
-            Some(true) => self.passed = self.passed.wrapping_add(1),
-            Some(false) => self.failed = self.failed.wrapping_add(1),
-            None => {}
-        }
-    }
-}
-
 // Reads a file piece by piece, and writes how many of its cases held. A file that cannot be opened is named on standard error.
-fn run<T: Test>(rt: &(impl Files + Print + Eprint), name: &str, test: &mut T) -> io::Result<()> {
+fn run<T: Test + Drop>(
+    rt: &(impl Files + Print + Eprint),
+    name: &str,
+    mut test: T,
+    line: &mut [u8; LONGEST_LINE],
+    room: &mut [u8; ROOM],
+) -> io::Result<()> {
     let mut file = match fs::open(rt, name) {
         Ok(opened) => opened,
         Err(e) => return eprintln!(rt; "{name}: {e}"),
     };
-    let mut lines = Lines::new();
+    room.fill(0);
+    let mut length: usize = 0;
+    let mut passed: u64 = 0;
+    let mut failed: u64 = 0;
     for _ in 0..MOST_READS {
         let mut piece = [0; 4096];
         let n = file.read(&mut piece)?;
@@ -265,16 +232,55 @@ fn run<T: Test>(rt: &(impl Files + Print + Eprint), name: &str, test: &mut T) ->
             break;
         }
         for b in &piece[..n] {
-            lines.byte(*b, test);
+            if *b != b'\n' {
+                if length < LONGEST_LINE {
+                    line[length] = *b;
+                    length += 1;
+                }
+                continue;
+            }
+            let held = test.line(&line[..length.min(LONGEST_LINE)], room);
+            length = 0;
+            match held {
+                Some(true) => passed = passed.wrapping_add(1),
+                Some(false) => failed = failed.wrapping_add(1),
+                None => {}
+            }
         }
     }
-    let Lines { passed, failed, .. } = lines;
     println!(rt; "{name}: {passed} passed, {failed} failed")
 }
 
+// Line and room are made once: they are what the program needs of the stack.
 fn main(rt: HostRuntime) -> io::Result<()> {
-    run(&rt, "SHAKE256ShortMsg.rsp", &mut Cases::new())?;
-    run(&rt, "SHAKE256LongMsg.rsp", &mut Cases::new())?;
-    run(&rt, "SHAKE256VariableOut.rsp", &mut Cases::new())?;
-    run(&rt, "SHAKE256Monte.rsp", &mut MonteCarlo::new())
+    let mut line = [0; LONGEST_LINE];
+    let mut room = [0; ROOM];
+    run(
+        &rt,
+        "SHAKE256ShortMsg.rsp",
+        Cases::new(),
+        &mut line,
+        &mut room,
+    )?;
+    run(
+        &rt,
+        "SHAKE256LongMsg.rsp",
+        Cases::new(),
+        &mut line,
+        &mut room,
+    )?;
+    run(
+        &rt,
+        "SHAKE256VariableOut.rsp",
+        Cases::new(),
+        &mut line,
+        &mut room,
+    )?;
+    run(
+        &rt,
+        "SHAKE256Monte.rsp",
+        MonteCarlo::new(),
+        &mut line,
+        &mut room,
+    )
 }
